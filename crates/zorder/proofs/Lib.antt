@@ -1,0 +1,6 @@
+-- What the proofs of several functions use.
+pub mod Bits
+pub mod Digits
+pub mod Fill
+pub mod Row
+pub mod Checks

@@ -1,0 +1,98 @@
+// The region of two addresses: a square, by its two corners and its side.
+use crate::BITS;
+use crate::COSTS;
+use crate::RegionAnswer;
+use crate::Verdict;
+use crate::interleave::count_bad;
+use crate::separate::separated;
+use crate::separate::too_large;
+ghost use mathlib.Core.Path.{_≡_};
+ghost use mathlib.Core.List.{map};
+ghost use Prim.Native.Nat.{_≤_, _<_, _*_, _^_};
+ghost use lib.ListN.{take, drop};
+ghost use Rattle.zorder.specs.Address.{padded};
+ghost use Rattle.zorder.specs.Region as definition;
+ghost use Rattle.zorder.specs.Promise.{RegionPromise, RefusedRegion};
+
+// How many groups of the two addresses are not kept.
+fn unkept(d: usize, a: u64, b: u64) -> usize
+    requires { ⌜ (1 ≤ d) × (d ≤ 4) × (a < 2 ^ (16 * d)) × (b < 2 ^ (16 * d)) ⌝ }
+    ensures { λ r. ⌜ (r ≡ definition.unkept d a b) × (r ≤ 16) ⌝ }
+{
+    let zeros = u64::leading_zeros(a ^ b) as usize;
+    BITS - (zeros - (64 - BITS * d)) / d
+}
+
+// A cost with its last u bits filled with 0.
+fn zeros_below(u: usize, c: u16) -> u16
+    requires { ⌜ u ≤ 16 ⌝ }
+    ensures { λ r. ⌜ r ≡ definition.zerosBelow 1 u c ⌝ }
+{
+    (((c as u32) >> u) << u) as u16
+}
+
+// The first d costs with their last u bits filled with 0: the near corner of a region that does not keep u groups.
+pub(crate) fn near(d: usize, u: usize, costs: [u16; COSTS]) -> [u16; COSTS]
+    requires { ⌜ (d ≤ 4) × (u ≤ 16) ⌝ }
+    ensures { λ r. ⌜ r ≡ padded d (map (definition.zerosBelow 1 u) (take d costs)) ⌝ }
+{
+    let mut corner = [0u16; COSTS];
+    let mut i = 0;
+    while i < d {
+        corner[i] = zeros_below(u, costs[i]);
+        i += 1;
+    }
+    corner
+}
+
+// A cost with its last u bits filled with 1.
+fn ones_below(u: usize, c: u16) -> u16
+    requires { ⌜ u ≤ 16 ⌝ }
+    ensures { λ r. ⌜ r ≡ definition.onesBelow 1 u c ⌝ }
+{
+    zeros_below(u, c) + (((1u32 << u) - 1) as u16)
+}
+
+// The far corner likewise.
+pub(crate) fn far(d: usize, u: usize, costs: [u16; COSTS]) -> [u16; COSTS]
+    requires { ⌜ (d ≤ 4) × (u ≤ 16) ⌝ }
+    ensures { λ r. ⌜ r ≡ padded d (map (definition.onesBelow 1 u) (take d costs)) ⌝ }
+{
+    let mut corner = [0u16; COSTS];
+    let mut i = 0;
+    while i < d {
+        corner[i] = ones_below(u, costs[i]);
+        i += 1;
+    }
+    corner
+}
+
+fn refused(verdict: Verdict) -> RegionAnswer
+    ensures { λ r. ⌜ RefusedRegion verdict r ⌝ }
+{
+    RegionAnswer {
+        verdict,
+        near: [0u16; COSTS],
+        far: [0u16; COSTS],
+        side: 0,
+    }
+}
+
+pub fn region(d: usize, a: u64, b: u64) -> RegionAnswer
+    ensures { λ r. ⌜ RegionPromise d a b r ⌝ }
+{
+    if count_bad(d) {
+        return refused(Verdict::BadCostCount);
+    }
+    if too_large(d, a) || too_large(d, b) || b < a {
+        return refused(Verdict::BadArgument);
+    }
+    let u = unkept(d, a, b);
+    let costs = separated(d, a);
+    RegionAnswer {
+        verdict: Verdict::Accepted,
+        near: near(d, u, costs),
+        far: far(d, u, costs),
+        side: 1u32 << u,
+    }
+}

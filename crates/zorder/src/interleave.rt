@@ -1,0 +1,87 @@
+// From costs to their address.
+use crate::AddressAnswer;
+use crate::BITS;
+use crate::COSTS;
+use crate::Verdict;
+ghost use mathlib.Core.Path.{_≡_};
+ghost use Prim.Native.Nat.{_≤_, _<_};
+ghost use lib.ListN.{take, drop};
+ghost use Rattle.zorder.specs.Address as definition;
+ghost use Rattle.zorder.specs.Refusal.{allZero, costCountBad};
+ghost use Rattle.zorder.specs.Promise.{AddressPromise};
+
+fn wide(c: u16) -> u64
+    ensures { λ r. ⌜ r ≡ c ⌝ }
+{
+    c as u64
+}
+
+// The group for bit j of the first d costs.
+pub(crate) fn group(d: usize, costs: [u16; COSTS], j: usize) -> u64
+    requires { ⌜ (d ≤ 4) × (j < 16) ⌝ }
+    ensures { λ r. ⌜ r ≡ definition.group j (take d costs) ⌝ }
+{
+    let mut g: u64 = 0;
+    let mut i = 0;
+    while i < d {
+        g = (g << 1) | ((wide(costs[i]) >> j) & 1);
+        i += 1;
+    }
+    g
+}
+
+// The groups of the first d costs, highest first.
+fn interleaved(d: usize, costs: [u16; COSTS]) -> u64
+    requires { ⌜ d ≤ 4 ⌝ }
+    ensures { λ r. ⌜ r ≡ definition.address d costs ⌝ }
+{
+    let mut a: u64 = 0;
+    let mut j = BITS;
+    while 0 < j {
+        j -= 1;
+        a = (a << d) | group(d, costs, j);
+    }
+    a
+}
+
+// Whether the costs past d are zero.
+pub fn zero_past(d: usize, costs: [u16; COSTS]) -> bool
+    requires { ⌜ d ≤ 4 ⌝ }
+    ensures { λ r. ⌜ r ≡ allZero (drop d costs) ⌝ }
+{
+    let mut i = d;
+    while i < COSTS {
+        if costs[i] != 0 {
+            return false;
+        }
+        i += 1;
+    }
+    true
+}
+
+pub(crate) fn count_bad(d: usize) -> bool
+    ensures { λ r. ⌜ r ≡ costCountBad d ⌝ }
+{
+    d < 2 || COSTS < d
+}
+
+pub fn address(d: usize, costs: [u16; COSTS]) -> AddressAnswer
+    ensures { λ r. ⌜ AddressPromise d costs r ⌝ }
+{
+    if count_bad(d) {
+        return AddressAnswer {
+            verdict: Verdict::BadCostCount,
+            address: 0,
+        };
+    }
+    if zero_past(d, costs) {
+        return AddressAnswer {
+            verdict: Verdict::Accepted,
+            address: interleaved(d, costs),
+        };
+    }
+    AddressAnswer {
+        verdict: Verdict::BadArgument,
+        address: 0,
+    }
+}

@@ -1,0 +1,80 @@
+// From an address to its costs.
+use crate::BITS;
+use crate::COSTS;
+use crate::CostsAnswer;
+use crate::Verdict;
+use crate::interleave::count_bad;
+ghost use mathlib.Core.Path.{_≡_};
+ghost use Prim.Native.Nat.{_≤_, _<_, _+_, _*_, _^_};
+ghost use lib.ListN.{replicate};
+ghost use Rattle.zorder.specs.Address as definition;
+ghost use Rattle.zorder.specs.Refusal.{addressBad};
+ghost use Rattle.zorder.specs.Promise.{CostsPromise};
+
+// Bit `place` of an address.
+fn bit(a: u64, place: usize) -> u16
+    requires { ⌜ place < 64 ⌝ }
+    ensures { λ r. ⌜ (r ≡ definition.bit place a) × (r < 2) ⌝ }
+{
+    ((a >> place) & 1) as u16
+}
+
+// The cost whose bits stand at place e, counted from the right, of each group of d.
+fn cost_in(d: usize, a: u64, e: usize) -> u16
+    requires { ⌜ (e < d) × (d ≤ 4) ⌝ }
+    ensures { λ r. ⌜ r ≡ definition.costIn d e 16 a ⌝ }
+{
+    let mut c: u16 = 0;
+    let mut j = BITS;
+    while 0 < j {
+        j -= 1;
+        c = (c << 1) | bit(a, d * j + e);
+    }
+    c
+}
+
+// The d costs of an address, and zeros past them.
+pub(crate) fn separated(d: usize, a: u64) -> [u16; COSTS]
+    requires { ⌜ d ≤ 4 ⌝ }
+    ensures { λ r. ⌜ r ≡ definition.padded d (definition.costsOf d a) ⌝ }
+{
+    let mut costs = [0u16; COSTS];
+    let mut e = d;
+    while 0 < e {
+        e -= 1;
+        costs[d - 1 - e] = cost_in(d, a, e);
+    }
+    costs
+}
+
+// Whether a has a bit beyond the 16 groups of d. With four costs no word has.
+pub(crate) fn too_large(d: usize, a: u64) -> bool
+    requires { ⌜ d ≤ 4 ⌝ }
+    ensures { λ r. ⌜ r ≡ addressBad d a ⌝ }
+{
+    if d == COSTS {
+        return false;
+    }
+    (a >> (BITS * d)) != 0
+}
+
+pub fn costs(d: usize, address: u64) -> CostsAnswer
+    ensures { λ r. ⌜ CostsPromise d address r ⌝ }
+{
+    if count_bad(d) {
+        return CostsAnswer {
+            verdict: Verdict::BadCostCount,
+            costs: [0u16; COSTS],
+        };
+    }
+    if too_large(d, address) {
+        return CostsAnswer {
+            verdict: Verdict::BadArgument,
+            costs: [0u16; COSTS],
+        };
+    }
+    CostsAnswer {
+        verdict: Verdict::Accepted,
+        costs: separated(d, address),
+    }
+}
