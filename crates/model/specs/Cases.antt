@@ -1,0 +1,68 @@
+-- Document 01's worked board (d = 2) and its cases A to K: one table, checked by one theorem.
+use Prim.Native.Nat.{ℕ}
+use mathlib.Core.List.{List, [], _∷_, _++_, map, flatMap}
+use mathlib.Core.Path.{_≡_, refl}
+use Rattle.zorder.specs.Address.{address}
+use Rattle.zorder.specs.Between.{nearOf, farOf}
+use Rattle.model.specs.Moves.{Move, Row, inZOrder}
+use Rattle.model.specs.Lists.{skyline, band, rank, onK, chosen}
+use Rattle.model.specs.Computing.{computing}
+use Rattle.model.specs.Calls.{Board, Change, withdraw, changed, changeNotice}
+
+unfoldable pub move : ℕ → ℕ → ℕ → Move
+move n p q = record { number = n; costs = p ∷ q ∷ 0 ∷ 0 ∷ [] }
+
+unfoldable pub moves : List Move
+moves = move 0 1 6 ∷ move 1 3 7 ∷ move 2 2 2 ∷ move 3 5 1 ∷ move 4 6 2 ∷ move 5 2 2 ∷ []
+
+unfoldable pub worked : Board
+worked = record { size = 16; dimension = 2; moves = inZOrder 2 moves }
+
+-- A region by its corners, each as its first two costs.
+unfoldable pub corners : List ℕ → List ℕ → List ℕ
+corners p q = lib.ListN.take 2 (nearOf 2 p q) ++ lib.ListN.take 2 (farOf 2 p q)
+
+unfoldable pub numbers : List Move → List ℕ
+numbers ms = map (λ m. m .number) ms
+
+-- Each row by its mark and its number.
+unfoldable pub marks : List Row → List ℕ
+marks rs = flatMap (λ r. r .mark ∷ r .number ∷ []) rs
+
+-- The notices of changes made one after another.
+unfoldable pub notices : Board → List Change → List (List ℕ)
+notices b [] = []
+notices b (c ∷ cs) = marks (changeNotice b c) ∷ notices (changed b c) cs
+
+unfoldable pub told : List (List ℕ)
+told =
+    map (λ m. address 2 (m .costs)) moves
+    ∷ corners (2 ∷ 2 ∷ []) (1 ∷ 6 ∷ [])
+    ∷ corners (5 ∷ 1 ∷ []) (6 ∷ 2 ∷ [])
+    ∷ numbers (skyline 2 (worked .moves))
+    ∷ numbers (band 2 2 (worked .moves))
+    ∷ numbers (band 2 3 (worked .moves))
+    ∷ marks (rank 2 3 (worked .moves))
+    ∷ numbers (onK 2 1 (worked .moves))
+    ∷ numbers (chosen (0 ∷ []) (worked .moves))
+    ∷ notices worked (withdraw 2 ∷ withdraw 5 ∷ withdraw 3 ∷ [])
+
+unfoldable pub expected : List (List ℕ)
+expected =
+    (22 ∷ 31 ∷ 12 ∷ 35 ∷ 44 ∷ 12 ∷ [])
+    ∷ (0 ∷ 0 ∷ 7 ∷ 7 ∷ [])
+    ∷ (4 ∷ 0 ∷ 7 ∷ 3 ∷ [])
+    ∷ (2 ∷ 5 ∷ 0 ∷ 3 ∷ [])
+    ∷ (2 ∷ 5 ∷ 0 ∷ 3 ∷ [])
+    ∷ (2 ∷ 5 ∷ 0 ∷ 1 ∷ 3 ∷ 4 ∷ [])
+    ∷ (2 ∷ 2 ∷ 2 ∷ 5 ∷ 1 ∷ 0 ∷ [])
+    ∷ []
+    ∷ (0 ∷ [])
+    ∷ (1 ∷ 2 ∷ [])
+    ∷ (1 ∷ 5 ∷ [])
+    ∷ (1 ∷ 3 ∷ 2 ∷ 4 ∷ [])
+    ∷ []
+
+pub cases : told ≡ expected
+unfolding computing told expected moves move worked corners numbers marks notices
+cases = refl

@@ -1,0 +1,116 @@
+-- Computed examples of the tree's rules and of the notice, beside document 01's own cases (d = 2).
+use Prim.Native.Nat.{ℕ, zero, suc, _+_, _-_, _*_, _^_}
+use mathlib.Core.List.{List, [], _∷_, _++_, map, flatMap}
+use mathlib.Core.Path.{_≡_, refl}
+use lib.ListN.{length}
+use Rattle.model.specs.Basics.{numbersFrom}
+use Rattle.model.specs.Moves.{Move, inZOrder}
+use Rattle.model.specs.Tree.{Entry, Tree, empty, rooted}
+use Rattle.model.specs.Loading.{loadTree}
+use Rattle.model.specs.Entering.{enterTree}
+use Rattle.model.specs.Withdrawing.{enterAll, withdrawTree, recostTree}
+use Rattle.model.specs.Nodes.{nodesOpened}
+use Rattle.model.specs.Calls.{Board, withdraw, recost}
+use Rattle.model.specs.Computing.{computing}
+use Rattle.model.specs.Cases.{move, marks, notices}
+
+-- ---- how trees are written and shown
+
+-- A tree by its nodes: how many entries each holds, a parent before its children.
+shapeFrom : (h : ℕ) → List (Entry h) → List ℕ
+shapeFrom zero ms = length ms ∷ []
+shapeFrom (suc h) es = length es ∷ flatMap (shapeFrom h) es
+
+shape : Tree → List ℕ
+shape empty = []
+shape (rooted h es) = shapeFrom h es
+
+-- n moves from p on, move p with the costs p and 0. Numbers and Z-order agree, and a region is an aligned run of 1, 2, 4,
+-- 8, .. of the first cost.
+row : ℕ → ℕ → List Move
+row p n = map (λ q. move q q 0) (numbersFrom p n)
+
+-- An entry h levels up with three entries in each node, from move p on.
+threes : (h : ℕ) → ℕ → Entry h
+threes zero p = move p p 0
+threes (suc h) p = threes h p ∷ threes h (p + 3 ^ h) ∷ threes h (p + 2 * 3 ^ h) ∷ []
+
+showing : Unit {0}
+unfolding computing move marks notices shapeFrom shape row threes
+showing = tt
+
+-- ---- loading
+
+-- Eight form one leaf; of 9, 10 and 11 the last group takes until it has 3.
+loads : map (λ n. shape (loadTree 2 (row 0 n))) (8 ∷ 9 ∷ 10 ∷ 11 ∷ [])
+    ≡ (8 ∷ []) ∷ (2 ∷ 6 ∷ 3 ∷ []) ∷ (2 ∷ 7 ∷ 3 ∷ []) ∷ (2 ∷ 8 ∷ 3 ∷ []) ∷ []
+unfolding showing
+loads = refl
+
+-- ---- entering
+
+-- Nine moves entered, k near 0 and the others near 8: the ninth splits the leaf between the two, where the sides are least.
+splits : map (λ k. shape (enterAll 2 (row 0 k ++ row 8 (9 - k)) empty)) (3 ∷ 4 ∷ 5 ∷ 6 ∷ [])
+    ≡ (2 ∷ 3 ∷ 6 ∷ []) ∷ (2 ∷ 4 ∷ 5 ∷ []) ∷ (2 ∷ 5 ∷ 4 ∷ []) ∷ (2 ∷ 6 ∷ 3 ∷ []) ∷ []
+unfolding showing
+splits = refl
+
+-- Nine with equal costs, so that the sums are equal: the least left part.
+split-tie : shape (enterAll 2 (map (λ n. move n 5 5) (numbersFrom 0 9)) empty) ≡ 2 ∷ 3 ∷ 6 ∷ []
+unfolding showing
+split-tie = refl
+
+-- Two leaves, far enough apart that the region of a move and its farther leaf has the side 8.
+leaves : Tree
+leaves = rooted 1 ((move 0 0 0 ∷ move 1 0 1 ∷ move 2 1 0 ∷ []) ∷ (move 3 4 1 ∷ move 4 5 0 ∷ move 5 5 1 ∷ []) ∷ [])
+
+-- A move in the gap between them: nearer the earlier leaf, nearer the later, and on a tie (8 and 8) the earlier.
+gaps : map (λ x. shape (enterTree 2 x leaves)) (move 6 1 1 ∷ move 6 4 0 ∷ move 6 0 4 ∷ [])
+    ≡ (2 ∷ 4 ∷ 3 ∷ []) ∷ (2 ∷ 3 ∷ 4 ∷ []) ∷ (2 ∷ 4 ∷ 3 ∷ []) ∷ []
+unfolding showing leaves
+gaps = refl
+
+-- The near corner of the root and of the earlier leaf is move 0's costs, which nothing dominates: both are opened, the later
+-- leaf is not.
+opened : nodesOpened 2 leaves ≡ 2
+unfolding showing leaves
+opened = refl
+
+-- ---- withdrawing
+
+-- A leaf of 3 loses a move and is removed; the two others go into the leaf before it.
+leaf-removed : shape (withdrawTree 2 4 (rooted 1 (threes 2 0))) ≡ 2 ∷ 5 ∷ 3 ∷ []
+unfolding showing
+leaf-removed = refl
+
+-- With the leaf goes its parent, left with 2 leaves: of three upper nodes two stay, and the eight other moves of the third go
+-- into one more leaf of the second.
+node-removed : shape (withdrawTree 2 22 (rooted 2 (threes 3 0)))
+    ≡ 2 ∷ (3 ∷ 3 ∷ 3 ∷ 3 ∷ []) ++ (4 ∷ 3 ∷ 3 ∷ 3 ∷ 8 ∷ [])
+unfolding showing
+node-removed = refl
+
+-- A root left with one leaf gives way to it, and so does one left with one upper node.
+roots-gone : map (λ t. shape (withdrawTree 2 0 t)) (rooted 1 (threes 1 0 ∷ threes 1 3 ∷ []) ∷ rooted 2 (threes 2 0 ∷ threes 2 9 ∷ []) ∷ [])
+    ≡ (5 ∷ []) ∷ (4 ∷ 7 ∷ 4 ∷ 3 ∷ 3 ∷ []) ∷ []
+unfolding showing
+roots-gone = refl
+
+-- ---- re-costing
+
+-- Equal costs change nothing: withdrawn and entered again, the move would have made one leaf of the two.
+equal-costs : recostTree 2 (move 0 0 0) leaves ≡ leaves
+unfolding showing leaves
+equal-costs = refl
+
+-- ---- the notice
+
+-- Move 0 hides 1 and 2, and 1 hides 2.
+chain : Board
+chain = record { size = 16; dimension = 2; moves = inZOrder 2 (move 0 1 1 ∷ move 1 2 2 ∷ move 2 3 3 ∷ []) }
+
+-- Its withdrawal brings up 1 only. A re-cost of 0 with equal costs tells nothing; one to (2,3), which 1 hides, brings up 1.
+chain-notices : map (λ c. notices chain (c ∷ [])) (withdraw 0 ∷ recost 0 (1 ∷ 1 ∷ 0 ∷ 0 ∷ []) ∷ recost 0 (2 ∷ 3 ∷ 0 ∷ 0 ∷ []) ∷ [])
+    ≡ ((1 ∷ 0 ∷ 2 ∷ 1 ∷ []) ∷ []) ∷ ([] ∷ []) ∷ ((1 ∷ 0 ∷ 2 ∷ 1 ∷ []) ∷ []) ∷ []
+unfolding showing chain
+chain-notices = refl

@@ -1,0 +1,19 @@
+-- What holds of the definitions.
+pub mod Bool
+pub mod Basics
+pub mod Sorting
+pub mod Permuted
+pub mod Order
+pub mod Dominance
+pub mod Skyline
+pub mod Queries
+pub mod Tree
+pub mod Loading
+pub mod Entering
+pub mod Withdrawing
+pub mod Recosting
+pub mod Nodes
+pub mod Numbers
+pub mod Notice
+pub mod Holder
+pub mod Changes

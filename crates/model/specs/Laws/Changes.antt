@@ -1,0 +1,214 @@
+-- A change that is not refused: its number, the moves on the board after it, and how many rows its notice has.
+use Prim.Native.Nat.{ℕ, suc, _+_, _≤_, _<_}
+use mathlib.Core.Bool.{Bool, true, false, cond, not}
+use mathlib.Core.List.{List, [], _∷_, _++_, map, List·Memᴰ, List·Memᴰ·append-cases}
+use mathlib.Core.Logic.{⊎-elim}
+use mathlib.Core.Path.{_≡_, refl, sym, ap, _∙_}
+use native.Mathlib.Omega.{arith}
+use lib.Dec.{leb, eqb}
+use lib.ListN.{length, length-append}
+use borrow.Author.Tests.{leb-false, lt-leb, le-ltb, eqb-true, ne-eqb, not-true}
+use Rattle.zorder.specs.Refusal.{Check, refusal, costPastBad}
+use Rattle.model.specs.Basics.{Each, distinct}
+use Rattle.model.specs.Moves.{Move, moveBefore, insert}
+use Rattle.model.specs.Lists.{hidden, skyline}
+use Rattle.model.specs.Withdrawing.{without}
+use Rattle.model.specs.Calls.{Answer, accepted, refusedWith, orElse, rowsAnswer, Board, Change, enter, withdraw, recost, onBoard, changeRefusal, changedMoves, changed, listOf, changeNotice, changeAnswer}
+use Rattle.model.specs.Sound.{Fit, SoundBoard}
+use Rattle.model.specs.Laws.Bool.{condCases}
+use Rattle.model.specs.Laws.Basics.{Once, each-mem, mem-each, select-mem, any-none}
+use Rattle.model.specs.Laws.Sorting.{insert-mem}
+use Rattle.model.specs.Laws.Order.{has-numbers, distinct-cons, distinct-insert, distinct-select, distinct-once, mem-number}
+use Rattle.model.specs.Laws.Numbers.{except, except-mem, except-length, distinct-except, once-append, once-distinct, distinct-length}
+use Rattle.model.specs.Laws.Notice.{among, gone, gone-mem, notice-length}
+
+-- No check turns the call down.
+pub first-passes : (b : Bool) (k : ℕ) (cs : List Check) → refusal ((b, suc k) ∷ cs) ≡ 0 → b ≡ false
+unfolding refusal
+first-passes true k cs h = absurd (omega arith)
+first-passes false k cs h = refl
+
+pub rest-passes : (b : Bool) (k : ℕ) (cs : List Check) → refusal ((b, suc k) ∷ cs) ≡ 0 → refusal cs ≡ 0
+unfolding refusal
+rest-passes true k cs h = absurd (omega arith)
+rest-passes false k cs h = h
+
+unfoldable pub changeNumber : Change → ℕ
+changeNumber (enter n costs) = n
+changeNumber (withdraw n) = n
+changeNumber (recost n costs) = n
+
+pub change-number : (b : Board) (x : Change) → changeRefusal b x ≡ 0 → changeNumber x < b .size
+unfolding changeNumber changeRefusal
+change-number b (enter n costs) h = leb-false (b .size) n (first-passes (leb (b .size) n) 3 _ h)
+change-number b (withdraw n) h = leb-false (b .size) n (first-passes (leb (b .size) n) 3 _ h)
+change-number b (recost n costs) h = leb-false (b .size) n (first-passes (leb (b .size) n) 3 _ h)
+
+-- ---- the moves after it
+
+without-number : {m : Move} (n : ℕ) (ms : List Move) → List·Memᴰ m (without n ms) → List·Memᴰ m ms × (eqb (m .number) n ≡ false)
+unfolding without
+without-number {m} n ms k =
+    let r = select-mem (λ m. not (eqb (m .number) n)) ms k in
+    (r .0, not-true (eqb (m .number) n) (r .1))
+
+off-without : (n : ℕ) (ms : List Move) → onBoard n (without n ms) ≡ false
+unfolding onBoard
+off-without n ms =
+    any-none (λ m. eqb (m .number) n) (without n ms)
+    (mem-each (λ m. eqb (m .number) n ≡ false) (without n ms) (λ m k. without-number n ms k .1))
+
+distinct-without : (n : ℕ) (ms : List Move) → distinct (map (λ m. m .number) ms) ≡ true → distinct (map (λ m. m .number) (without n ms)) ≡ true
+unfolding without
+distinct-without n ms = distinct-select (λ m. m .number) (λ m. not (eqb (m .number) n)) ms
+
+distinct-put : (d n : ℕ) (costs : List ℕ) (ms : List Move) → onBoard n ms ≡ false → distinct (map (λ m. m .number) ms) ≡ true
+    → distinct (map (λ m. m .number) (insert d (record { number = n; costs = costs }) ms)) ≡ true
+unfolding insert
+distinct-put d n costs ms o =
+    distinct-insert (λ m. m .number) (moveBefore d) (record { number = n; costs = costs }) ms (has-numbers n ms ∙ o)
+
+pub changed-distinct : (b : Board) (x : Change) → distinct (map (λ m. m .number) (b .moves)) ≡ true → changeRefusal b x ≡ 0
+    → distinct (map (λ m. m .number) (changed b x .moves)) ≡ true
+unfolding changed changedMoves changeRefusal
+changed-distinct b (enter n costs) s h =
+    distinct-put (b .dimension) n costs (b .moves)
+    (first-passes (onBoard n (b .moves)) 4 [] (rest-passes (costPastBad (b .dimension) costs) 6 _ (rest-passes (leb (b .size) n) 3 _ h)))
+    s
+changed-distinct b (withdraw n) s h = distinct-without n (b .moves) s
+changed-distinct b (recost n costs) s h =
+    distinct-put (b .dimension) n costs (without n (b .moves)) (off-without n (b .moves)) (distinct-without n (b .moves) s)
+
+put-mem : {m : Move} (d n : ℕ) (costs : List ℕ) (ms : List Move) → List·Memᴰ m (insert d (record { number = n; costs = costs }) ms)
+    → (¬ (m .number ≡ n)) → List·Memᴰ m ms
+unfolding insert
+put-mem d n costs ms k f =
+    ⊎-elim (λ e. absurd (f (ap (λ (m : Move). m .number) e))) (λ j. j)
+    (insert-mem (moveBefore d) (record { number = n; costs = costs }) ms k)
+
+-- a move of another number was there before
+pub changed-mem : {m : Move} (b : Board) (x : Change) → List·Memᴰ m (changed b x .moves) → (¬ (m .number ≡ changeNumber x)) → List·Memᴰ m (b .moves)
+unfolding changed changedMoves changeNumber
+changed-mem b (enter n costs) k f = put-mem (b .dimension) n costs (b .moves) k f
+changed-mem b (withdraw n) k f = without-number n (b .moves) k .0
+changed-mem b (recost n costs) k f =
+    without-number n (b .moves) (put-mem (b .dimension) n costs (without n (b .moves)) k f) .0
+
+-- ---- how many rows its notice has
+
+list-mem : {m : Move} (b : Board) → List·Memᴰ m (listOf b) → List·Memᴰ m (b .moves)
+unfolding listOf skyline
+list-mem b k = select-mem (λ m. not (hidden (b .dimension) (b .moves) m)) (b .moves) k .0
+
+distinct-list : (b : Board) → distinct (map (λ m. m .number) (b .moves)) ≡ true → distinct (map (λ m. m .number) (listOf b)) ≡ true
+unfolding listOf skyline
+distinct-list b = distinct-select (λ m. m .number) (λ m. not (hidden (b .dimension) (b .moves) m)) (b .moves)
+
+distinct-gone : (ms ns : List Move) → distinct (map (λ m. m .number) ms) ≡ true → distinct (map (λ m. m .number) (gone ms ns)) ≡ true
+unfolding gone
+distinct-gone ms ns = distinct-select (λ m. m .number) (λ m. not (among m ns)) ms
+
+-- Rows of other numbers than the change's are different moves of the board before it, and with the change's own number they
+-- are at most C; that number itself may leave once and enter once.
+module _ (b : Board) (x : Change) (s : SoundBoard b) (h : changeRefusal b x ≡ 0) where
+  abbrev N : ℕ
+  N = changeNumber x
+
+  abbrev outs : List Move
+  outs = gone (listOf b) (listOf (changed b x))
+
+  abbrev ins : List Move
+  ins = gone (listOf (changed b x)) (listOf b)
+
+  abbrev number : Move → ℕ
+  number m = m .number
+
+  outs-distinct : distinct (map number outs) ≡ true
+  outs-distinct = distinct-gone (listOf b) (listOf (changed b x)) (distinct-list b (s .once))
+
+  ins-distinct : distinct (map number ins) ≡ true
+  ins-distinct = distinct-gone (listOf (changed b x)) (listOf b) (distinct-list (changed b x) (changed-distinct b x (s .once) h))
+
+  abbrev others : List Move
+  others = except number N outs ++ except number N ins
+
+  others-mem : (m : Move) → List·Memᴰ m others → List·Memᴰ m (b .moves) × (¬ (m .number ≡ N))
+  others-mem m k =
+      ⊎-elim
+      (λ j. let r = except-mem number N outs j in (list-mem b (gone-mem (listOf b) (listOf (changed b x)) (r .0) .0), r .1))
+      (λ j. let r = except-mem number N ins j in
+      (changed-mem b x (list-mem (changed b x) (gone-mem (listOf (changed b x)) (listOf b) (r .0) .0)) (r .1), r .1))
+      (List·Memᴰ·append-cases (except number N outs) k)
+
+  others-once : Once others
+  others-once =
+      once-append (except number N outs) (except number N ins)
+      (distinct-once number (except number N outs) (distinct-except number N outs outs-distinct))
+      (distinct-once number (except number N ins) (distinct-except number N ins ins-distinct))
+      (λ m j k. gone-mem (listOf (changed b x)) (listOf b) (except-mem number N ins k .0) .1 (gone-mem (listOf b) (listOf (changed b x)) (except-mem number N outs j .0) .0))
+
+  others-length : suc (length others) ≤ b .size
+  others-length =
+      distinct-length number (b .size) (record { number = N; costs = [] } ∷ others)
+      (distinct-cons number (record { number = N; costs = [] }) others
+      (mem-each (λ m. eqb N (m .number) ≡ false) others (λ m k. ne-eqb N (m .number) (λ e. others-mem m k .1 (sym e))))
+      (once-distinct number others others-once
+      (λ m n j k. mem-number number (b .moves) (s .once) (others-mem m j .0) (others-mem n k .0)))) (
+        change-number b x h,
+        mem-each (λ m. m .number < b .size) others
+            (λ m k. each-mem (Fit (b .size) (b .dimension)) (s .fit) (others-mem m k .0) .number),
+      )
+
+  -- "For these three C + 1 rows always suffice."
+  pub notice-short : length (changeNotice b x) ≤ b .size + 1
+  unfolding changeNotice
+  notice-short =
+      omega (
+        arith,
+        notice-length (listOf b) (listOf (changed b x)),
+        except-length number N outs outs-distinct,
+        except-length number N ins ins-distinct,
+        length-append (except number N outs) (except number N ins),
+        others-length,
+      )
+
+-- ---- answers
+
+refusal-other : (n : ℕ) (cs : List Check) → ¬ (0 ≡ n) → Each (λ c. ¬ (c .1 ≡ n)) cs → ¬ (refusal cs ≡ n)
+unfolding refusal
+refusal-other n [] z es = z
+refusal-other n (c ∷ cs) z es = condCases (λ (k : ℕ). ¬ (k ≡ n)) (c .0) (λ _. es .0) (λ _. refusal-other n cs z (es .1))
+
+change-refusal-other : (b : Board) (x : Change) → ¬ (changeRefusal b x ≡ 8)
+unfolding changeRefusal
+change-refusal-other b (enter n costs) =
+    refusal-other 8 _ (λ e. omega arith) (λ e. omega arith, (λ e. omega arith, (λ e. omega arith, tt)))
+change-refusal-other b (withdraw n) = refusal-other 8 _ (λ e. omega arith) (λ e. omega arith, (λ e. omega arith, tt))
+change-refusal-other b (recost n costs) =
+    refusal-other 8 _ (λ e. omega arith) (λ e. omega arith, (λ e. omega arith, (λ e. omega arith, tt)))
+
+-- enough rows lent: the answer is what the checks say
+enough-rows : (b : Board) (x : Change) (lent : ℕ) → length (changeNotice b x) ≤ lent → rowsAnswer (length (changeNotice b x)) lent ≡ accepted
+unfolding rowsAnswer
+enough-rows b x lent l =
+    ap (λ (t : Bool). cond t (record { number = 8; detail = length (changeNotice b x) }) accepted) (le-ltb lent (length (changeNotice b x)) l)
+
+pub changes-accepted : (b : Board) (x : Change) (lent : ℕ) → changeRefusal b x ≡ 0 → length (changeNotice b x) ≤ lent → changeAnswer b x lent ≡ accepted
+unfolding changeAnswer orElse refusedWith
+changes-accepted b x lent h l =
+    ap (λ (k : ℕ). cond (eqb k 0) (rowsAnswer (length (changeNotice b x)) lent) (record { number = k; detail = 0 })) h
+    ∙ enough-rows b x lent l
+
+-- "8 is given exactly if more rows are needed than lent", and C + 1 suffice.
+pub never-eight : (b : Board) (x : Change) (lent : ℕ) → SoundBoard b → b .size + 1 ≤ lent → ¬ (changeAnswer b x lent .number ≡ 8)
+unfolding changeAnswer orElse refusedWith accepted
+never-eight b x lent s l =
+    condCases (λ (a : Answer). ¬ (a .number ≡ 8)) (eqb (changeRefusal b x) 0)
+    (λ h e. let z = ap (λ (a : Answer). a .number) (enough-rows b x lent (omega (arith, notice-short b x s (eqb-true (changeRefusal b x) 0 h)))) in omega arith)
+    (λ _. change-refusal-other b x)
+
+-- "A board with a free number always takes one more move, given costs past d of zero": no check turns it down.
+pub enter-passes : (b : Board) (n : ℕ) (costs : List ℕ) → n < b .size → costPastBad (b .dimension) costs ≡ false → onBoard n (b .moves) ≡ false
+    → changeRefusal b (enter n costs) ≡ 0
+unfolding changeRefusal refusal
+enter-passes b n costs l p o = rw (lt-leb (b .size) n l, p, o)
