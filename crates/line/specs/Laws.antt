@@ -1,0 +1,23 @@
+-- The flat form and the nest say the same.
+pub mod Line
+pub mod Decode
+pub mod Heights
+pub mod Load
+pub mod Places
+pub mod Entries
+pub mod Split
+pub mod Standing
+pub mod Descent
+pub mod Placing
+pub mod Placed
+pub mod Gap
+pub mod Way
+pub mod Cascade
+pub mod Enter
+pub mod Taken
+pub mod Rows
+pub mod Widened
+pub mod Remove
+pub mod Lowered
+pub mod Removed
+pub mod Withdraw

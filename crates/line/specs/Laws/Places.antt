@@ -1,0 +1,237 @@
+-- Places of lines put end to end: what lies left of a seam is found by the left part alone, what lies right of it by the
+-- right part alone, and a node is found whole between the two.
+use Prim.Native.Nat.{ℕ, zero, suc, _+_, _≤_, _<_}
+use mathlib.Core.Bool.{Bool, true, false, cond}
+use mathlib.Core.Path.{_≡_, refl, sym, ap, ap₂, _∙_}
+use mathlib.Core.List.{List, [], _∷_, _++_, append-assoc}
+use native.Mathlib.Nat.{add-zero, add-suc, suc-add, zero-add, add-sub-cancel-left}
+use native.Mathlib.Omega.{arith}
+use borrow.Author.Tests.{le-leb, lt-leb}
+use lib.Dec.{leb}
+use lib.ListN.{length, take, drop, set, length-set, length-drop, List·getD-append}
+use lib.Seq.{getD-append-add, getD-append-seam, take-append-le, drop-append-le, take-append-add, drop-append-add, set-append-left, set-append-seam, take-at, drop-at}
+use Rattle.model.specs.Basics.{count}
+use Rattle.model.specs.Moves.{Move}
+use Rattle.model.specs.Laws.Bool.{condCases}
+use Rattle.model.specs.Laws.Basics.{each-mono, count-none}
+use Rattle.line.specs.Line.{Placed, none}
+use Rattle.line.specs.Laws.Line.{row, Low}
+use Rattle.line.specs.Places.{moveAt, heightAt, lower, nodeStart, nodeEnd, entries, entryAt, setHeight, insertAt}
+
+-- Nothing follows, or a row with height l or more.
+abbrev pub Starts : ℕ → List Placed → Type 0
+Starts l [] = Unit {0}
+Starts l (r ∷ rs) = l ≤ r .height
+
+pub starts-lower : (l m : ℕ) (rs : List Placed) → l ≤ m → Starts m rs → Starts l rs
+starts-lower l m [] h s = tt
+starts-lower l m (r ∷ rs) h s = omega arith
+
+-- ---- rows
+
+module _ (xs ys : List Placed) where
+  pub height-left : (i : ℕ) → i < length xs → heightAt (xs ++ ys) i ≡ heightAt xs i
+  unfolding heightAt
+  height-left i h = ap (λ (r : Placed). r .height) (List·getD-append xs ys none i h)
+
+  pub height-right : (i : ℕ) → heightAt (xs ++ ys) (length xs + i) ≡ heightAt ys i
+  unfolding heightAt
+  height-right i = ap (λ (r : Placed). r .height) (getD-append-add xs ys i none)
+
+  pub move-left : (i : ℕ) → i < length xs → moveAt (xs ++ ys) i ≡ moveAt xs i
+  unfolding moveAt
+  move-left i h = ap (λ (r : Placed). r .move) (List·getD-append xs ys none i h)
+
+  pub move-right : (i : ℕ) → moveAt (xs ++ ys) (length xs + i) ≡ moveAt ys i
+  unfolding moveAt
+  move-right i = ap (λ (r : Placed). r .move) (getD-append-add xs ys i none)
+
+  pub insert-left : (i : ℕ) (r : Placed) → i ≤ length xs → insertAt i r (xs ++ ys) ≡ insertAt i r xs ++ ys
+  unfolding insertAt
+  insert-left i r h =
+      ap₂ (λ (us vs : List Placed). us ++ r ∷ vs) (take-append-le i xs ys h) (drop-append-le i xs ys h)
+      ∙ sym (append-assoc (take i xs) (r ∷ drop i xs) ys)
+
+  pub insert-right : (i : ℕ) (r : Placed) → insertAt (length xs + i) r (xs ++ ys) ≡ xs ++ insertAt i r ys
+  unfolding insertAt
+  insert-right i r =
+      ap₂ (λ (us vs : List Placed). us ++ r ∷ vs) (take-append-add xs ys i) (drop-append-add xs ys i)
+      ∙ append-assoc xs (take i ys) (r ∷ drop i ys)
+
+  pub insert-seam : (r : Placed) → insertAt (length xs) r (xs ++ ys) ≡ xs ++ r ∷ ys
+  unfolding insertAt
+  insert-seam r =
+      ap₂ (λ (us vs : List Placed). us ++ r ∷ vs) (take-at xs ys (length xs) refl) (drop-at xs ys (length xs) refl)
+
+  pub set-left : (i k : ℕ) → i < length xs → setHeight i k (xs ++ ys) ≡ setHeight i k xs ++ ys
+  unfolding setHeight
+  set-left i k h =
+      set-append-left xs ys i (record { move = moveAt (xs ++ ys) i; height = k }) h
+      ∙ ap (λ (m : Move). set xs i (row m k) ++ ys) (move-left i h)
+
+pub length-setHeight : (i k : ℕ) (rs : List Placed) → length (setHeight i k rs) ≡ length rs
+unfolding setHeight
+length-setHeight i k rs = length-set rs i (row (moveAt rs i) k)
+
+set-append-add : (xs ys : List Placed) (i : ℕ) (r : Placed) → set (xs ++ ys) (length xs + i) r ≡ xs ++ set ys i r
+set-append-add [] ys i r = ap (λ (j : ℕ). set ys j r) (zero-add i)
+set-append-add (x ∷ xs) ys i r =
+    ap (λ (j : ℕ). set (x ∷ (xs ++ ys)) j r) (suc-add (length xs) i) ∙ ap (λ (zs : List Placed). x ∷ zs) (set-append-add xs ys i r)
+
+module _ (xs ys : List Placed) where
+  pub set-right : (i k : ℕ) → setHeight (length xs + i) k (xs ++ ys) ≡ xs ++ setHeight i k ys
+  unfolding setHeight
+  set-right i k =
+      set-append-add xs ys i (record { move = moveAt (xs ++ ys) (length xs + i); height = k })
+      ∙ ap (λ (m : Move). xs ++ set ys i (row m k)) (move-right xs ys i)
+
+  move-seam : (r : Placed) → moveAt (xs ++ r ∷ ys) (length xs) ≡ r .move
+  unfolding moveAt
+  move-seam r = ap (λ (s : Placed). s .move) (getD-append-seam xs r ys none)
+
+  pub height-seam : (r : Placed) → heightAt (xs ++ r ∷ ys) (length xs) ≡ r .height
+  unfolding heightAt
+  height-seam r = ap (λ (s : Placed). s .height) (getD-append-seam xs r ys none)
+
+  pub set-seam : (r : Placed) (k : ℕ) → setHeight (length xs) k (xs ++ r ∷ ys) ≡ xs ++ row (r .move) k ∷ ys
+  unfolding setHeight
+  set-seam r k =
+      set-append-seam xs r ys (record { move = moveAt (xs ++ r ∷ ys) (length xs); height = k })
+      ∙ ap (λ (m : Move). xs ++ row m k ∷ ys) (move-seam r)
+
+-- ---- lower
+
+pub lower-low : (l : ℕ) (xs ys : List Placed) → Low l xs → Starts l ys → lower l (xs ++ ys) ≡ length xs
+unfolding lower
+lower-low l [] [] low s = refl
+lower-low l [] (y ∷ ys) low s = ap (λ (b : Bool). cond b 0 (suc (lower l ys))) (le-leb l (y .height) s)
+lower-low l (x ∷ xs) ys low s =
+    ap (λ (b : Bool). cond b 0 (suc (lower l (xs ++ ys)))) (lt-leb l (x .height) (low .0))
+    ∙ ap suc (lower-low l xs ys (low .1) s)
+
+pub lower-left : (l : ℕ) (xs ys : List Placed) → Starts l ys → lower l (xs ++ ys) ≡ lower l xs
+unfolding lower
+lower-left l [] ys s = lower-low l [] ys tt s
+lower-left l (x ∷ xs) ys s = ap (λ (n : ℕ). cond (leb l (x .height)) 0 (suc n)) (lower-left l xs ys s)
+
+pub lower-le : (l : ℕ) (rs : List Placed) → lower l rs ≤ length rs
+unfolding lower
+lower-le l [] = omega arith
+lower-le l (r ∷ rs) =
+    condCases (λ (n : ℕ). n ≤ suc (length rs)) (leb l (r .height)) (λ t. omega arith) (λ t. omega (arith, lower-le l rs))
+
+-- ---- where a node starts
+
+pub start-le : (l p : ℕ) (rs : List Placed) → nodeStart l p rs ≤ p
+unfolding nodeStart
+start-le l zero rs = omega arith
+start-le l (suc p) rs =
+    condCases (λ (n : ℕ). n ≤ suc p) (leb l (heightAt rs (suc p))) (λ t. omega arith) (λ t. omega (arith, start-le l p rs))
+
+pub low-at : (l : ℕ) (xs : List Placed) (i : ℕ) → Low l xs → i < length xs → heightAt xs i < l
+unfolding heightAt
+low-at l [] i low h = omega arith
+low-at l (x ∷ xs) zero low h = low .0
+low-at l (x ∷ xs) (suc i) low h = low-at l xs i (low .1) (omega arith)
+
+pub start-left : (l : ℕ) (xs ys : List Placed) (p : ℕ) → p < length xs → nodeStart l p (xs ++ ys) ≡ nodeStart l p xs
+unfolding nodeStart
+start-left l xs ys zero h = refl
+start-left l xs ys (suc p) h =
+    ap₂ (λ (n m : ℕ). cond (leb l n) (suc p) m) (height-left xs ys (suc p) h) (start-left l xs ys p (omega arith))
+
+start-seam : (l : ℕ) (xs : List Placed) (y : Placed) (ys : List Placed) → l ≤ y .height → nodeStart l (length xs) (xs ++ y ∷ ys) ≡ length xs
+unfolding nodeStart
+start-seam l [] y ys h = refl
+start-seam l (x ∷ xs) y ys h =
+    ap (λ (b : Bool). cond b (suc (length xs)) (nodeStart l (length xs) (x ∷ (xs ++ y ∷ ys))))
+    (ap (leb l) (height-seam (x ∷ xs) ys y) ∙ le-leb l (y .height) h)
+
+cond-add : (b : Bool) (n m k : ℕ) → cond b (suc (n + m)) (n + k) ≡ n + cond b (suc m) k
+cond-add true n m k = sym (add-suc n m)
+cond-add false n m k = refl
+
+pub start-right : (l : ℕ) (xs : List Placed) (y : Placed) (ys : List Placed) (q : ℕ) → l ≤ y .height
+    → nodeStart l (length xs + q) (xs ++ y ∷ ys) ≡ length xs + nodeStart l q (y ∷ ys)
+unfolding nodeStart
+start-right l xs y ys zero h =
+    ap (λ (i : ℕ). nodeStart l i (xs ++ y ∷ ys)) (add-zero (length xs)) ∙ start-seam l xs y ys h ∙ sym (add-zero (length xs))
+start-right l xs y ys (suc q) h =
+    ap (λ (i : ℕ). nodeStart l i (xs ++ y ∷ ys)) (add-suc (length xs) q)
+    ∙ ap₂ (λ (n m : ℕ). cond (leb l n) (suc (length xs + q)) m)
+    (ap (heightAt (xs ++ y ∷ ys)) (sym (add-suc (length xs) q)) ∙ height-right xs (y ∷ ys) (suc q))
+    (start-right l xs y ys q h)
+    ∙ cond-add (leb l (heightAt (y ∷ ys) (suc q))) (length xs) q (nodeStart l q (y ∷ ys))
+
+pub start-low : (l : ℕ) (r : Placed) (rs : List Placed) (q : ℕ) → Low l rs → q ≤ length rs → nodeStart l q (r ∷ rs) ≡ 0
+unfolding nodeStart heightAt
+start-low l r rs zero low h = refl
+start-low l r rs (suc q) low h =
+    ap (λ (b : Bool). cond b (suc q) (nodeStart l q (r ∷ rs))) (lt-leb l (heightAt (r ∷ rs) (suc q)) (low-at l rs q low h))
+    ∙ start-low l r rs q low (omega arith)
+
+-- ---- where it ends
+
+pub end-le : (l p : ℕ) (rs : List Placed) → p < length rs → nodeEnd l p rs ≤ length rs
+unfolding nodeEnd
+end-le l p rs h = omega (arith, lower-le l (drop (suc p) rs), length-drop (suc p) rs)
+
+pub end-past : (l p : ℕ) (rs : List Placed) → p < nodeEnd l p rs
+unfolding nodeEnd
+end-past l p rs = omega arith
+
+pub end-right : (l : ℕ) (xs ys : List Placed) (q : ℕ) → nodeEnd l (length xs + q) (xs ++ ys) ≡ length xs + nodeEnd l q ys
+unfolding nodeEnd
+end-right l xs ys q =
+    ap (λ (zs : List Placed). suc (length xs + q) + lower l zs)
+    (ap (λ (i : ℕ). drop i (xs ++ ys)) (sym (add-suc (length xs) q)) ∙ drop-append-add xs ys (suc q))
+    ∙ (omega arith)
+
+pub end-left : (l : ℕ) (xs ys : List Placed) (q : ℕ) → Starts l ys → q < length xs → nodeEnd l q (xs ++ ys) ≡ nodeEnd l q xs
+unfolding nodeEnd
+end-left l xs ys q s h =
+    ap (λ (n : ℕ). suc q + n) (ap (lower l) (drop-append-le (suc q) xs ys h) ∙ lower-left l (drop (suc q) xs) ys s)
+
+pub low-drop : (l : ℕ) (xs : List Placed) (i : ℕ) → Low l xs → Low l (drop i xs)
+low-drop l xs zero low = low
+low-drop l [] (suc i) low = tt
+low-drop l (x ∷ xs) (suc i) low = low-drop l xs i (low .1)
+
+pub end-low : (l : ℕ) (r : Placed) (rs ys : List Placed) (q : ℕ) → Low l rs → Starts l ys → q ≤ length rs
+    → nodeEnd l q (r ∷ rs ++ ys) ≡ suc (length rs)
+unfolding nodeEnd
+end-low l r rs ys q low s h =
+    ap (λ (n : ℕ). suc q + n)
+    (ap (lower l) (drop-append-le q rs ys h) ∙ lower-low l (drop q rs) ys (low-drop l rs q low) s ∙ length-drop q rs)
+    ∙ (omega arith)
+
+-- A node between the rows before and after it.
+module _ (l : ℕ) (xs : List Placed) (r : Placed) (rs ys : List Placed) (q : ℕ) (low : Low l rs) (h : q ≤ length rs) where
+  pub node-start : l ≤ r .height → nodeStart l (length xs + q) (xs ++ (r ∷ rs ++ ys)) ≡ length xs
+  node-start top =
+      start-right l xs r (rs ++ ys) q top
+      ∙ ap (λ (n : ℕ). length xs + n) (start-left l (r ∷ rs) ys q (omega arith) ∙ start-low l r rs q low h)
+      ∙ add-zero (length xs)
+
+  pub node-end : Starts l ys → nodeEnd l (length xs + q) (xs ++ (r ∷ rs ++ ys)) ≡ length xs + suc (length rs)
+  node-end s = end-right l xs (r ∷ rs ++ ys) q ∙ ap (λ (n : ℕ). length xs + n) (end-low l r rs ys q low s h)
+
+-- ---- its entries
+
+abbrev pub atLeast : ℕ → Placed → Bool
+atLeast l r = leb l (r .height)
+
+pub count-low : (l : ℕ) (xs : List Placed) → Low l xs → count (atLeast l) xs ≡ 0
+count-low l xs low =
+    count-none (atLeast l) xs (each-mono (λ r. r .height < l) (λ r. leb l (r .height) ≡ false) xs (λ r. lt-leb l (r .height)) low)
+
+pub entries-between : (l : ℕ) (xs zs ys : List Placed) → entries l (length xs) (length xs + length zs) (xs ++ (zs ++ ys)) ≡ count (atLeast l) zs
+unfolding entries
+entries-between l xs zs ys =
+    ap (count (atLeast l))
+    (ap₂ take (add-sub-cancel-left (length xs) (length zs)) (drop-at xs (zs ++ ys) (length xs) refl) ∙ take-at zs ys (length zs) refl)
+
+pub entry-next : (l s j : ℕ) (rs : List Placed) → entryAt l s (suc j) rs ≡ entryAt l (nodeEnd l s rs) j rs
+unfolding entryAt
+entry-next l s zero rs = refl
+entry-next l s (suc j) rs = ap (λ (p : ℕ). nodeEnd l p rs) (entry-next l s j rs)
