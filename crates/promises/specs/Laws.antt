@@ -1,0 +1,5 @@
+-- What holds of the promises.
+pub mod Tab
+pub mod Stands
+pub mod Demand3
+pub mod Accept

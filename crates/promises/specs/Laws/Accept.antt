@@ -1,0 +1,38 @@
+-- What a change's promise allows of sound memory: when it takes a move, and when it has rows enough.
+use Prim.Native.Nat.{ℕ, _+_, _≤_, _<_}
+use mathlib.Core.Bool.{false}
+use mathlib.Core.List.{List}
+use mathlib.Core.Path.{_≡_, sym, ap, _∙_}
+use lib.ListN.{length}
+use Rattle.zorder.specs.Refusal.{costPastBad}
+use Rattle.model.specs.Moves.{Row}
+use Rattle.model.specs.Calls as calls
+use Rattle.model.specs.Calls.{accepted, Change, enter, onBoard, changeNotice, changeAnswer}
+use Rattle.model.specs.Laws.Changes.{changes-accepted, never-eight, enter-passes}
+use Rattle.promises.specs.Layout.{sizeIn, dimensionIn, boardIn}
+use Rattle.promises.specs.Sound.{Sound}
+use Rattle.promises.specs.Answers.{answerOf, numberOf}
+use Rattle.promises.specs.Promise.{ChangePromise}
+use Rattle.promises.specs.Run.{Bytes}
+use Rattle.promises.specs.Laws.Stands.{stands-board}
+use Rattle.promises.specs.declared.Answer.{Answer}
+
+module _ {m m' : List ℕ} {lent lent' : List Row} {r : Answer} (s : Sound m) where
+  change-number : (x : Change) → ChangePromise x m lent r m' lent' → numberOf (r .verdict) ≡ changeAnswer (boardIn m) x (length lent) .number
+  unfolding answerOf
+  change-number x p = ap (λ (a : calls.Answer). a .number) (p .sound (s .tree) (s .stands) .answers)
+
+  -- "A board with a free number always takes one more move, given costs past d of zero and rows enough for its notice."
+  pub enter-accepted : (n : ℕ) (costs : List ℕ) → n < sizeIn m → onBoard n (boardIn m .moves) ≡ false → costPastBad (dimensionIn m) costs ≡ false
+      → length (changeNotice (boardIn m) (enter n costs)) ≤ length lent → ChangePromise (enter n costs) m lent r m' lent' → numberOf (r .verdict) ≡ 0
+  unfolding accepted boardIn
+  enter-accepted n costs l o c e p =
+      change-number (enter n costs) p
+      ∙ ap (λ (a : calls.Answer). a .number)
+      (changes-accepted (boardIn m) (enter n costs) (length lent) (enter-passes (boardIn m) n costs l c o) e)
+
+  -- "For these three C + 1 rows always suffice."
+  pub rows-suffice : (x : Change) → Bytes m → sizeIn m + 1 ≤ length lent → ChangePromise x m lent r m' lent' → ¬ (numberOf (r .verdict) ≡ 8)
+  unfolding boardIn
+  rows-suffice x b l p e =
+      never-eight (boardIn m) x (length lent) (stands-board m (s .tree) (s .stands) b) l (sym (change-number x p) ∙ e)

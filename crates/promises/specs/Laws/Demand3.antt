@@ -1,0 +1,165 @@
+-- Demand 3, of whole runs of calls that keep their promises.
+use Prim.Native.Nat.{ℕ, zero, suc}
+use mathlib.Core.Bool.{Bool, cond}
+use mathlib.Core.List.{List, [], map}
+use mathlib.Core.Path.{_≡_, refl, sym, ap, ap₂, _∙_, subst}
+use native.Mathlib.Omega.{arith}
+use lib.Dec.{eqb, eqb·suc-zero}
+use lib.ListN.{length, take, drop}
+use lib.Seq.{take-append-seam}
+use Rattle.model.specs.Moves.{InputRow, Row, moveOf}
+use Rattle.model.specs.Tree.{Tree}
+use Rattle.model.specs.Loading.{loadTree}
+use Rattle.model.specs.Lists.{listedRows}
+use Rattle.model.specs.Calls as calls
+use Rattle.model.specs.Calls.{Board, loaded, Change, changed, listOf, list, queryRows}
+use Rattle.model.specs.Changing.{changeTree}
+use Rattle.model.specs.Sound.{SoundBoard}
+use Rattle.model.specs.Holder.{change, isAccepted, plainNext, Answered, followed, heldAfter, Demand3}
+use Rattle.model.specs.Laws.Holder.{Reads, Keeps, EachKeeps, change-held, keeps-demand3}
+use Rattle.promises.specs.Layout.{dimensionIn}
+use Rattle.promises.specs.Sound.{Holding}
+use Rattle.promises.specs.Answers.{answerOf, numberOf, counted, told}
+use Rattle.promises.specs.Promise.{Left, LoadPromise, Said, ListPromise, QuerySaid, ChangePromise, ChangeSaid}
+use Rattle.promises.specs.Run.{Bytes, Step, changes, lists, loadRefused, leaves, Steps, done, then, eventOf, eventsOf, History, end, call, load, runOf, EachRun}
+use Rattle.promises.specs.Laws.Stands.{holding-board}
+use Rattle.promises.specs.declared.Verdict.{Verdict}
+use Rattle.promises.specs.declared.Answer.{Answer}
+use Rattle.promises.specs.declared.ListAnswer.{ListAnswer}
+
+-- ---- what a call says
+
+-- The rows that a call tells are the first of the lent ones; refused, it tells none.
+told-rows : (n : ℕ) (rows lent : List Row) → take (counted n (length rows)) (told n rows lent) ≡ cond (eqb n 0) rows []
+unfolding counted told
+told-rows zero rows lent = take-append-seam rows (drop (length rows) lent)
+told-rows (suc k) rows lent = ap (λ (b : Bool). cond b rows []) (sym (eqb·suc-zero k))
+
+said-rows : (a : calls.Answer) (rows lent : List Row) (v : Verdict) (n : ℕ) (lent' : List Row) → Said a rows lent v n lent'
+    → take n lent' ≡ cond (isAccepted (answerOf v)) rows []
+unfolding isAccepted answerOf
+said-rows a rows lent v n lent' s = ap₂ (λ (k : ℕ) (rs : List Row). take k rs) (s .counts) (s .tells) ∙ told-rows (numberOf v) rows lent
+
+-- ---- between two calls of a run
+
+record At (m : List ℕ) (b : Board) : Type 0 where
+  pub tree : Tree
+  pub holding : Holding m b tree
+  pub bytes : Bytes m
+
+at-board : {m : List ℕ} {b : Board} → At m b → SoundBoard b
+at-board {m} {b} a = holding-board m b (a .tree) (a .holding) (a .bytes)
+
+-- What is left by a call that answered with this number.
+module _ (m m' : List ℕ) (b' : Board) (t : Tree) where
+  left-accepted : (n : ℕ) → n ≡ 0 → Left n m m' b' t → Bytes m' → At m' b'
+  unfolding Left
+  left-accepted n e l k = record { tree = t; holding = subst (λ (n : ℕ). Left n m m' b' t) e l .holding; bytes = k }
+
+  left-refused : (n : ℕ) → ¬ (n ≡ 0) → Left n m m' b' t → m' ≡ m
+  unfolding Left
+  left-refused zero f l = absurd (f refl)
+  left-refused (suc n) f l = l
+
+  left-at : (n : ℕ) {b : Board} → Left n m m' b' t → Bytes m' → At m b → At m' (cond (eqb n 0) b' b)
+  left-at zero l k a = left-accepted 0 refl l k
+  left-at (suc n) {b} l k a =
+      subst (λ (c : Bool). At m' (cond c b' b)) (sym (eqb·suc-zero n))
+      (subst (λ (m : List ℕ). At m b) (sym (left-refused (suc n) (λ e. omega arith) l)) a)
+
+module _ (x : Change) (m m' : List ℕ) (lent lent' : List Row) (r : Answer) (p : ChangePromise x m lent r m' lent') (b : Board) (a : At m b) where
+  change-said : ChangeSaid x b lent (r .verdict) (r .count) lent'
+  change-said =
+      subst (λ (b : Board). ChangeSaid x b lent (r .verdict) (r .count) lent') (a .holding .board) (p .sound (a .tree) (a .holding .stands))
+
+  change-left : Left (numberOf (r .verdict)) m m' (changed b x) (changeTree (dimensionIn m) x (a .tree))
+  change-left =
+      subst (λ (b : Board). Left (numberOf (r .verdict)) m m' (changed b x) (changeTree (dimensionIn m) x (a .tree))) (a .holding .board)
+      (p .left (a .tree) (a .holding .stands))
+
+  -- the answer is the plain board's, so what becomes of it is known
+  abbrev next : Board
+  next = cond (isAccepted (answerOf (r .verdict))) (changed b x) b
+
+  change-next : plainNext b (change x) (length lent) ≡ next
+  unfolding plainNext
+  change-next = ap (λ (a : calls.Answer). cond (isAccepted a) (changed b x) b) (sym (change-said .answers))
+
+  change-at : Bytes m' → At m' next
+  unfolding isAccepted answerOf
+  change-at k = left-at m m' (changed b x) (changeTree (dimensionIn m) x (a .tree)) (numberOf (r .verdict)) change-left k a
+
+  change-keeps : (k : Bytes m') → Keeps b (eventOf (changes x lent lent' r k p))
+  unfolding eventOf Answered Reads heldAfter
+  change-keeps k =
+      let rows = said-rows _ _ _ _ _ _ change-said in
+      record {
+        answered = (change-said .answers, rows);
+        reads = tt;
+        held =
+            ap (λ (rs : List Row). followed (b .dimension) rs (listedRows (listOf b))) rows
+            ∙ change-held b x (isAccepted (answerOf (r .verdict))) (at-board a) (at-board (change-at k))
+            ∙ ap (λ (b : Board). listedRows (listOf b)) (sym change-next);
+      }
+
+module _ (m : List ℕ) (lent lent' : List Row) (r : ListAnswer) (p : ListPromise m lent r lent') (b : Board) (a : At m b) where
+  list-said : QuerySaid list b lent (r .verdict) (r .count) lent'
+  list-said =
+      subst (λ (b : Board). QuerySaid list b lent (r .verdict) (r .count) lent') (a .holding .board) (p .sound (a .tree) (a .holding .stands))
+
+  list-keeps : Keeps b (eventOf (lists lent lent' r p))
+  unfolding eventOf Answered Reads heldAfter plainNext queryRows
+  list-keeps =
+      record {
+        answered = list-said .answers;
+        reads = λ h. said-rows _ _ _ _ _ _ list-said ∙ ap (λ (c : Bool). cond c (queryRows b list) []) h;
+        held = refl;
+      }
+
+-- ---- each call of a run
+
+step-keeps : {m m' : List ℕ} (s : Step m m') (b : Board) → At m b → Keeps b (eventOf s)
+unfolding eventOf Answered Reads heldAfter plainNext
+step-keeps {m} {m'} (changes x lent lent' r k p) b a = change-keeps x m m' lent lent' r p b a k
+step-keeps {m} (lists lent lent' r p) b a = list-keeps m lent lent' r p b a
+step-keeps (loadRefused c d rows v p f) b a = record { answered = tt; reads = tt; held = refl }
+step-keeps leaves b a = record { answered = tt; reads = tt; held = refl }
+
+step-at : {m m' : List ℕ} (s : Step m m') (b : Board) → At m b → At m' (plainNext b (eventOf s .call) (eventOf s .lent))
+unfolding eventOf plainNext
+step-at {m} {m'} (changes x lent lent' r k p) b a =
+    subst (At m') (sym (change-next x m m' lent lent' r p b a)) (change-at x m m' lent lent' r p b a k)
+step-at (lists lent lent' r p) b a = a
+step-at {m} {m'} (loadRefused c d rows v p f) b a =
+    subst (λ (m : List ℕ). At m b) (sym (left-refused m m' (loaded c d rows) (loadTree d (map moveOf rows)) (numberOf v) f (p .left))) a
+step-at leaves b a = a
+
+load-at : (c d : ℕ) (rows : List InputRow) (v : Verdict) {m m' : List ℕ} → LoadPromise c d rows m v m' → numberOf v ≡ 0 → Bytes m' → At m' (loaded c d rows)
+load-at c d rows v {m} {m'} p e k = left-accepted m m' (loaded c d rows) (loadTree d (map moveOf rows)) (numberOf v) e (p .left) k
+
+-- ---- the run
+
+steps-keep : {m m' : List ℕ} (ss : Steps m m') (b : Board) → At m b → EachKeeps b (eventsOf ss)
+unfolding eventsOf
+steps-keep done b a = tt
+steps-keep (then s ss) b a = (step-keeps s b a, steps-keep ss (plainNext b (eventOf s .call) (eventOf s .lent)) (step-at s b a))
+
+pub demand3 : (c d : ℕ) (rows : List InputRow) (v : Verdict) {m₀ m₁ m : List ℕ} → LoadPromise c d rows m₀ v m₁ → numberOf v ≡ 0 → Bytes m₁
+    → (ss : Steps m₁ m) → Demand3 (loaded c d rows) (eventsOf ss)
+demand3 c d rows v p e k ss =
+    keeps-demand3 (loaded c d rows) (eventsOf ss) (steps-keep ss (loaded c d rows) (load-at c d rows v p e k))
+
+-- ---- every run of a history
+
+run-keeps : {m m' : List ℕ} (h : History m m') (b : Board) → At m b → EachKeeps b (runOf h)
+unfolding runOf
+run-keeps end b a = tt
+run-keeps (call s h) b a = (step-keeps s b a, run-keeps h (plainNext b (eventOf s .call) (eventOf s .lent)) (step-at s b a))
+run-keeps (load c d rows v p e k h) b a = tt
+
+pub each-run : {m m' : List ℕ} (h : History m m') → EachRun h
+unfolding EachRun
+each-run end = tt
+each-run (call s h) = each-run h
+each-run (load c d rows v p e k h) =
+    (keeps-demand3 (loaded c d rows) (runOf h) (run-keeps h (loaded c d rows) (load-at c d rows v p e k)), each-run h)

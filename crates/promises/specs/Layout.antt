@@ -1,0 +1,101 @@
+-- The lent memory: fields at offsets that the size C alone determines (docs/DECISIONS.md has the picture). Numbers are two
+-- bytes, the lower first. Marks and costs go by move number, so that a change of the tree leaves them where they are.
+use Prim.Native.Nat.{ℕ, zero, suc, _+_, _*_, _/_, _%_}
+use mathlib.Core.List.{List, [], _∷_, _++_}
+use lib.Dec.{eqb}
+use lib.ListN.{getD, set}
+use Rattle.zorder.specs.Address.{padded}
+use Rattle.model.specs.Basics.{select}
+use Rattle.model.specs.Moves.{Move}
+use Rattle.model.specs.Calls.{Board}
+use Rattle.line.specs.Line.{Placed, movesIn}
+
+unfoldable pub wordAt : ℕ → List ℕ → ℕ
+wordAt o m = getD m o 0 + 256 * getD m (o + 1) 0
+
+unfoldable pub setWord : ℕ → ℕ → List ℕ → List ℕ
+setWord o v m = set (set m o (v % 256)) (o + 1) (v / 256)
+
+-- Where each field stands.
+abbrev pub sizePlace : ℕ
+sizePlace = 0
+
+abbrev pub dimensionPlace : ℕ
+dimensionPlace = 2
+
+abbrev pub countPlace : ℕ
+countPlace = 4
+
+unfoldable pub numberPlace : ℕ → ℕ → ℕ
+numberPlace c i = 16 + 2 * i
+
+unfoldable pub heightPlace : ℕ → ℕ → ℕ
+heightPlace c i = 16 + 2 * c + i
+
+unfoldable pub markPlace : ℕ → ℕ → ℕ
+markPlace c n = 16 + 3 * c + n
+
+unfoldable pub costPlace : ℕ → ℕ → ℕ → ℕ
+costPlace c n j = 16 + 5 * c + 16 * n + 2 * j
+
+unfoldable pub workPlace : ℕ → ℕ → ℕ
+workPlace c i = 16 + 21 * c + 2 * i
+
+-- The head: C, d and how many moves are on the board.
+unfoldable pub sizeIn : List ℕ → ℕ
+sizeIn m = wordAt sizePlace m
+
+unfoldable pub dimensionIn : List ℕ → ℕ
+dimensionIn m = getD m dimensionPlace 0
+
+unfoldable pub countIn : List ℕ → ℕ
+countIn m = wordAt countPlace m
+
+-- By place in Z-order: the number of the move, and its height. By number: its mark and its costs.
+unfoldable pub numberIn : ℕ → List ℕ → ℕ → ℕ
+numberIn c m i = wordAt (numberPlace c i) m
+
+unfoldable pub heightIn : ℕ → List ℕ → ℕ → ℕ
+heightIn c m i = getD m (heightPlace c i) 0
+
+unfoldable pub markIn : ℕ → List ℕ → ℕ → ℕ
+markIn c m n = getD m (markPlace c n) 0
+
+unfoldable pub costIn : ℕ → List ℕ → ℕ → ℕ → ℕ
+costIn c m n j = wordAt (costPlace c n j) m
+
+-- A place of the work area, which holds numbers of moves while nodes are removed.
+unfoldable pub workIn : ℕ → List ℕ → ℕ → ℕ
+workIn c m i = wordAt (workPlace c i) m
+
+module _ {A : Type 0} where
+  -- f 0, f 1, .., k entries in all.
+  unfoldable pub tab : (ℕ → A) → ℕ → List A
+  tab f zero = []
+  tab f (suc k) = tab f k ++ f k ∷ []
+
+unfoldable pub costsIn : ℕ → ℕ → List ℕ → ℕ → List ℕ
+costsIn c d m n = padded d (tab (costIn c m n) d)
+
+unfoldable pub moveIn : ℕ → ℕ → List ℕ → ℕ → Move
+moveIn c d m i = record { number = numberIn c m i; costs = costsIn c d m (numberIn c m i) }
+
+unfoldable pub placedIn : ℕ → ℕ → List ℕ → ℕ → Placed
+placedIn c d m i = record { move = moveIn c d m i; height = heightIn c m i }
+
+-- The line that n rows of the memory hold, for a given size and number of costs; and the memory's own.
+unfoldable pub lineFrom : ℕ → ℕ → ℕ → List ℕ → List Placed
+lineFrom c d n m = tab (placedIn c d m) n
+
+unfoldable pub lineIn : List ℕ → List Placed
+lineIn m = lineFrom (sizeIn m) (dimensionIn m) (countIn m) m
+
+unfoldable pub boardIn : List ℕ → Board
+boardIn m = record { size = sizeIn m; dimension = dimensionIn m; moves = movesIn (lineIn m) }
+
+-- The kept list: the moves whose mark is 1.
+unfoldable pub keptFrom : ℕ → List ℕ → List Move → List Move
+keptFrom c m ms = select (λ x. eqb (markIn c m (x .number)) 1) ms
+
+unfoldable pub keptIn : List ℕ → List Move
+keptIn m = keptFrom (sizeIn m) m (movesIn (lineIn m))

@@ -1,0 +1,29 @@
+// No function: the answers of the board's calls, and in specs/ the layout of the lent memory, when it is sound, what each
+// call promises, and the theorem of demand 3 over these promises.
+
+// What a call says. The numbers are details: of `NumberTooLarge`, `NumberTwice` and `BadArgument` the place of a loaded row,
+// else 0; of `FewRows` the rows needed.
+pub enum Verdict {
+    Accepted,
+    ShortMemory,
+    OutOfRange,
+    Unsound,
+    NumberTooLarge(usize),
+    NumberTwice(usize),
+    NumberAbsent,
+    BadArgument(usize),
+    FewRows(usize),
+}
+
+// What enter, withdraw, re-cost and the lists but `list` answer: the verdict, and how many rows they told.
+pub struct Answer {
+    pub verdict: Verdict,
+    pub count: usize,
+}
+
+// What list answers: the nodes opened besides.
+pub struct ListAnswer {
+    pub verdict: Verdict,
+    pub count: usize,
+    pub opened: usize,
+}
