@@ -1,0 +1,2 @@
+-- A move of the code as a move of the definitions.
+pub mod Move
