@@ -21,3 +21,5 @@ pub mod Remove
 pub mod Lowered
 pub mod Removed
 pub mod Withdraw
+pub mod Search
+pub mod Opened

@@ -6,4 +6,5 @@ pub mod Load
 pub mod Enter
 pub mod Withdraw
 pub mod Heights
+pub mod Search
 pub mod Laws

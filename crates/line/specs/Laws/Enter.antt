@@ -71,7 +71,7 @@ module _ (d : ℕ) (x : Move) (h : ℕ) (es : List (Entry h)) (w : Whole (suc h)
 
 -- ---- the tree
 
-enter-cons : (d : ℕ) (x : Move) (rs : List Placed) → 0 < length rs
+pub enter-cons : (d : ℕ) (x : Move) (rs : List Placed) → 0 < length rs
     → flatEnter d x rs ≡ cascade d (suc (heightAt rs 0)) 1 (placeFor d x rs) (placed d x (placeFor d x rs) rs)
 unfolding flatEnter heightAt
 enter-cons d x [] g = absurd (omega arith)

@@ -25,18 +25,18 @@ use Rattle.line.specs.Laws.Rows.{line-height}
 -- ---- one turn
 
 module _ (f : ℕ) (rs : List Placed) where
-  abbrev children : ℕ
+  abbrev pub children : ℕ
   children = entries (heightAt rs 0 - 1) 0 (length rs) rs
 
-  abbrev next : List Placed
+  abbrev pub next : List Placed
   next = lowered f (setHeight 0 (heightAt rs 0 - 1) rs)
 
-  stays-low : heightAt rs 0 ≤ 1 → lowered (suc f) rs ≡ rs
+  pub stays-low : heightAt rs 0 ≤ 1 → lowered (suc f) rs ≡ rs
   unfolding lowered
   stays-low l =
       ap (λ (b : Bool). elim b [ true ↦ elim (ltb 1 children) [ true ↦ rs | false ↦ next ] | false ↦ rs ]) (le-ltb 1 (heightAt rs 0) l)
 
-  stays-wide : 1 < children → lowered (suc f) rs ≡ rs
+  pub stays-wide : 1 < children → lowered (suc f) rs ≡ rs
   unfolding lowered
   stays-wide c =
       ap (λ (b : Bool). elim (ltb 1 (heightAt rs 0)) [ true ↦ elim b [ true ↦ rs | false ↦ next ] | false ↦ rs ]) (lt-ltb 1 children c)
@@ -46,7 +46,7 @@ module _ (f : ℕ) (rs : List Placed) where
       either true = refl
       either false = refl
 
-  gives-way : 1 < heightAt rs 0 → children ≤ 1 → lowered (suc f) rs ≡ next
+  pub gives-way : 1 < heightAt rs 0 → children ≤ 1 → lowered (suc f) rs ≡ next
   unfolding lowered
   gives-way l c =
       ap₂ (λ (a b : Bool). elim a [ true ↦ elim b [ true ↦ rs | false ↦ next ] | false ↦ rs ]) (lt-ltb 1 (heightAt rs 0) l) (le-ltb 1 children c)
@@ -94,3 +94,13 @@ lowered-settled (suc h) (c ∷ []) (suc f) a l =
 lowered-settled (suc h) (c ∷ e ∷ es) (suc f) a l =
     let v : Whole (suc (suc h)) (c ∷ e ∷ es) = (omega arith, filled-each (suc h) (c ∷ e ∷ es) a) in
     stays-wide f (lineAt (suc (suc h)) (suc (suc h)) (c ∷ e ∷ es)) (omega (arith, root-children (suc h) (c ∷ e ∷ es) v))
+
+-- As many turns as the first row has levels are enough.
+pub lowered-own : (h : ℕ) (es : List (Entry h)) → Each (Filled h) es
+    → lowered (heightAt (lineAt (suc h) (suc h) es) 0) (lineAt (suc h) (suc h) es) ≡ lineOf (settled h es)
+unfolding settled lineOf lineAt lowered heightAt
+lowered-own zero [] a = refl
+lowered-own (suc h) [] a = refl
+lowered-own h (e ∷ es) a =
+    let rs = lineAt (suc h) (suc h) (e ∷ es) in
+    ap (λ (f : ℕ). lowered f rs) (line-height (suc h) (suc h) (e ∷ es) (omega arith, filled-each h (e ∷ es) a)) ∙ lowered-settled h (e ∷ es) (suc h) a (omega arith)

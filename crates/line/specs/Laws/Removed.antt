@@ -20,7 +20,7 @@ use Rattle.line.specs.Laws.Places.{height-left, height-right}
 use Rattle.line.specs.Laws.Taken.{holds}
 use Rattle.line.specs.Laws.Rows.{movesIn-append, line-height}
 use Rattle.line.specs.Laws.Remove.{own, NodeCut, Cut, root-removed}
-use Rattle.line.specs.Laws.Lowered.{lowered-settled}
+use Rattle.line.specs.Laws.Lowered.{lowered-settled, lowered-own}
 
 -- ---- a range cut out of a line
 
@@ -101,6 +101,12 @@ module _ (n h : ℕ) (es : List (Entry h)) (f : filledTree (rooted h es) ≡ tru
       ap (λ (l : Left h). lineOf (settled h (l .entries))) (node .withdrawn)
       ∙ sym (lowered-settled h (node .left) (suc h) (node .full) (omega arith))
       ∙ ap₂ lowered (sym root-height) (sym line-left)
+
+  pub flat-remove-own : lineOf (settled h (withdrawNode n h es .entries)) ≡ lowered (heightAt (cutOut (rangeOf n rows) rows) 0) (cutOut (rangeOf n rows) rows)
+  flat-remove-own =
+      ap (λ (l : Left h). lineOf (settled h (l .entries))) (node .withdrawn)
+      ∙ sym (lowered-own h (node .left) (node .full))
+      ∙ ap (λ (rs : List Placed). lowered (heightAt rs 0) rs) (sym line-left)
 
   pub parted : Parted n h es
   unfolding movesOf lineOf

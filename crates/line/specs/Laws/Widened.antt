@@ -30,10 +30,10 @@ place-seam n (q ∷ pre) r post (z, zs) o =
 -- ---- one turn of the widening
 
 module _ (f l : ℕ) (g : Range) (rs : List Placed) where
-  abbrev nodeFrom : ℕ
+  abbrev pub nodeFrom : ℕ
   nodeFrom = nodeStart (suc l) (g .from) rs
 
-  abbrev nodeTo : ℕ
+  abbrev pub nodeTo : ℕ
   nodeTo = nodeEnd (suc l) (g .from) rs
 
   abbrev turn : Bool → Range
@@ -43,11 +43,11 @@ module _ (f l : ℕ) (g : Range) (rs : List Placed) where
   unfolding widened
   stops-at-root e = ap turn (or-left (eqb (heightAt rs 0) (suc l)) (ltb 3 (entries l nodeFrom nodeTo rs)) (eq-eqb (heightAt rs 0) (suc l) e))
 
-  stops : 3 < entries l nodeFrom nodeTo rs → widened (suc f) l g rs ≡ g
+  pub stops : 3 < entries l nodeFrom nodeTo rs → widened (suc f) l g rs ≡ g
   unfolding widened
   stops c = ap turn (or-right (eqb (heightAt rs 0) (suc l)) (ltb 3 (entries l nodeFrom nodeTo rs)) (lt-ltb 3 (entries l nodeFrom nodeTo rs) c))
 
-  grows : suc l < heightAt rs 0 → entries l nodeFrom nodeTo rs ≤ 3 → widened (suc f) l g rs ≡ widened f (suc l) (record { from = nodeFrom; to = nodeTo }) rs
+  pub grows : suc l < heightAt rs 0 → entries l nodeFrom nodeTo rs ≤ 3 → widened (suc f) l g rs ≡ widened f (suc l) (record { from = nodeFrom; to = nodeTo }) rs
   unfolding widened
   grows b c =
       ap turn

@@ -41,10 +41,10 @@ module _ {A : Type 0} (P : A → Type 0) (lt : A → A → Bool) (r : StrictOrde
     right-rising : rising lt (ys ++ zs) ≡ true
     right-rising = rising-right lt xs (ys ++ zs) k
 
-    ends-each : Each P (xs ++ zs)
+    pub ends-each : Each P (xs ++ zs)
     ends-each = each-append P xs zs (each-left P xs (ys ++ zs) p) (each-right P ys zs right-each)
 
-    ends-rising : rising lt (xs ++ zs) ≡ true
+    pub ends-rising : rising lt (xs ++ zs) ≡ true
     ends-rising =
         rising-append lt xs zs (rising-left lt xs (ys ++ zs) k) (rising-right lt ys zs right-rising)
         (each-mono (λ x. BeforeEach lt x (ys ++ zs)) (λ x. BeforeEach lt x zs) xs (λ x. each-right (λ y. lt x y ≡ true) ys zs)
@@ -65,7 +65,7 @@ module _ {A : Type 0} (P : A → Type 0) (lt : A → A → Bool) (r : StrictOrde
 
 -- ---- the number of the move
 
-one-numbered : (n : ℕ) (ms : List Move) → distinct (map (λ m. m .number) ms) ≡ true → onBoard n ms ≡ true → count (numbered n) ms ≡ 1
+pub one-numbered : (n : ℕ) (ms : List Move) → distinct (map (λ m. m .number) ms) ≡ true → onBoard n ms ≡ true → count (numbered n) ms ≡ 1
 unfolding onBoard any distinct
 one-numbered n [] u b = both-ways b refl
 one-numbered n (m ∷ ms) u b =

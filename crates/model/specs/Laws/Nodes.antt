@@ -74,7 +74,7 @@ node-self : (ms : List Move) → NodeIn ms (nodeOf ms)
 unfolding nodeOf
 node-self ms = record { made = refl; run = run-self ms }
 
-node-wider : {ms ns : List Move} → RunOf ms ns → (n : Node) → NodeIn ms n → NodeIn ns n
+pub node-wider : {ms ns : List Move} → RunOf ms ns → (n : Node) → NodeIn ms n → NodeIn ns n
 node-wider r n i = record { made = i .made; run = run-trans (i .run) r }
 
 -- A child's moves among those of its parent.
@@ -215,10 +215,10 @@ module _ (d c : ℕ) (l : d ≤ rowCosts) where
           (from-first ms es r m) (to-last ms es r m)
 
     module _ {ns : List Move} (run : RunOf ns ms) where
-      run-fit : Each (Fit c d) ns
+      pub run-fit : Each (Fit c d) ns
       run-fit = each-left (Fit c d) ns (run .back) (each-right (Fit c d) (run .front) (ns ++ run .back) (subst (Each (Fit c d)) (run .joined) es))
 
-      run-ordered : ordered d ns ≡ true
+      pub run-ordered : ordered d ns ≡ true
       unfolding ordered
       run-ordered =
           rising-left (moveBefore d) ns (run .back)

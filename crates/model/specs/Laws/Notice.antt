@@ -52,11 +52,11 @@ same-true m n h =
     let b = equal (m .costs) (n .costs) in
     move-path m n (eqb-true (m .number) (n .number) (and-left a b h), equal-true (m .costs) (n .costs) (and-right a b h))
 
-mem-among : {m : Move} {ns : List Move} → List·Memᴰ m ns → among m ns ≡ true
+pub mem-among : {m : Move} {ns : List Move} → List·Memᴰ m ns → among m ns ≡ true
 unfolding among
 mem-among {m} h = any-mem (sameMove m) h (same-refl m)
 
-among-mem : (m : Move) (ns : List Move) → among m ns ≡ true → List·Memᴰ m ns
+pub among-mem : (m : Move) (ns : List Move) → among m ns ≡ true → List·Memᴰ m ns
 unfolding among
 among-mem m ns h =
     let w = any-witness (sameMove m) ns h in
