@@ -1,0 +1,63 @@
+-- `sound::numbers_right` meets its contract. The loop's invariant: the numbers passed are below C. Assumes nothing.
+use Prim.Native.Nat.{ℕ, _-_, _≤_}
+use mathlib.Core.Bool.{true}
+use mathlib.Core.Path.{_≡_, sym, subst}
+use native.Mathlib.Omega.{arith}
+use Rattle.memory.specs.Tests.{numbersRight}
+use Rattle.memory.specs.Laws.Turns.{numbers-none, numbers-more, numbers-fail}
+use Rattle.memory.proofs.sound.numbers_right.Statement.{statement}
+use Rattle.memory.proofs.sound.numbers_right.Tie as tie
+
+abbrev Inv-loop : tie.InvT-loop
+Inv-loop m c n i₀ i = (i ≤ n) × (numbersRight c i m ≡ true)
+
+abbrev μ-loop : tie.MeasureT-loop
+μ-loop m c n i₀ i = n - i
+
+loop-holds : tie.Need-loop-holds Inv-loop μ-loop
+loop-holds c = let a = c .before .args in (omega arith, numbers-none (a .c) (a .m .now))
+
+number-at-requires : tie.Need-number-at-requires Inv-loop μ-loop
+number-at-requires c κs = omega arith
+
+cast-if1 : tie.Need-cast-if1 Inv-loop μ-loop
+cast-if1 c = omega arith
+
+returns : tie.Need-returns Inv-loop μ-loop
+returns c =
+    let a = c .before .before .before .before .before .args in
+    sym (numbers-fail (a .c) (a .m .now) (a .n) (c .before .before .before .loop .i) (omega arith) (omega arith))
+
+add-i : tie.Need-add-i Inv-loop μ-loop
+add-i c = omega arith
+
+loop-less : tie.Need-loop-less Inv-loop μ-loop
+loop-less c = omega arith
+
+loop-again : tie.Need-loop-again Inv-loop μ-loop
+loop-again c =
+    let a = c .before .before .before .before .before .args in
+    let own = c .before .before .before .loop in
+    (omega arith, numbers-more (a .c) (a .m .now) (own .i) (own .inv .1) (omega arith))
+
+returns-2 : tie.Need-returns-2 Inv-loop μ-loop
+returns-2 c =
+    let a = c .before .before .before .args in
+    let own = c .before .loop in
+    let all : own .i ≡ a .n = omega arith in
+    sym (subst (λ (k : ℕ). numbersRight (a .c) k (a .m .now) ≡ true) all (own .inv .1))
+
+pub numbers-right-spec : {M : Type 1} → statement M
+numbers-right-spec =
+    tie.close
+    (tie.spec
+    Inv-loop
+    μ-loop
+    loop-holds
+    number-at-requires
+    cast-if1
+    returns
+    add-i
+    loop-less
+    loop-again
+    returns-2)

@@ -1,0 +1,53 @@
+-- `stores::set_head` meets its contract. Assumes nothing.
+use Prim.Native.Nat.{ℕ}
+use mathlib.Core.List.{List}
+use mathlib.Core.Path.{ap, _∙_}
+use native.Mathlib.Omega.{arith}
+use borrow.Author.Needs.{needs}
+use lib.ListN.{set, length-set}
+use Rattle.promises.specs.Layout.{setWord}
+use Rattle.memory.specs.Stores.{setHead}
+use Rattle.memory.proofs.stores.set_head.Statement.{statement}
+use Rattle.memory.proofs.stores.set_head.Tie as tie
+
+cast-set-word : tie.Need-cast-set-word
+cast-set-word c = search needs
+
+set-word-requires : tie.Need-set-word-requires
+set-word-requires c κs = search needs
+
+cast-m : tie.Need-cast-m
+cast-m c = search needs
+
+slice-write-m : tie.Need-slice-write-m
+slice-write-m c = search needs
+
+cast-set-word-2 : tie.Need-cast-set-word-2
+cast-set-word-2 c = search needs
+
+set-word-requires-2 : tie.Need-set-word-requires-2
+set-word-requires-2 c κs = simp length-set (omega arith)
+
+same-length : tie.Need-same-length
+same-length c =
+    omega (arith, length-set (c .before .before .before .before .before .before .set-word .last .0) 2 (c .before .before .before .before .before .before .before .before .before .args .d))
+
+returns : tie.Need-returns
+unfolding setHead
+returns c =
+    let a = c .before .before .before .before .before .before .before .before .before .args in
+    c .before .before .set-word2 .ensures
+    ∙ ap (λ (l : List ℕ). setWord 4 (a .n) (set l 2 (a .d))) (c .before .before .before .before .before .before .set-word .ensures)
+
+pub set-head-spec : {M : Type 1} → statement M
+set-head-spec =
+    tie.close
+    (tie.spec
+    cast-set-word
+    set-word-requires
+    cast-m
+    slice-write-m
+    cast-set-word-2
+    set-word-requires-2
+    same-length
+    returns)

@@ -1,0 +1,41 @@
+-- `stores::set_listed` meets its contract. Assumes nothing.
+use mathlib.Core.Bool.{Bool, cond}
+use mathlib.Core.Logic.{⊎-elim}
+use mathlib.Core.Path.{sym, ap, _∙_}
+use borrow.Author.Needs.{needs}
+use lib.ListN.{set}
+use Rattle.promises.specs.Layout.{markPlace}
+use Rattle.memory.specs.Stores.{setListed}
+use Rattle.memory.proofs.stores.set_listed.Statement.{statement}
+use Rattle.memory.proofs.stores.set_listed.Tie as tie
+
+mul-m : tie.Need-mul-m
+mul-m c = search needs
+
+add-m : tie.Need-add-m
+add-m c = search needs
+
+cast-m : tie.Need-cast-m
+cast-m c = search needs
+
+add-m-2 : tie.Need-add-m-2
+add-m-2 c = search needs
+
+slice-write-m : tie.Need-slice-write-m
+slice-write-m c = search needs
+
+same-length : tie.Need-same-length
+same-length c = search needs
+
+returns : tie.Need-returns
+unfolding setListed markPlace
+returns c =
+    let a = c .before .args in
+    ap (set (a .m .now) (markPlace (a .c) (a .number)))
+    (⊎-elim
+    (λ w. w .1 ∙ ap (λ (b : Bool). cond b 1 0) (sym (w .0 .taken)))
+    (λ w. w .1 ∙ ap (λ (b : Bool). cond b 1 0) (sym (w .0 .left)))
+    (c .if1 .came))
+
+pub set-listed-spec : {M : Type 1} → statement M
+set-listed-spec = tie.close (tie.spec mul-m add-m cast-m add-m-2 slice-write-m same-length returns)

@@ -1,0 +1,13 @@
+-- What the functions ask that work on sound memory.
+use Prim.Native.Nat.{ℕ}
+use mathlib.Core.Path.{_≡_}
+use mathlib.Core.List.{List}
+use Rattle.promises.specs.Layout.{sizeIn, dimensionIn, countIn}
+use Rattle.promises.specs.Sound.{Sound}
+
+-- The memory is sound, and c, d and n are its own.
+pub record SoundAt (c d n : ℕ) (m : List ℕ) : Type 0 where
+  pub size : c ≡ sizeIn m
+  pub dimension : d ≡ dimensionIn m
+  pub count : n ≡ countIn m
+  pub sound : Sound m

@@ -1,0 +1,14 @@
+-- What the stores leave of each field, and that the tests decide `Sound`.
+pub mod Tab
+pub mod Frames
+pub mod Fields
+pub mod Stored
+pub mod Lines
+pub mod Places
+pub mod Turns
+pub mod Levels
+pub mod Head
+pub mod Marks
+pub mod Decide
+pub mod Front
+pub mod Held

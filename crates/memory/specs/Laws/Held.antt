@@ -1,0 +1,131 @@
+-- What sound memory gives of its rows, its marks and its moves, for its own c, d and n.
+use Prim.Native.Nat.{ℕ, zero, suc, _≤_, _<_}
+use mathlib.Core.Bool.{Bool, true, false, not}
+use mathlib.Core.List.{List, [], _∷_, map, List·Memᴰ, List·Memᴰ·head, List·Memᴰ·tail}
+use mathlib.Core.Path.{_≡_, refl, sym, ap, _∙_, subst}
+use native.Mathlib.Nat.{le-of-suc-le-suc}
+use native.Mathlib.Omega.{arith}
+use borrow.Author.Tests.{leb-true, eqb-false, not-false}
+use lib.Dec.{eqb, leb}
+use lib.ListN.{length, getD}
+use Rattle.zorder.specs.Between.{rowCosts}
+use Rattle.model.specs.Basics.{Each, select, distinct, within, has}
+use Rattle.model.specs.Moves.{Move, ordered}
+use Rattle.model.specs.Lists.{hidden, skyline}
+use Rattle.model.specs.Calls.{sizeBad, memoryNeed}
+use Rattle.model.specs.Sound.{Fit}
+use Rattle.model.specs.Laws.Bool.{same-test, and-left, and-right, not-back}
+use Rattle.model.specs.Laws.Basics.{mem-each, each-mem, select-mem, mem-select, any-false}
+use Rattle.line.specs.Line.{Placed, movesIn}
+use Rattle.promises.specs.Layout.{sizeIn, dimensionIn, countIn, numberIn, markIn, moveIn, placedIn, tab, lineFrom, lineIn, boardIn, keptFrom, keptIn}
+use Rattle.promises.specs.Sound.{Stands}
+use Rattle.promises.specs.Run.{Bytes}
+use Rattle.promises.specs.Laws.Stands.{stands-dimension, stands-moves, stands-order, stands-fit, stands-once}
+use Rattle.memory.specs.Room.{Room, Numbers}
+use Rattle.memory.specs.Held.{SoundAt}
+use Rattle.memory.specs.Tests.{isListed}
+use Rattle.memory.specs.Laws.Tab.{length-tab, getD-tab, map-tab}
+use Rattle.memory.specs.Laws.Places.{tab-each}
+use Rattle.memory.specs.Laws.Lines.{movesIn-line}
+
+-- Two tests that select the same entries agree at each.
+pub select-same : {A : Type 0} (p q : A → Bool) (xs : List A) → select p xs ≡ select q xs → Each (λ x. p x ≡ q x) xs
+select-same p q xs e =
+    mem-each (λ x. p x ≡ q x) xs (λ x k.
+    same-test (p x) (q x) (λ h. select-mem q xs (subst (List·Memᴰ x) e (mem-select p k h)) .1)
+    (λ h. select-mem p xs (subst (List·Memᴰ x) (sym e) (mem-select q k h)) .1))
+
+mem-at : {A : Type 0} (xs : List A) (z : A) (i : ℕ) → i < length xs → List·Memᴰ (getD xs i z) xs
+mem-at [] z i h = absurd (omega arith)
+mem-at (x ∷ xs) z zero h = List·Memᴰ·head refl
+mem-at (x ∷ xs) z (suc i) h = List·Memᴰ·tail (mem-at xs z i (le-of-suc-le-suc h))
+
+no-other : (n : ℕ) (ns : List ℕ) → has n ns ≡ false → (i : ℕ) → i < length ns → n ≡ getD ns i 0 → ⊥
+unfolding has
+no-other n ns r i h =
+    eqb-false n (getD ns i 0) (each-mem (λ x. eqb n x ≡ false) (any-false (eqb n) ns r) (mem-at ns 0 i h))
+
+distinct-places : (ns : List ℕ) → distinct ns ≡ true → (i j : ℕ) → i < length ns → j < length ns → getD ns i 0 ≡ getD ns j 0 → i ≡ j
+unfolding distinct
+distinct-places [] r i j h k e = absurd (omega arith)
+distinct-places (n ∷ ns) r zero zero h k e = refl
+distinct-places (n ∷ ns) r zero (suc j) h k e =
+    absurd (no-other n ns (not-back (has n ns) (and-left (not (has n ns)) (distinct ns) r)) j (le-of-suc-le-suc k) e)
+distinct-places (n ∷ ns) r (suc i) zero h k e =
+    absurd (no-other n ns (not-back (has n ns) (and-left (not (has n ns)) (distinct ns) r)) i (le-of-suc-le-suc h) (sym e))
+distinct-places (n ∷ ns) r (suc i) (suc j) h k e =
+    ap suc (distinct-places ns (and-right (not (has n ns)) (distinct ns) r) i j (le-of-suc-le-suc h) (le-of-suc-le-suc k) e)
+
+size-most : (c : ℕ) → sizeBad c ≡ false → c ≤ 4096
+unfolding sizeBad within
+size-most c h = leb-true c 4096 (and-right (leb 16 c) (leb c 4096) (not-false (within 16 4096 c) h))
+
+module _ (c d n : ℕ) (m : List ℕ) (s : SoundAt c d n m) where
+  own : (P : ℕ → ℕ → ℕ → Type 0) → P (sizeIn m) (dimensionIn m) (countIn m) → P c d n
+  own P x =
+      subst (λ (k : ℕ). P k d n) (sym (s .size))
+      (subst (λ (k : ℕ). P (sizeIn m) k n) (sym (s .dimension))
+      (subst (λ (k : ℕ). P (sizeIn m) (dimensionIn m) k) (sym (s .count)) x))
+
+  stands : Stands m (s .sound .tree)
+  stands = s .sound .stands
+
+  pub held-dimension : d ≤ rowCosts
+  held-dimension = own (λ _ d _. d ≤ rowCosts) (stands-dimension m (s .sound .tree) stands)
+
+  pub held-room : Room c m
+  unfolding memoryNeed
+  held-room = own (λ c _ _. Room c m) (stands .room, size-most (sizeIn m) (stands .size))
+
+  pub held-few : n ≤ c
+  held-few = own (λ c _ n. n ≤ c) (stands .count)
+
+  pub held-numbers : Numbers c n m
+  unfolding lineIn lineFrom placedIn moveIn
+  held-numbers =
+      own (λ c _ n. Numbers c n m)
+      (λ i h. tab-each (placedIn (sizeIn m) (dimensionIn m) m) (λ (r : Placed). r .move .number < sizeIn m) (countIn m) i h (stands .numbers))
+
+  pub held-order : ordered d (movesIn (lineFrom c d n m)) ≡ true
+  unfolding boardIn lineIn
+  held-order = own (λ c d n. ordered d (movesIn (lineFrom c d n m)) ≡ true) (stands-order m (s .sound .tree) stands)
+
+  pub held-kept : keptFrom c m (movesIn (lineFrom c d n m)) ≡ skyline d (movesIn (lineFrom c d n m))
+  unfolding boardIn lineIn keptIn
+  held-kept =
+      own (λ c d n. keptFrom c m (movesIn (lineFrom c d n m)) ≡ skyline d (movesIn (lineFrom c d n m)))
+      (stands .kept ∙ ap (skyline (dimensionIn m)) (stands-moves m (s .sound .tree) stands))
+
+  -- The marks say who is in the list.
+  pub held-listed : (i : ℕ) → i < n → isListed c d m i ≡ not (hidden d (movesIn (lineFrom c d n m)) (moveIn c d m i))
+  unfolding isListed keptFrom skyline
+  held-listed i h =
+      tab-each (moveIn c d m) Right n i h (subst (Each Right) (movesIn-line c d n m) (select-same _ _ (movesIn (lineFrom c d n m)) held-kept))
+    where
+      Right : Move → Type 0
+      Right x = eqb (markIn c m (x .number)) 1 ≡ not (hidden d (movesIn (lineFrom c d n m)) x)
+
+  module _ (b : Bytes m) where
+    pub held-fit : Each (Fit c d) (movesIn (lineFrom c d n m))
+    unfolding boardIn lineIn
+    held-fit = own (λ c d n. Each (Fit c d) (movesIn (lineFrom c d n m))) (stands-fit m (s .sound .tree) stands b)
+
+    pub held-fit-at : (i : ℕ) → i < n → Fit c d (moveIn c d m i)
+    held-fit-at i h = tab-each (moveIn c d m) (Fit c d) n i h (subst (Each (Fit c d)) (movesIn-line c d n m) held-fit)
+
+    pub held-distinct : distinct (map (λ x. x .number) (movesIn (lineFrom c d n m))) ≡ true
+    unfolding boardIn lineIn
+    held-distinct =
+        own (λ c d n. distinct (map (λ x. x .number) (movesIn (lineFrom c d n m))) ≡ true) (stands-once m (s .sound .tree) stands b)
+
+    -- No number stands at two places.
+    pub held-once : (i j : ℕ) → i < n → j < n → numberIn c m i ≡ numberIn c m j → i ≡ j
+    unfolding moveIn
+    held-once i j h k e =
+        distinct-places (tab (numberIn c m) n)
+        (subst (λ (ns : List ℕ). distinct ns ≡ true)
+        (ap (map (λ x. x .number)) (movesIn-line c d n m) ∙ map-tab (λ (x : Move). x .number) (moveIn c d m) n) held-distinct)
+        i j
+        (omega (arith, length-tab (numberIn c m) n))
+        (omega (arith, length-tab (numberIn c m) n))
+        (getD-tab (numberIn c m) 0 n i h ∙ e ∙ sym (getD-tab (numberIn c m) 0 n j k))

@@ -1,0 +1,232 @@
+-- The frame of each store, and what is read after it.
+use Prim.Native.Nat.{ℕ, zero, suc, _+_, _*_, _≤_, _<_}
+use mathlib.Core.Bool.{Bool, true, false, cond}
+use mathlib.Core.List.{List, [], _∷_}
+use mathlib.Core.Logic.{_⊎_, inl, inr, ⊎-map, _≢_}
+use mathlib.Core.Path.{_≡_, refl, sym, ap, _∙_}
+use native.Mathlib.Decide.{decLt}
+use native.Mathlib.Nat.{add-zero, zero-add}
+use native.Mathlib.Omega.{arith}
+use lib.Dec.{eqb}
+use lib.ListN.{length, getD, set, take, length-set}
+use lib.Seq.{getD-set-same, getD-take, length-take-le}
+use Rattle.zorder.specs.Address.{rowCosts, padded}
+use Rattle.zorder.specs.Between.{RowCosts}
+use Rattle.zorder.specs.Laws.Between.{row-padded}
+use Rattle.promises.specs.Layout.{setWord, numberPlace, heightPlace, markPlace, costPlace, workPlace, sizeIn, dimensionIn, countIn, numberIn, heightIn, markIn, costIn, workIn, costsIn}
+use Rattle.memory.specs.Room.{Room}
+use Rattle.memory.specs.Stores.{setHead, setCount, setNumber, setHeight, setListed, setCostsFrom, setCosts, setWork}
+use Rattle.memory.specs.Frame.{Frame, RowsOnly, MarksOnly, CostsOnly, WorkOnly}
+use Rattle.memory.specs.Laws.Frames.{frame-refl, frame-trans, frame-widen, byte-frame, word-frame, byte-across, word-across, word-stored, word-length}
+use Rattle.memory.specs.Laws.Fields.{number-over, height-over, mark-over, costs-over, work-over}
+use Rattle.memory.specs.Laws.Tab.{tab-of}
+
+apart : {i j : ℕ} → j ≢ i → (j < i) ⊎ (i < j)
+apart {i} {j} ne = go (decLt j i)
+  where
+    go : Dec (j < i) → (j < i) ⊎ (i < j)
+    go (yes l) = inl l
+    go (no n) = inr (omega arith)
+
+-- ---- frames
+
+pub setCount-frame : (n : ℕ) (m : List ℕ) → Frame 4 6 m (setCount n m)
+unfolding setCount
+setCount-frame n m = word-frame 4 n m
+
+pub setHead-frame : (c d n : ℕ) (m : List ℕ) → Frame 0 16 m (setHead c d n m)
+unfolding setHead
+setHead-frame c d n m =
+    let m₁ : List ℕ = setWord 0 c m in
+    let m₂ : List ℕ = set m₁ 2 d in
+    frame-trans (frame-widen (omega arith) (omega arith) (word-frame 0 c m))
+    (frame-trans (frame-widen (omega arith) (omega arith) (byte-frame 2 d m₁)) (frame-widen (omega arith) (omega arith) (word-frame 4 n m₂)))
+
+module _ (c i : ℕ) (m : List ℕ) where
+  pub setNumber-frame : (v : ℕ) → Frame (16 + 2 * i) (18 + 2 * i) m (setNumber c i v m)
+  unfolding setNumber numberPlace
+  setNumber-frame v = frame-widen (omega arith) (omega arith) (word-frame (16 + 2 * i) v m)
+
+  pub setHeight-frame : (h : ℕ) → Frame (16 + 2 * c + i) (17 + 2 * c + i) m (setHeight c i h m)
+  unfolding setHeight heightPlace
+  setHeight-frame h = frame-widen (omega arith) (omega arith) (byte-frame (16 + 2 * c + i) h m)
+
+  pub setListed-frame : (b : Bool) → Frame (16 + 3 * c + i) (17 + 3 * c + i) m (setListed c i b m)
+  unfolding setListed markPlace
+  setListed-frame b = frame-widen (omega arith) (omega arith) (byte-frame (16 + 3 * c + i) (cond b 1 0) m)
+
+  pub setWork-frame : (v : ℕ) → Frame (16 + 21 * c + 2 * i) (18 + 21 * c + 2 * i) m (setWork c i v m)
+  unfolding setWork workPlace
+  setWork-frame v = frame-widen (omega arith) (omega arith) (word-frame (16 + 21 * c + 2 * i) v m)
+
+setCostsFrom-frame : (c n j : ℕ) (vs m : List ℕ) → Frame (16 + 5 * c + 16 * n + 2 * j) (16 + 5 * c + 16 * n + 2 * (j + length vs)) m (setCostsFrom c n j vs m)
+unfolding setCostsFrom costPlace
+setCostsFrom-frame c n j [] m = frame-refl m
+setCostsFrom-frame c n j (v ∷ vs) m =
+    frame-trans (frame-widen (omega arith) (omega arith) (word-frame (costPlace c n j) v m))
+    (frame-widen (omega arith) (omega arith) (setCostsFrom-frame c n (suc j) vs (setWord (costPlace c n j) v m)))
+
+pub setCosts-frame : (c n : ℕ) (costs m : List ℕ) → Frame (16 + 5 * c + 16 * n) (16 + 5 * c + 16 * n + 2 * length costs) m (setCosts c n costs m)
+unfolding setCosts
+setCosts-frame c n costs m = frame-widen (omega arith) (omega arith) (setCostsFrom-frame c n 0 costs m)
+
+-- The same by areas, for an index within them.
+module _ (c i : ℕ) (m : List ℕ) (h : i < c) where
+  pub setNumber-rows : (v : ℕ) → RowsOnly c m (setNumber c i v m)
+  setNumber-rows v = frame-widen (omega arith) (omega arith) (setNumber-frame c i m v)
+
+  pub setHeight-rows : (k : ℕ) → RowsOnly c m (setHeight c i k m)
+  setHeight-rows k = frame-widen (omega arith) (omega arith) (setHeight-frame c i m k)
+
+  pub setListed-marks : (b : Bool) → MarksOnly c m (setListed c i b m)
+  setListed-marks b = frame-widen (omega arith) (omega arith) (setListed-frame c i m b)
+
+  pub setCosts-costs : (costs : List ℕ) → length costs ≤ rowCosts → CostsOnly c m (setCosts c i costs m)
+  setCosts-costs costs few = frame-widen (omega arith) (omega arith) (setCosts-frame c i costs m)
+
+  pub setWork-work : (v : ℕ) → WorkOnly c m (setWork c i v m)
+  setWork-work v = frame-widen (omega arith) (omega arith) (setWork-frame c i m v)
+
+pub setCount-head : (n : ℕ) (m : List ℕ) → Frame 0 16 m (setCount n m)
+setCount-head n m = frame-widen (omega arith) (omega arith) (setCount-frame n m)
+
+-- ---- the length
+
+pub length-setHead : (c d n : ℕ) (m : List ℕ) → length (setHead c d n m) ≡ length m
+length-setHead c d n m = setHead-frame c d n m .length
+
+pub length-setCount : (n : ℕ) (m : List ℕ) → length (setCount n m) ≡ length m
+length-setCount n m = setCount-frame n m .length
+
+pub length-setNumber : (c i v : ℕ) (m : List ℕ) → length (setNumber c i v m) ≡ length m
+length-setNumber c i v m = setNumber-frame c i m v .length
+
+pub length-setHeight : (c i h : ℕ) (m : List ℕ) → length (setHeight c i h m) ≡ length m
+length-setHeight c i h m = setHeight-frame c i m h .length
+
+pub length-setListed : (c n : ℕ) (b : Bool) (m : List ℕ) → length (setListed c n b m) ≡ length m
+length-setListed c n b m = setListed-frame c n m b .length
+
+pub length-setCosts : (c n : ℕ) (costs m : List ℕ) → length (setCosts c n costs m) ≡ length m
+length-setCosts c n costs m = setCosts-frame c n costs m .length
+
+pub length-setWork : (c i v : ℕ) (m : List ℕ) → length (setWork c i v m) ≡ length m
+length-setWork c i v m = setWork-frame c i m v .length
+
+-- ---- the head
+
+module _ (c d n : ℕ) (m : List ℕ) (h : 16 ≤ length m) where
+  pub size-setHead : sizeIn (setHead c d n m) ≡ c
+  unfolding setHead sizeIn
+  size-setHead =
+      let m₁ : List ℕ = setWord 0 c m in
+      word-across (word-frame 4 n (set m₁ 2 d)) 0 (inl (omega arith))
+      ∙ word-across (byte-frame 2 d m₁) 0 (inl (omega arith))
+      ∙ word-stored 0 c m (omega arith)
+
+  pub dimension-setHead : dimensionIn (setHead c d n m) ≡ d
+  unfolding setHead dimensionIn
+  dimension-setHead =
+      let m₁ : List ℕ = setWord 0 c m in
+      byte-across (word-frame 4 n (set m₁ 2 d)) 2 (inl (omega arith))
+      ∙ getD-set-same m₁ 2 d 0 (omega (arith, word-length 0 c m))
+
+  pub count-setHead : countIn (setHead c d n m) ≡ n
+  unfolding setHead countIn
+  count-setHead =
+      let m₁ : List ℕ = setWord 0 c m in
+      word-stored 4 n (set m₁ 2 d) (omega (arith, length-set m₁ 2 d, word-length 0 c m))
+
+module _ (n : ℕ) (m : List ℕ) where
+  pub count-setCount : 16 ≤ length m → countIn (setCount n m) ≡ n
+  unfolding setCount countIn
+  count-setCount h = word-stored 4 n m (omega arith)
+
+  pub size-setCount : sizeIn (setCount n m) ≡ sizeIn m
+  unfolding sizeIn
+  size-setCount = word-across (setCount-frame n m) 0 (inl (omega arith))
+
+  pub dimension-setCount : dimensionIn (setCount n m) ≡ dimensionIn m
+  unfolding dimensionIn
+  dimension-setCount = byte-across (setCount-frame n m) 2 (inl (omega arith))
+
+-- ---- rows, marks and work by index
+
+module _ (c i : ℕ) (m : List ℕ) where
+  module _ (room : Room c m) (h : i < c) where
+    pub number-setNumber : (v : ℕ) → numberIn c (setNumber c i v m) i ≡ v
+    unfolding numberIn setNumber numberPlace
+    number-setNumber v = word-stored (16 + 2 * i) v m (omega arith)
+
+    pub height-setHeight : (k : ℕ) → heightIn c (setHeight c i k m) i ≡ k
+    unfolding heightIn setHeight heightPlace
+    height-setHeight k = getD-set-same m (16 + 2 * c + i) k 0 (omega arith)
+
+    pub mark-setListed : (b : Bool) → markIn c (setListed c i b m) i ≡ cond b 1 0
+    unfolding markIn setListed markPlace
+    mark-setListed b = getD-set-same m (16 + 3 * c + i) (cond b 1 0) 0 (omega arith)
+
+    pub work-setWork : (v : ℕ) → workIn c (setWork c i v m) i ≡ v
+    unfolding workIn setWork workPlace
+    work-setWork v = word-stored (16 + 21 * c + 2 * i) v m (omega arith)
+
+    pub listed-setListed : (b : Bool) → eqb (markIn c (setListed c i b m) i) 1 ≡ b
+    listed-setListed b = ap (λ (n : ℕ). eqb n 1) (mark-setListed b) ∙ one-or-zero b
+      where
+        one-or-zero : (b : Bool) → eqb (cond b 1 0) 1 ≡ b
+        one-or-zero true = refl
+        one-or-zero false = refl
+
+  module _ (j : ℕ) (ne : j ≢ i) where
+    pub number-setNumber-other : (v : ℕ) → numberIn c (setNumber c i v m) j ≡ numberIn c m j
+    number-setNumber-other v = number-over (setNumber-frame c i m v) c j (⊎-map (λ l. omega arith) (λ l. omega arith) (apart ne))
+
+    pub height-setHeight-other : (k : ℕ) → heightIn c (setHeight c i k m) j ≡ heightIn c m j
+    height-setHeight-other k = height-over (setHeight-frame c i m k) c j (⊎-map (λ l. omega arith) (λ l. omega arith) (apart ne))
+
+    pub mark-setListed-other : (b : Bool) → markIn c (setListed c i b m) j ≡ markIn c m j
+    mark-setListed-other b = mark-over (setListed-frame c i m b) c j (⊎-map (λ l. omega arith) (λ l. omega arith) (apart ne))
+
+    pub work-setWork-other : (v : ℕ) → workIn c (setWork c i v m) j ≡ workIn c m j
+    work-setWork-other v = work-over (setWork-frame c i m v) c j (⊎-map (λ l. omega arith) (λ l. omega arith) (apart ne))
+
+    pub costs-setCosts-other : (d : ℕ) (costs : List ℕ) → d ≤ rowCosts → length costs ≤ rowCosts → costsIn c d (setCosts c i costs m) j ≡ costsIn c d m j
+    costs-setCosts-other d costs l few = costs-over (setCosts-frame c i costs m) c d j (⊎-map (λ k. omega arith) (λ k. omega arith) (apart ne))
+
+  pub number-setHeight : (j k : ℕ) → j < c → numberIn c (setHeight c i k m) j ≡ numberIn c m j
+  number-setHeight j k l = number-over (setHeight-frame c i m k) c j (inl (omega arith))
+
+  pub height-setNumber : (j v : ℕ) → i < c → heightIn c (setNumber c i v m) j ≡ heightIn c m j
+  height-setNumber j v l = height-over (setNumber-frame c i m v) c j (inr (omega arith))
+
+-- ---- costs
+
+cost-setCostsFrom : (c n j : ℕ) (vs m : List ℕ) (i : ℕ) → 16 + 5 * c + 16 * n + 2 * (j + length vs) ≤ length m → i < length vs → costIn c (setCostsFrom c n j vs m) n (j + i) ≡ getD vs i 0
+unfolding setCostsFrom costIn costPlace
+cost-setCostsFrom c n j [] m i room h = absurd (omega arith)
+cost-setCostsFrom c n j (v ∷ vs) m zero room h =
+    let m₁ : List ℕ = setWord (costPlace c n j) v m in
+    ap (λ (k : ℕ). costIn c (setCostsFrom c n (suc j) vs m₁) n k) (add-zero j)
+    ∙ word-across (setCostsFrom-frame c n (suc j) vs m₁) (costPlace c n j) (inl (omega arith))
+    ∙ word-stored (costPlace c n j) v m (omega arith)
+cost-setCostsFrom c n j (v ∷ vs) m (suc i) room h =
+    let m₁ : List ℕ = setWord (costPlace c n j) v m in
+    let next : j + suc i ≡ suc j + i = omega arith in
+    ap (λ (k : ℕ). costIn c (setCostsFrom c n (suc j) vs m₁) n k) next
+    ∙ cost-setCostsFrom c n (suc j) vs m₁ i (omega (arith, word-length (costPlace c n j) v m)) (omega arith)
+
+module _ (c d n : ℕ) (costs m : List ℕ) (l : d ≤ rowCosts) (row : RowCosts d costs) where
+  cost-setCosts : Room c m → n < c → (i : ℕ) → i < d → costIn c (setCosts c n costs m) n i ≡ getD costs i 0
+  unfolding setCosts
+  cost-setCosts room h i k =
+      let m' : List ℕ = setCosts c n costs m in
+      ap (λ (j : ℕ). costIn c m' n j) (sym (zero-add i)) ∙ cost-setCostsFrom c n 0 costs m i (omega (arith, row .count)) (omega (arith, row .count))
+
+  pub costs-setCosts : Room c m → n < c → costsIn c d (setCosts c n costs m) n ≡ costs
+  unfolding costsIn
+  costs-setCosts room h =
+      let m' : List ℕ = setCosts c n costs m in
+      ap (padded d)
+      (sym (tab-of (costIn c m' n) 0 d (take d costs) (length-take-le d costs (omega (arith, row .count)))
+      (λ i k. getD-take d costs i 0 k ∙ sym (cost-setCosts room h i k))))
+      ∙ row-padded d costs l row

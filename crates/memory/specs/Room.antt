@@ -1,0 +1,13 @@
+-- What the functions over the lent memory ask of it.
+use Prim.Native.Nat.{ℕ, _+_, _*_, _≤_, _<_}
+use mathlib.Core.List.{List}
+use lib.ListN.{length}
+use Rattle.promises.specs.Layout.{numberIn}
+
+-- The memory is long enough for a board of size c, and c is small enough for offsets not to wrap.
+abbrev pub Room : ℕ → List ℕ → Type 0
+Room c m = (64 * c + 1024 ≤ length m) × (c ≤ 4096)
+
+-- The numbers at the first n places are below c.
+abbrev pub Numbers : ℕ → ℕ → List ℕ → Type 0
+Numbers c n m = (i : ℕ) → i < n → numberIn c m i < c

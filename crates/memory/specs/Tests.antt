@@ -1,0 +1,49 @@
+-- What the tests of soundness compute. That together they decide `Sound` is a law (Laws/Decide).
+use Prim.Native.Nat.{ℕ, zero, suc, _-_}
+use mathlib.Core.Bool.{Bool, true, false, not, _&&_, Bool·beq}
+use mathlib.Core.Path.{_≡_}
+use mathlib.Core.List.{List}
+use lib.Dec.{leb, ltb, eqb}
+use lib.ListN.{length}
+use Rattle.zorder.specs.Refusal.{costCountBad}
+use Rattle.model.specs.Moves.{Move, moveBefore}
+use Rattle.model.specs.Dominance.{hides}
+use Rattle.model.specs.Calls.{sizeBad, memoryNeed}
+use Rattle.promises.specs.Layout.{sizeIn, dimensionIn, countIn, numberIn, markIn, moveIn}
+use Rattle.promises.specs.Sound.{Sound}
+
+-- A test passes at 0, 1, .., n-1.
+unfoldable pub allTo : (ℕ → Bool) → ℕ → Bool
+allTo p zero = true
+allTo p (suc n) = allTo p n && p n
+
+unfoldable pub anyTo : (ℕ → Bool) → ℕ → Bool
+anyTo p n = not (allTo (λ i. not (p i)) n)
+
+unfoldable pub headRight : List ℕ → Bool
+headRight m =
+    not (sizeBad (sizeIn m))
+    && not (costCountBad (dimensionIn m))
+    && leb (memoryNeed (sizeIn m)) (length m)
+    && leb (countIn m) (sizeIn m)
+
+unfoldable pub numbersRight : ℕ → ℕ → List ℕ → Bool
+numbersRight c n m = allTo (λ i. ltb (numberIn c m i) c) n
+
+unfoldable pub orderRight : ℕ → ℕ → ℕ → List ℕ → Bool
+orderRight c d n m = allTo (λ i. moveBefore d (moveIn c d m i) (moveIn c d m (suc i))) (n - 1)
+
+unfoldable pub isListed : ℕ → ℕ → List ℕ → ℕ → Bool
+isListed c d m i = eqb (markIn c m (moveIn c d m i .number)) 1
+
+-- A listed move at a place before i hides x.
+unfoldable pub hiddenBefore : ℕ → ℕ → List ℕ → ℕ → Move → Bool
+hiddenBefore c d m i x = anyTo (λ j. isListed c d m j && hides d (moveIn c d m j) x) i
+
+unfoldable pub marksRight : ℕ → ℕ → ℕ → List ℕ → Bool
+marksRight c d n m = allTo (λ i. Bool·beq (isListed c d m i) (not (hiddenBefore c d m i (moveIn c d m i)))) n
+
+-- The answer says whether the memory is sound.
+pub record Decides (r : Bool) (m : List ℕ) : Type 0 where
+  pub sound : r ≡ true → Sound m
+  pub unsound : r ≡ false → Sound m → ⊥

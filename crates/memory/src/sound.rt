@@ -1,0 +1,83 @@
+// Whether the memory is sound, decided for every content.
+use crate::fields::count;
+use crate::fields::dimension;
+use crate::fields::move_at;
+use crate::fields::number_at;
+use crate::fields::size;
+use crate::heights::heights_right;
+use crate::marks::marks_right;
+use crate::order::stands_before;
+ghost use mathlib.Core.Path.{_≡_};
+ghost use Prim.Native.Nat.{_≤_, _<_};
+ghost use Rattle.memory.specs.Room.{Room, Numbers};
+ghost use Rattle.memory.specs.Tests as tests;
+
+// Whether C, d and the number of moves are in range and the memory is long enough for C.
+fn head_right(m: &[u8]) -> bool
+    ensures { λ r. ⌜ r ≡ tests.headRight (now (m .entry)) ⌝ }
+{
+    if m.len() < 2048 {
+        return false;
+    }
+    let c = size(m);
+    let d = dimension(m);
+    if c < 16 || 4096 < c {
+        return false;
+    }
+    if d < 2 || 4 < d {
+        return false;
+    }
+    if m.len() < 64 * c + 1024 {
+        return false;
+    }
+    count(m) <= c
+}
+
+fn numbers_right(m: &[u8], c: usize, n: usize) -> bool
+    requires { ⌜ Room c (now m) × (n ≤ c) ⌝ }
+    ensures { λ r. ⌜ r ≡ tests.numbersRight c n (now (m .entry)) ⌝ }
+{
+    let mut i = 0;
+    while i < n {
+        if c <= (number_at(m, c, i) as usize) {
+            return false;
+        }
+        i += 1;
+    }
+    true
+}
+
+fn order_right(m: &[u8], c: usize, d: usize, n: usize) -> bool
+    requires { ⌜ Room c (now m) × (n ≤ c) × Numbers c n (now m) × (d ≤ 4) ⌝ }
+    ensures { λ r. ⌜ r ≡ tests.orderRight c d n (now (m .entry)) ⌝ }
+{
+    let mut i = 1;
+    while i < n {
+        if !stands_before(d, move_at(m, c, d, i - 1), move_at(m, c, d, i)) {
+            return false;
+        }
+        i += 1;
+    }
+    true
+}
+
+pub fn is_sound(m: &[u8]) -> bool
+    ensures { λ r. ⌜ tests.Decides r (now (m .entry)) ⌝ }
+{
+    if !head_right(m) {
+        return false;
+    }
+    let c = size(m);
+    let d = dimension(m);
+    let n = count(m);
+    if !numbers_right(m, c, n) {
+        return false;
+    }
+    if !order_right(m, c, d, n) {
+        return false;
+    }
+    if !heights_right(m, c, n) {
+        return false;
+    }
+    marks_right(m, c, d, n)
+}

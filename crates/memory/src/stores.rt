@@ -1,0 +1,65 @@
+// Each field written.
+use crate::bytes::set_word;
+use zorder::COSTS;
+ghost use mathlib.Core.Path.{_≡_};
+ghost use Prim.Native.Nat.{_≤_, _<_};
+ghost use lib.ListN.{length};
+ghost use Rattle.memory.specs.Room.{Room};
+ghost use Rattle.memory.specs.Stores as stores;
+
+// C, d and the number of moves.
+pub fn set_head(m: &mut [u8], c: usize, d: usize, n: usize)
+    requires { ⌜ (16 ≤ length (now m)) × (c < 65536) × (d < 256) × (n < 65536) ⌝ }
+    ensures { λ _. ⌜ now (m .exit) ≡ stores.setHead c d n (now (m .entry)) ⌝ }
+{
+    set_word(m, 0, c as u16);
+    m[2] = d as u8;
+    set_word(m, 4, n as u16);
+}
+
+pub fn set_count(m: &mut [u8], n: usize)
+    requires { ⌜ (16 ≤ length (now m)) × (n < 65536) ⌝ }
+    ensures { λ _. ⌜ now (m .exit) ≡ stores.setCount n (now (m .entry)) ⌝ }
+{
+    set_word(m, 4, n as u16);
+}
+
+pub fn set_number(m: &mut [u8], c: usize, i: usize, number: u16)
+    requires { ⌜ Room c (now m) × (i < c) ⌝ }
+    ensures { λ _. ⌜ now (m .exit) ≡ stores.setNumber c i number (now (m .entry)) ⌝ }
+{
+    set_word(m, 16 + 2 * i, number);
+}
+
+pub fn set_height(m: &mut [u8], c: usize, i: usize, height: u8)
+    requires { ⌜ Room c (now m) × (i < c) ⌝ }
+    ensures { λ _. ⌜ now (m .exit) ≡ stores.setHeight c i height (now (m .entry)) ⌝ }
+{
+    m[16 + 2 * c + i] = height;
+}
+
+pub fn set_listed(m: &mut [u8], c: usize, number: u16, listed: bool)
+    requires { ⌜ Room c (now m) × (number < c) ⌝ }
+    ensures { λ _. ⌜ now (m .exit) ≡ stores.setListed c number listed (now (m .entry)) ⌝ }
+{
+    m[16 + 3 * c + (number as usize)] = if listed { 1 } else { 0 };
+}
+
+pub fn set_costs(m: &mut [u8], c: usize, number: u16, costs: [u16; COSTS])
+    requires { ⌜ Room c (now m) × (number < c) ⌝ }
+    ensures { λ _. ⌜ now (m .exit) ≡ stores.setCosts c number costs (now (m .entry)) ⌝ }
+{
+    let at = 16 + 5 * c + 16 * (number as usize);
+    let mut j = 0;
+    while j < COSTS {
+        set_word(m, at + 2 * j, costs[j]);
+        j += 1;
+    }
+}
+
+pub fn set_work(m: &mut [u8], c: usize, i: usize, number: u16)
+    requires { ⌜ Room c (now m) × (i < c) ⌝ }
+    ensures { λ _. ⌜ now (m .exit) ≡ stores.setWork c i number (now (m .entry)) ⌝ }
+{
+    set_word(m, 16 + 21 * c + 2 * i, number);
+}
