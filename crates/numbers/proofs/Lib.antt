@@ -1,0 +1,2 @@
+-- What the proofs use of bits.
+pub mod Bits

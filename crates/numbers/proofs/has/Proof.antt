@@ -1,0 +1,34 @@
+-- `has` meets its contract. Assumes nothing.
+use Prim.Native.Nat.{ℕ, _/_, _%_, _^_}
+use mathlib.Core.Path.{ap}
+use borrow.Author.Needs.{needs}
+use lib.Bits.{and-mask}
+use lib.Dec.{eqb}
+use lib.ListN.{getD}
+use Rattle.numbers.specs.Set.{inSet}
+use Rattle.numbers.proofs.has.Statement.{statement}
+use Rattle.numbers.proofs.has.Tie as tie
+
+cast-at : tie.Need-cast-at
+cast-at c = search needs
+
+mul-result : tie.Need-mul-result
+mul-result c = search needs
+
+array-read-result : tie.Need-array-read-result
+array-read-result c = search needs
+
+cast-result : tie.Need-cast-result
+cast-result c = search needs
+
+shr-result : tie.Need-shr-result
+shr-result c = search needs
+
+returns : tie.Need-returns
+unfolding inSet
+returns c =
+    let a = c .args in
+    ap (λ (b : ℕ). eqb b 1) (and-mask (getD (a .t1) (a .n / 64) 0 / 2 ^ (a .n % 64)) 1)
+
+pub has-spec : {M : Type 1} → statement M
+has-spec = tie.close (tie.spec cast-at mul-result array-read-result cast-result shr-result returns)

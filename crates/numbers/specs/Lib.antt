@@ -1,0 +1,2 @@
+-- A set of numbers, as words hold it.
+pub mod Set
