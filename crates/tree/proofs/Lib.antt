@@ -1,0 +1,18 @@
+-- What the proofs of the functions use.
+pub mod Steps
+pub mod Rows
+pub mod Inserting
+pub mod Raising
+pub mod Search
+pub mod Entries
+pub mod Cut
+pub mod Cascade
+pub mod Putting
+pub mod Entered
+pub mod Saving
+pub mod Gap
+pub mod Widening
+pub mod Lowering
+pub mod Again
+pub mod Distinct
+pub mod Removal

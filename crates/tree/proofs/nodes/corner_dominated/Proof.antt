@@ -1,0 +1,86 @@
+-- `nodes::corner_dominated` meets its contract. The loop's invariant: no listed move passed dominates the corner. Assumes nothing.
+use Prim.Native.Nat.{ℕ, _-_, _≤_}
+use mathlib.Core.Bool.{false}
+use mathlib.Core.List.{List}
+use mathlib.Core.Logic.{inl, inr, ⊎-elim}
+use mathlib.Core.Path.{_≡_, sym, ap, _∙_, subst}
+use native.Mathlib.Omega.{arith}
+use Rattle.model.specs.Dominance.{dominates}
+use Rattle.tree.specs.Search.{cornerDominated}
+use Rattle.tree.proofs.Search.{corner-none, corner-more, corner-found}
+use Rattle.tree.proofs.nodes.corner_dominated.Statement.{statement}
+use Rattle.tree.proofs.nodes.corner_dominated.Tie as tie
+
+abbrev Inv-loop : tie.InvT-loop
+Inv-loop m c d n corner j₀ j = (j ≤ n) × (cornerDominated c d j m corner ≡ false)
+
+abbrev μ-loop : tie.MeasureT-loop
+μ-loop m c d n corner j₀ j = n - j
+
+loop-holds : tie.Need-loop-holds Inv-loop μ-loop
+loop-holds c = let a = c .before .args in (omega arith, corner-none (a .c) (a .d) (a .m .now) (a .corner))
+
+number-at-requires : tie.Need-number-at-requires Inv-loop μ-loop
+number-at-requires c κs = omega arith
+
+is-listed-requires : tie.Need-is-listed-requires Inv-loop μ-loop
+is-listed-requires c κs = omega (arith, c .before .before .before .before .pre .2 (c .before .before .loop .j) (omega arith))
+
+costs-of-requires : tie.Need-costs-of-requires Inv-loop μ-loop
+costs-of-requires c κs = omega (arith, c .before .before .before .before .before .before .pre .2 (c .before .before .before .before .loop .j) (omega arith))
+
+dominates-requires : tie.Need-dominates-requires Inv-loop μ-loop
+dominates-requires c κs = omega arith
+
+returns : tie.Need-returns Inv-loop μ-loop
+returns c =
+    let a = c .before .before .before .before .before .before .before .before .before .args in
+    let j = c .before .before .before .before .before .before .before .loop .j in
+    let at = c .before .before .before .before .before .number-at in
+    sym
+    (corner-found (a .c) (a .d) (a .m .now) (a .corner) j (at .result) (at .ensures) (a .n) (omega arith)
+    (sym (c .before .before .before .before .is-listed .ensures) ∙ c .before .before .before .if1 .taken)
+    (ap (λ (p : List ℕ). dominates (a .d) p (a .corner)) (sym (c .before .before .costs-of .ensures)) ∙ sym (c .before .dominates .ensures) ∙ c .if2 .taken))
+
+add-j : tie.Need-add-j Inv-loop μ-loop
+add-j c = omega arith
+
+loop-less : tie.Need-loop-less Inv-loop μ-loop
+loop-less c = omega arith
+
+loop-again : tie.Need-loop-again Inv-loop μ-loop
+loop-again c =
+    let a = c .before .before .before .before .before .before .args in
+    let own = c .before .before .before .before .loop in
+    let at = c .before .before .number-at in (
+      omega arith,
+      corner-more (a .c) (a .d) (a .m .now) (a .corner) (own .j) (at .result) (at .ensures) (own .inv .1)
+          (⊎-elim
+          (λ w. inr (ap (λ (p : List ℕ). dominates (a .d) p (a .corner)) (sym (w .1 .ensures)) ∙ sym (w .2 .ensures) ∙ w .3 .left))
+          (λ w. inl (sym (c .before .is-listed .ensures) ∙ w .left))
+          (c .if1 .came)),
+    )
+
+returns-2 : tie.Need-returns-2 Inv-loop μ-loop
+returns-2 c =
+    let a = c .before .before .before .args in
+    let own = c .before .loop in
+    let all : own .j ≡ a .n = omega arith in
+    sym (subst (λ (k : ℕ). cornerDominated (a .c) (a .d) k (a .m .now) (a .corner) ≡ false) all (own .inv .1))
+
+pub corner-dominated-spec : {M : Type 1} → statement M
+corner-dominated-spec =
+    tie.close
+    (tie.spec
+    Inv-loop
+    μ-loop
+    loop-holds
+    number-at-requires
+    is-listed-requires
+    costs-of-requires
+    dominates-requires
+    returns
+    add-j
+    loop-less
+    loop-again
+    returns-2)

@@ -1,0 +1,72 @@
+-- `places::entries` meets its contract. The loop's invariant: those counted and those from the present place on are all.
+-- Assumes nothing.
+use Prim.Native.Nat.{ℕ, _+_, _-_, _≤_}
+use mathlib.Core.Logic.{⊎-elim}
+use mathlib.Core.Path.{_≡_}
+use native.Mathlib.Nat.{zero-add}
+use native.Mathlib.Omega.{arith}
+use borrow.Author.Needs.{needs}
+use Rattle.line.specs.Places.{entries}
+use Rattle.promises.specs.Layout.{lineFrom}
+use Rattle.memory.specs.Laws.Lines.{length-line, heightAt-line}
+use Rattle.tree.proofs.Steps.{entry-here, entry-none, entries-end}
+use Rattle.tree.proofs.places.entries.Statement.{statement}
+use Rattle.tree.proofs.places.entries.Tie as tie
+
+abbrev Inv-loop : tie.InvT-loop
+Inv-loop m c l s e k₀ i₀ k i =
+    (s ≤ i)
+    × (i ≤ e)
+    × (k ≤ i - s)
+    × ((d n : ℕ) → e ≤ n → k + entries l i e (lineFrom c d n m) ≡ entries l s e (lineFrom c d n m))
+
+abbrev μ-loop : tie.MeasureT-loop
+μ-loop m c l s e k₀ i₀ k i = e - i
+
+loop-holds : tie.Need-loop-holds Inv-loop μ-loop
+loop-holds c = (omega arith, omega arith, omega arith, λ d n h. zero-add _)
+
+height-at-requires : tie.Need-height-at-requires Inv-loop μ-loop
+height-at-requires c κs = search needs
+
+add-k : tie.Need-add-k Inv-loop μ-loop
+add-k c = omega arith
+
+add-i : tie.Need-add-i Inv-loop μ-loop
+add-i c = omega arith
+
+loop-less : tie.Need-loop-less Inv-loop μ-loop
+loop-less c = omega arith
+
+loop-again : tie.Need-loop-again Inv-loop μ-loop
+loop-again c =
+    let a = c .before .before .before .before .before .args in
+    let i = c .before .before .before .loop .i in
+    let inv = c .before .before .before .loop .inv in (
+      omega arith,
+      omega arith,
+      ⊎-elim (λ w. omega arith) (λ w. omega arith) (c .if1 .came),
+      λ d n h.
+          let rs = lineFrom (a .c) d n (a .m .now) in
+          let long = length-line (a .c) d n (a .m .now) in
+          let height = heightAt-line (a .c) d n (a .m .now) i (omega arith) in
+          ⊎-elim
+          (λ w. omega (arith, inv .3 d n h, entry-here (a .l) i (a .e) rs (omega arith) (omega arith) (omega (arith, height, c .before .height-at .ensures))))
+          (λ w. omega (arith, inv .3 d n h, entry-none (a .l) i (a .e) rs (omega arith) (omega arith) (omega (arith, height, c .before .height-at .ensures))))
+          (c .if1 .came),
+    )
+
+returns : tie.Need-returns Inv-loop μ-loop
+returns c =
+    let a = c .before .before .before .args in
+    let i = c .before .loop .i in
+    let inv = c .before .loop .inv in
+    record {
+      is = λ d n h. omega (arith, inv .3 d n h, entries-end (a .l) i (a .e) (lineFrom (a .c) d n (a .m .now)) (omega arith));
+      within = omega arith;
+    }
+
+pub entries-spec : {M : Type 1} → statement M
+entries-spec =
+    tie.close
+    (tie.spec Inv-loop μ-loop loop-holds height-at-requires add-k add-i loop-less loop-again returns)

@@ -1,0 +1,94 @@
+-- `places::node_end` meets its contract. The loop's invariant: the present place and the rows left below the level give the end.
+-- Assumes nothing.
+use Prim.Native.Nat.{ℕ, _+_, _-_, _≤_, _<_}
+use mathlib.Core.Path.{_≡_, sym, _∙_}
+use native.Mathlib.Omega.{arith}
+use borrow.Author.Needs.{needs}
+use lib.ListN.{drop}
+use Rattle.line.specs.Places.{lower, nodeEnd}
+use Rattle.promises.specs.Layout.{lineFrom}
+use Rattle.memory.specs.Laws.Lines.{length-line, heightAt-line}
+use Rattle.tree.proofs.Steps.{end-first, end-here, end-later, end-last}
+use Rattle.tree.proofs.places.node_end.Statement.{statement}
+use Rattle.tree.proofs.places.node_end.Tie as tie
+
+abbrev Inv-loop : tie.InvT-loop
+Inv-loop m c n l p e₀ e =
+    (p < e) × (e ≤ n) × ((d : ℕ) → e + lower l (drop e (lineFrom c d n m)) ≡ nodeEnd l p (lineFrom c d n m))
+
+abbrev μ-loop : tie.MeasureT-loop
+μ-loop m c n l p e₀ e = n - e
+
+add-e : tie.Need-add-e Inv-loop μ-loop
+add-e c = search needs
+
+loop-holds : tie.Need-loop-holds Inv-loop μ-loop
+loop-holds c =
+    let a = c .before .args in
+    (omega arith, omega arith, λ d. end-first (a .l) (a .p) (lineFrom (a .c) d (a .n) (a .m .now)))
+
+height-at-requires : tie.Need-height-at-requires Inv-loop μ-loop
+height-at-requires c κs = search needs
+
+returns : tie.Need-returns Inv-loop μ-loop
+returns c =
+    let a = c .before .before .before .before .before .args in
+    let e = c .before .before .before .loop .e in
+    let inv = c .before .before .before .loop .inv in
+    record {
+      is = λ d.
+          let rs = lineFrom (a .c) d (a .n) (a .m .now) in
+          sym (end-here (a .l) e rs (omega (arith, length-line (a .c) d (a .n) (a .m .now)))
+          (omega (arith, heightAt-line (a .c) d (a .n) (a .m .now) e (omega arith), c .before .height-at .ensures)))
+          ∙ inv .2 d;
+      after = inv .0;
+      within = inv .1;
+    }
+
+add-e-2 : tie.Need-add-e-2 Inv-loop μ-loop
+add-e-2 c = search needs
+
+loop-less : tie.Need-loop-less Inv-loop μ-loop
+loop-less c = omega arith
+
+loop-again : tie.Need-loop-again Inv-loop μ-loop
+loop-again c =
+    let a = c .before .before .before .before .before .args in
+    let e = c .before .before .before .loop .e in
+    let inv = c .before .before .before .loop .inv in (
+      omega arith,
+      omega arith,
+      λ d.
+          let rs = lineFrom (a .c) d (a .n) (a .m .now) in
+          end-later (a .l) e rs (omega (arith, length-line (a .c) d (a .n) (a .m .now)))
+          (omega (arith, heightAt-line (a .c) d (a .n) (a .m .now) e (omega arith), c .before .height-at .ensures))
+          ∙ inv .2 d,
+    )
+
+returns-2 : tie.Need-returns-2 Inv-loop μ-loop
+returns-2 c =
+    let a = c .before .before .before .args in
+    let e = c .before .loop .e in
+    let inv = c .before .loop .inv in
+    record {
+      is = λ d.
+          let rs = lineFrom (a .c) d (a .n) (a .m .now) in
+          sym (end-last (a .l) e rs (omega (arith, length-line (a .c) d (a .n) (a .m .now)))) ∙ inv .2 d;
+      after = inv .0;
+      within = inv .1;
+    }
+
+pub node-end-spec : {M : Type 1} → statement M
+node-end-spec =
+    tie.close
+    (tie.spec
+    Inv-loop
+    μ-loop
+    add-e
+    loop-holds
+    height-at-requires
+    returns
+    add-e-2
+    loop-less
+    loop-again
+    returns-2)

@@ -1,0 +1,72 @@
+-- `places::node_start` meets its contract. The loop's invariant: the node that holds the present place starts where the whole
+-- does. Assumes nothing.
+use Prim.Native.Nat.{ℕ, _≤_, _<_}
+use mathlib.Core.Path.{_≡_, refl, _∙_}
+use native.Mathlib.Nat.{le-refl}
+use native.Mathlib.Omega.{arith}
+use borrow.Author.Needs.{needs}
+use Rattle.line.specs.Places.{nodeStart}
+use Rattle.promises.specs.Layout.{lineFrom}
+use Rattle.memory.specs.Laws.Lines.{heightAt-line}
+use Rattle.tree.proofs.Steps.{start-here, start-earlier, start-first}
+use Rattle.tree.proofs.places.node_start.Statement.{statement}
+use Rattle.tree.proofs.places.node_start.Tie as tie
+
+abbrev Inv-loop : tie.InvT-loop
+Inv-loop m c l p s₀ s =
+    (s ≤ p) × ((d n : ℕ) → p < n → nodeStart l s (lineFrom c d n m) ≡ nodeStart l p (lineFrom c d n m))
+
+abbrev μ-loop : tie.MeasureT-loop
+μ-loop m c l p s₀ s = s
+
+loop-holds : tie.Need-loop-holds Inv-loop μ-loop
+loop-holds c = (le-refl _, λ d n h. refl)
+
+height-at-requires : tie.Need-height-at-requires Inv-loop μ-loop
+height-at-requires c κs = search needs
+
+returns : tie.Need-returns Inv-loop μ-loop
+returns c =
+    let a = c .before .before .before .before .before .args in
+    let s = c .before .before .before .loop .s in
+    let inv = c .before .before .before .loop .inv in
+    record {
+      is = λ d n h.
+          start-here (a .l) s (lineFrom (a .c) d n (a .m .now)) (omega arith)
+          (omega (arith, heightAt-line (a .c) d n (a .m .now) s (omega arith), c .before .height-at .ensures))
+          ∙ inv .1 d n h;
+      within = inv .0;
+    }
+
+sub-s : tie.Need-sub-s Inv-loop μ-loop
+sub-s c = search needs
+
+loop-less : tie.Need-loop-less Inv-loop μ-loop
+loop-less c = omega arith
+
+loop-again : tie.Need-loop-again Inv-loop μ-loop
+loop-again c =
+    let a = c .before .before .before .before .before .args in
+    let s = c .before .before .before .loop .s in
+    let inv = c .before .before .before .loop .inv in (
+      omega arith,
+      λ d n h.
+          start-earlier (a .l) s (lineFrom (a .c) d n (a .m .now)) (omega arith)
+          (omega (arith, heightAt-line (a .c) d n (a .m .now) s (omega arith), c .before .height-at .ensures))
+          ∙ inv .1 d n h,
+    )
+
+returns-2 : tie.Need-returns-2 Inv-loop μ-loop
+returns-2 c =
+    let a = c .before .before .before .args in
+    let s = c .before .loop .s in
+    let inv = c .before .loop .inv in
+    record {
+      is = λ d n h. start-first (a .l) s (lineFrom (a .c) d n (a .m .now)) (omega arith) ∙ inv .1 d n h;
+      within = omega arith;
+    }
+
+pub node-start-spec : {M : Type 1} → statement M
+node-start-spec =
+    tie.close
+    (tie.spec Inv-loop μ-loop loop-holds height-at-requires returns sub-s loop-less loop-again returns-2)

@@ -1,0 +1,90 @@
+-- `split::cut_place` meets its contract. The loop's invariant: the cuts before the entries 3 to j are tried (`Cut`).
+-- Assumes nothing.
+use Prim.Native.Nat.{_+_, _-_}
+use mathlib.Core.Logic.{⊎-elim}
+use native.Mathlib.Omega.{arith}
+use Rattle.promises.specs.Layout.{lineFrom}
+use Rattle.tree.proofs.Steps.{entry-turn}
+use Rattle.tree.proofs.Cut.{Tried, nine-entry, nine-cut, tried-first, tried-less, tried-more, tried-all}
+use Rattle.tree.proofs.split.cut_place.Statement.{statement}
+use Rattle.tree.proofs.split.cut_place.Tie as tie
+
+abbrev Inv-loop : tie.InvT-loop
+Inv-loop m c d n l s e q₀ best₀ least₀ j₀ q best least j = Tried d l s e (lineFrom c d n m) j q best least
+
+abbrev μ-loop : tie.MeasureT-loop
+μ-loop m c d n l s e q₀ best₀ least₀ j₀ q best least j = 6 - j
+
+sub-entry-at : tie.Need-sub-entry-at Inv-loop μ-loop
+sub-entry-at c = omega arith
+
+entry-at-requires : tie.Need-entry-at-requires Inv-loop μ-loop
+entry-at-requires c κs = nine-entry (c .before .pre)
+
+cut-sides-requires : tie.Need-cut-sides-requires Inv-loop μ-loop
+cut-sides-requires c κs =
+    let a = c .before .before .args in
+    nine-cut (c .before .before .pre) 3 (omega arith) (omega arith) (c .entry-at .ensures .is (a .d))
+
+loop-holds : tie.Need-loop-holds Inv-loop μ-loop
+loop-holds c =
+    let a = c .before .before .before .args in
+    tried-first (c .before .before .before .pre) (c .before .entry-at .ensures .is (a .d)) (c .cut-sides .ensures)
+
+sub-node-end : tie.Need-sub-node-end Inv-loop μ-loop
+sub-node-end c = omega arith
+
+node-end-requires : tie.Need-node-end-requires Inv-loop μ-loop
+node-end-requires c κs =
+    let p = c .before .before .before .before .before .pre in
+    let own = c .before .loop in
+    let inside = nine-cut p (own .j) (omega (arith, own .inv .from)) (omega arith) (own .inv .at) in
+    (p .room, p .rows, omega (arith, inside .after, p .ends))
+
+cut-sides-requires-2 : tie.Need-cut-sides-requires-2 Inv-loop μ-loop
+cut-sides-requires-2 c κs =
+    let a = c .before .before .before .before .before .before .args in
+    let p = c .before .before .before .before .before .before .pre in
+    let own = c .before .before .loop in
+    nine-cut p (own .j + 1) (omega arith) (omega arith)
+    (entry-turn (a .l - 1) (a .s) (own .j) (own .q) (c .node-end .result) (lineFrom (a .c) (a .d) (a .n) (a .m .now)) (own .inv .at)
+    (c .node-end .ensures .is (a .d)))
+
+add-j : tie.Need-add-j Inv-loop μ-loop
+add-j c = omega arith
+
+loop-less : tie.Need-loop-less Inv-loop μ-loop
+loop-less c = omega arith
+
+loop-again : tie.Need-loop-again Inv-loop μ-loop
+loop-again c =
+    let a = c .before .before .before .before .before .before .before .before .args in
+    let p = c .before .before .before .before .before .before .before .before .pre in
+    let own = c .before .before .before .before .loop in
+    let next = c .before .before .node-end .ensures .is (a .d) in
+    let sides = c .before .cut-sides2 .ensures in
+    ⊎-elim
+    (λ w. tried-less p (own .inv) (omega arith) next sides (omega arith) (w .1) (w .2))
+    (λ w. tried-more p (own .inv) (omega arith) next sides (omega arith) (w .1) (w .2))
+    (c .if1 .came)
+
+returns : tie.Need-returns Inv-loop μ-loop
+returns c = tried-all (c .before .before .before .before .before .pre) (c .before .loop .inv) (omega arith)
+
+pub cut-place-spec : {M : Type 1} → statement M
+cut-place-spec =
+    tie.close
+    (tie.spec
+    Inv-loop
+    μ-loop
+    sub-entry-at
+    entry-at-requires
+    cut-sides-requires
+    loop-holds
+    sub-node-end
+    node-end-requires
+    cut-sides-requires-2
+    add-j
+    loop-less
+    loop-again
+    returns)

@@ -1,0 +1,85 @@
+-- `withdraw::enter_saved` meets its contract. The loop's invariant: the first j saved moves are entered. Assumes nothing.
+use Prim.Native.Nat.{_+_, _-_}
+use mathlib.Core.Path.{_≡_, sym, subst}
+use native.Mathlib.Omega.{arith}
+use Rattle.tree.specs.Enter.{EnterAsked, Entered}
+use Rattle.tree.proofs.Again.{Entering, entering-none, entering-low, entering-read, entering-asked, entering-more, entering-all}
+use Rattle.tree.proofs.withdraw.enter_saved.Statement.{statement}
+use Rattle.tree.proofs.withdraw.enter_saved.Tie as tie
+
+abbrev Inv-loop : tie.InvT-loop
+Inv-loop m₀ c d n k j₀ m j = Entering c d n k j m₀ m
+
+abbrev μ-loop : tie.MeasureT-loop
+μ-loop m₀ c d n k j₀ m j = k - j
+
+loop-holds : tie.Need-loop-holds Inv-loop μ-loop
+loop-holds c = entering-none (c .before .pre)
+
+work-at-requires : tie.Need-work-at-requires Inv-loop μ-loop
+work-at-requires c κs = omega arith
+
+costs-of-requires : tie.Need-costs-of-requires Inv-loop μ-loop
+costs-of-requires c κs =
+    let own = c .before .before .before .before .loop in
+    omega (arith, entering-low (c .before .before .before .before .before .before .pre) (own .inv) (omega arith))
+
+add-enter-line : tie.Need-add-enter-line Inv-loop μ-loop
+add-enter-line c = omega arith
+
+enter-line-requires : tie.Need-enter-line-requires Inv-loop μ-loop
+enter-line-requires c κs =
+    let start = c .before .before .before .before .before .before .before .before in
+    let a = start .args in
+    let own = c .before .before .before .before .before .before .loop in
+    let number = c .before .before .before .work-at in
+    let costs = c .before .costs-of in
+    subst (λ x. EnterAsked (a .c) (a .d) (a .n + own .j) x (own .m))
+    (entering-read (start .pre) (own .inv) (omega arith) (record { number = number .result; costs = costs .result }) (number .ensures) (costs .ensures))
+    (entering-asked (start .pre) (own .inv) (omega arith))
+
+add-j : tie.Need-add-j Inv-loop μ-loop
+add-j c = omega arith
+
+loop-less : tie.Need-loop-less Inv-loop μ-loop
+loop-less c = omega arith
+
+loop-again : tie.Need-loop-again Inv-loop μ-loop
+loop-again c =
+    let start = c .before .before .before .before .before .before .before .before .before .before .before in
+    let a = start .args in
+    let own = c .before .before .before .before .before .before .before .before .before .loop in
+    let number = c .before .before .before .before .before .before .work-at in
+    let costs = c .before .before .before .before .costs-of in
+    let after = c .before .before .enter-line in
+    entering-more (start .pre) (own .inv) (omega arith) (after .last .0)
+    (subst (λ x. Entered (a .c) (a .d) (a .n + own .j) x (own .m) (after .last .0))
+    (sym (entering-read (start .pre) (own .inv) (omega arith) (record { number = number .result; costs = costs .result }) (number .ensures) (costs .ensures)))
+    (after .ensures))
+
+same-length : tie.Need-same-length Inv-loop μ-loop
+same-length c = omega arith
+
+returns : tie.Need-returns Inv-loop μ-loop
+returns c =
+    let a = c .before .before .before .args in
+    let own = c .before .loop in
+    let end : own .j ≡ a .k = omega arith in
+    entering-all (c .before .before .before .pre) (own .m) (subst (λ j. Entering (a .c) (a .d) (a .n) (a .k) j (a .m .now) (own .m)) end (own .inv))
+
+pub enter-saved-spec : {M : Type 1} → statement M
+enter-saved-spec =
+    tie.close
+    (tie.spec
+    Inv-loop
+    μ-loop
+    loop-holds
+    work-at-requires
+    costs-of-requires
+    add-enter-line
+    enter-line-requires
+    add-j
+    loop-less
+    loop-again
+    same-length
+    returns)

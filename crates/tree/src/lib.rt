@@ -1,0 +1,18 @@
+// The tree in the lent memory: the flat operations of `line` on its rows. Only rows and the work area are written here.
+mod enter;
+mod insert;
+mod nodes;
+mod places;
+mod raise;
+mod split;
+mod withdraw;
+
+pub use enter::enter_line;
+pub use insert::insert_row;
+pub use insert::place_for;
+pub use nodes::corner_dominated;
+pub use nodes::nodes_opened;
+pub use places::node_end;
+pub use raise::raise_levels;
+pub use withdraw::place_of;
+pub use withdraw::withdraw_line;

@@ -1,0 +1,166 @@
+// A move taken out of the line; the moves under removed nodes are entered again.
+use crate::enter::enter_line;
+use crate::places::entries;
+use crate::places::node_end;
+use crate::places::node_start;
+use dominance::Move;
+use memory::costs_of;
+use memory::height_at;
+use memory::number_at;
+use memory::set_height;
+use memory::set_number;
+use memory::set_work;
+use memory::work_at;
+ghost use mathlib.Core.Path.{_≡_};
+ghost use Prim.Native.Nat.{_≤_, _<_};
+ghost use Rattle.tree.specs.Withdraw as withdraw;
+
+// Rows from a place up to another.
+pub struct Range {
+    pub from: usize,
+    pub to: usize,
+}
+
+// The place of the move of a number, or n where it is not on the board.
+pub fn place_of(m: &[u8], c: usize, n: usize, number: u16) -> usize
+    requires { ⌜ withdraw.RowsAsked c n (now m) ⌝ }
+    ensures { λ r. ⌜ withdraw.PlaceOf c n number (now (m .entry)) r ⌝ }
+{
+    let mut p = 0;
+    while p < n {
+        if number_at(m, c, p) == number {
+            return p;
+        }
+        p += 1;
+    }
+    p
+}
+
+// The rows that go with the move at place p: those of the highest removed node, or its own.
+fn widened(m: &[u8], c: usize, n: usize, p: usize) -> Range
+    requires { ⌜ withdraw.RangeAsked c n p (now m) ⌝ }
+    ensures { λ r. ⌜ withdraw.Widened c n p (now (m .entry)) r ⌝ }
+{
+    let top = height_at(m, c, 0);
+    let mut from = p;
+    let mut to = p + 1;
+    let mut l: u8 = 1;
+    while l < top {
+        let s = node_start(m, c, l, from);
+        let e = node_end(m, c, n, l, from);
+        if 3 < entries(m, c, l - 1, s, e) {
+            return Range { from, to };
+        }
+        from = s;
+        to = e;
+        l += 1;
+    }
+    Range { from, to }
+}
+
+// The numbers of the rows from `from` up to `to`, but for one, put into the work area; how many they are.
+fn save(m: &mut [u8], c: usize, from: usize, to: usize, number: u16) -> usize
+    requires { ⌜ withdraw.SaveAsked c from to (now m) ⌝ }
+    ensures { λ r. ⌜ withdraw.Saved c from to number (now (m .entry)) (now (m .exit)) r ⌝ }
+{
+    let mut k = 0;
+    let mut i = from;
+    while i < to {
+        let other = number_at(m, c, i);
+        if other != number {
+            set_work(m, c, k, other);
+            k += 1;
+        }
+        i += 1;
+    }
+    k
+}
+
+// The row at place i stands at place j too.
+fn copy_row(m: &mut [u8], c: usize, i: usize, j: usize)
+    requires { ⌜ withdraw.CopyAsked c i j (now m) ⌝ }
+    ensures { λ _. ⌜ now (m .exit) ≡ withdraw.copied c i j (now (m .entry)) ⌝ }
+{
+    let number = number_at(m, c, i);
+    let height = height_at(m, c, i);
+    set_number(m, c, j, number);
+    set_height(m, c, j, height);
+}
+
+// The rows from `to` on moved down to `from`.
+fn close_gap(m: &mut [u8], c: usize, n: usize, from: usize, to: usize)
+    requires { ⌜ withdraw.GapAsked c n from to (now m) ⌝ }
+    ensures { λ _. ⌜ withdraw.Closed c n from to (now (m .entry)) (now (m .exit)) ⌝ }
+{
+    let mut i = to;
+    while i < n {
+        copy_row(m, c, i, from + (i - to));
+        i += 1;
+    }
+}
+
+// The range taken out; the row after it starts at least what the range started.
+fn cut_out(m: &mut [u8], c: usize, n: usize, from: usize, to: usize)
+    requires { ⌜ withdraw.GapAsked c n from to (now m) ⌝ }
+    ensures { λ _. ⌜ withdraw.CutOut c n from to (now (m .entry)) (now (m .exit)) ⌝ }
+{
+    let k = height_at(m, c, from);
+    close_gap(m, c, n, from, to);
+    if to < n {
+        let h = height_at(m, c, from);
+        if h < k {
+            set_height(m, c, from, k);
+        }
+    }
+}
+
+// While an upper root has one child, the first row loses a level.
+fn lower_root(m: &mut [u8], c: usize, n: usize)
+    requires { ⌜ withdraw.RowsAsked c n (now m) ⌝ }
+    ensures { λ _. ⌜ withdraw.Lowered c n (now (m .entry)) (now (m .exit)) ⌝ }
+{
+    if n == 0 {
+        return;
+    }
+    let mut top = height_at(m, c, 0);
+    while 1 < top {
+        if 1 < entries(m, c, top - 1, 0, n) {
+            return;
+        }
+        top -= 1;
+        set_height(m, c, 0, top);
+    }
+}
+
+// The k moves of the work area entered again, in order, among the first n rows.
+fn enter_saved(m: &mut [u8], c: usize, d: usize, n: usize, k: usize)
+    requires { ⌜ withdraw.SavedAsked c d n k (now m) ⌝ }
+    ensures { λ _. ⌜ withdraw.SavedEntered c d n k (now (m .entry)) (now (m .exit)) ⌝ }
+{
+    let mut j = 0;
+    while j < k {
+        let number = work_at(m, c, j);
+        let x = Move {
+            number,
+            costs: costs_of(m, c, d, number),
+        };
+        enter_line(m, c, d, n + j, x);
+        j += 1;
+    }
+}
+
+// The move at place p taken out of the first n rows.
+pub fn withdraw_line(m: &mut [u8], c: usize, d: usize, n: usize, p: usize)
+    requires { ⌜ withdraw.WithdrawAsked c d n p (now m) ⌝ }
+    ensures { λ _. ⌜ withdraw.Withdrawn c d n p (now (m .entry)) (now (m .exit)) ⌝ }
+{
+    let number = number_at(m, c, p);
+    let g = widened(m, c, n, p);
+    let from = g.from;
+    let to = g.to;
+    let k = save(m, c, from, to, number);
+    cut_out(m, c, n, from, to);
+    let left = n - (to - from);
+    lower_root(m, c, left);
+    enter_saved(m, c, d, left, k);
+}
