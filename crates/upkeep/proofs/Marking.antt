@@ -1,0 +1,95 @@
+-- One mark stored: the marks of the other places stay, and tests that look at those only stay with them.
+use Prim.Native.Nat.{ℕ, zero, suc, _+_, _≤_, _<_}
+use mathlib.Core.Bool.{Bool, true, false, not, _&&_, Bool·beq}
+use mathlib.Core.List.{List}
+use mathlib.Core.Path.{_≡_, refl, sym, ap, ap₂, _∙_}
+use native.Mathlib.Omega.{arith}
+use lib.Dec.{eqb}
+use Rattle.model.specs.Moves.{Move}
+use Rattle.model.specs.Dominance.{hides}
+use Rattle.promises.specs.Layout.{numberIn, markIn, moveIn}
+use Rattle.memory.specs.Room.{Room, Numbers}
+use Rattle.memory.specs.Stores.{setListed}
+use Rattle.memory.specs.Frame.{MarksOnly}
+use Rattle.memory.specs.Tests.{allTo, anyTo, isListed, hiddenBefore, marksRight}
+use Rattle.memory.specs.Laws.Frames.{frame-refl, frame-trans}
+use Rattle.memory.specs.Laws.Fields.{number-over-marks, costs-over-marks}
+use Rattle.memory.specs.Laws.Stored.{setListed-marks, listed-setListed, mark-setListed-other}
+use Rattle.memory.specs.Laws.Lines.{move-ext}
+use Rattle.memory.specs.Laws.Turns.{marks-none, marks-more}
+use Rattle.upkeep.specs.Mark.{Once, Marked}
+
+allTo-ext : (p q : ℕ → Bool) (n : ℕ) → ((i : ℕ) → i < n → p i ≡ q i) → allTo p n ≡ allTo q n
+unfolding allTo
+allTo-ext p q zero h = refl
+allTo-ext p q (suc n) h = ap₂ _&&_ (allTo-ext p q n (λ i l. h i (omega arith))) (h n (omega arith))
+
+beq-opposite : (b : Bool) → Bool·beq (not b) b ≡ false
+beq-opposite true = refl
+beq-opposite false = refl
+
+-- Moves and the marks of the first n places alike.
+module _ (c d n : ℕ) (m m' : List ℕ) (moves : (i : ℕ) → i < n → moveIn c d m' i ≡ moveIn c d m i)
+    (marks : (i : ℕ) → i < n → markIn c m' (numberIn c m i) ≡ markIn c m (numberIn c m i)) where
+  listed-ext : (i : ℕ) → i < n → isListed c d m' i ≡ isListed c d m i
+  unfolding isListed moveIn
+  listed-ext i h =
+      ap (λ (x : Move). eqb (markIn c m' (x .number)) 1) (moves i h) ∙ ap (λ (v : ℕ). eqb v 1) (marks i h)
+
+  hidden-ext : (i : ℕ) (x : Move) → i ≤ n → hiddenBefore c d m' i x ≡ hiddenBefore c d m i x
+  unfolding hiddenBefore anyTo
+  hidden-ext i x h =
+      ap not
+      (allTo-ext (λ j. not (isListed c d m' j && hides d (moveIn c d m' j) x)) (λ j. not (isListed c d m j && hides d (moveIn c d m j) x)) i
+      (λ j l. ap₂ (λ (b : Bool) (y : Move). not (b && hides d y x)) (listed-ext j (omega arith)) (moves j (omega arith))))
+
+  marks-ext : marksRight c d n m' ≡ marksRight c d n m
+  unfolding marksRight
+  marks-ext =
+      allTo-ext (λ i. Bool·beq (isListed c d m' i) (not (hiddenBefore c d m' i (moveIn c d m' i))))
+      (λ i. Bool·beq (isListed c d m i) (not (hiddenBefore c d m i (moveIn c d m i)))) n
+      (λ i l. ap₂ (λ (a b : Bool). Bool·beq a (not b)) (listed-ext i l)
+      (ap (hiddenBefore c d m' i) (moves i l) ∙ hidden-ext i (moveIn c d m i) (omega arith)))
+
+module _ (c d i : ℕ) (m₀ m : List ℕ) (room : Room c m) (within : i < c) (number : numberIn c m i < c)
+    (others : (j : ℕ) → j < i → numberIn c m j ≡ numberIn c m i → ⊥) (marked : Marked c d i m₀ m) where
+  -- A turn: the move at place i is marked.
+  pub marked-more : (k : ℕ) (hidden : Bool) → k ≡ numberIn c m i → hidden ≡ hiddenBefore c d m i (moveIn c d m i) → Marked c d (i + 1) m₀ (setListed c k (not hidden) m)
+  unfolding isListed moveIn
+  marked-more k hidden e f = record { right = right; frame = frame-trans (marked .frame) frame }
+    where
+      m' : List ℕ
+      m' = setListed c k (not hidden) m
+
+      below : k < c
+      below = omega arith
+
+      frame : MarksOnly c m m'
+      frame = setListed-marks c k m below (not hidden)
+
+      moves : (j : ℕ) → j ≤ i → moveIn c d m' j ≡ moveIn c d m j
+      moves j l = move-ext c d m m' j j (number-over-marks c frame j (omega arith)) (costs-over-marks c frame d (numberIn c m j))
+
+      marks : (j : ℕ) → j < i → markIn c m' (numberIn c m j) ≡ markIn c m (numberIn c m j)
+      marks j l = mark-setListed-other c k m (numberIn c m j) (λ g. others j l (g ∙ e)) (not hidden)
+
+      before : (j : ℕ) → j < i → moveIn c d m' j ≡ moveIn c d m j
+      before j l = moves j (omega arith)
+
+      right : marksRight c d (i + 1) m' ≡ true
+      right =
+          marks-more c d m' i (marks-ext c d i m m' before marks ∙ marked .right) (not hidden) hidden
+          (ap (λ (x : Move). eqb (markIn c m' (x .number)) 1) (moves i (omega arith)) ∙ ap (λ (v : ℕ). eqb (markIn c m' v) 1) (sym e) ∙ listed-setListed c k m room below (not hidden))
+          (ap (hiddenBefore c d m' i) (moves i (omega arith)) ∙ hidden-ext c d i m m' before marks i (moveIn c d m i) (omega arith) ∙ sym f)
+          (beq-opposite hidden)
+
+-- Numbers stay where marks are written.
+module _ (c n : ℕ) (m₀ m : List ℕ) (f : MarksOnly c m₀ m) (few : n ≤ c) where
+  pub numbers-kept : Numbers c n m₀ → Numbers c n m
+  numbers-kept h i l = omega (arith, h i l, number-over-marks c f i (omega arith))
+
+  pub once-kept : Once c n m₀ → Once c n m
+  once-kept h i j k l e = h i j k l (sym (number-over-marks c f i (omega arith)) ∙ e ∙ number-over-marks c f j (omega arith))
+
+pub marked-none : (c d : ℕ) (m : List ℕ) → Marked c d 0 m m
+marked-none c d m = record { right = marks-none c d m; frame = frame-refl m }

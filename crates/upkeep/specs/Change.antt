@@ -1,0 +1,91 @@
+-- What a change does to the list. `Upkept` says it by the definition: who is in the list of the moves afterwards; the
+-- definitions before it are what the steps compute.
+use Prim.Native.Nat.{ℕ, zero, suc, _+_, _<_, _≤_}
+use mathlib.Core.Bool.{Bool, true, false, cond, not, _&&_, _||_}
+use mathlib.Core.Path.{_≡_}
+use mathlib.Core.List.{List, [], _∷_, _++_}
+use lib.Dec.{eqb, ltb}
+use lib.ListN.{length, take, drop}
+use Rattle.model.specs.Basics.{count, numbersFrom}
+use Rattle.model.specs.Moves.{Move, insert}
+use Rattle.model.specs.Dominance.{hides}
+use Rattle.model.specs.Lists.{hidden}
+use Rattle.model.specs.Calls.{onBoard}
+use Rattle.model.specs.Sound.{Fit}
+use Rattle.line.specs.Line.{movesIn}
+use Rattle.promises.specs.Layout.{numberIn, moveIn, lineFrom}
+use Rattle.memory.specs.Tests.{anyTo, isListed}
+use Rattle.memory.specs.Held.{SoundAt}
+use Rattle.dominance.specs.Move.{asMove}
+use Rattle.numbers.specs.Set.{inSet}
+use Rattle.upkeep.specs.declared.change.Change.{Change}
+use Rattle.upkeep.specs.declared.change.Upkeep.{Upkeep}
+
+-- The moves after the change: one gone, one come.
+unfoldable pub dropAt : ℕ → List Move → List Move
+dropAt i ms = take i ms ++ drop (suc i) ms
+
+unfoldable pub changedMoves : ℕ → Change → List Move → List Move
+changedMoves d k ms = cond (k .comes) (insert d (asMove (k .coming)) (dropAt (k .goes) ms)) (dropAt (k .goes) ms)
+
+-- Whether the move at place i is in the list afterwards.
+unfoldable pub stays : ℕ → ℕ → ℕ → Change → List ℕ → ℕ → Bool
+stays c d n k m i =
+    not (eqb i (k .goes)) && not (hidden d (changedMoves d k (movesIn (lineFrom c d n m))) (moveIn c d m i))
+
+pub record Asked (c d n : ℕ) (k : Change) (m : List ℕ) : Type 0 where
+  pub sound : SoundAt c d n m
+  pub goes : k .goes ≤ n
+  pub fit : k .comes ≡ true → Fit c d (asMove (k .coming))
+  pub new : k .comes ≡ true → onBoard (k .coming .number) (dropAt (k .goes) (movesIn (lineFrom c d n m))) ≡ false
+
+-- Who leaves the list and who enters it, by the list of the moves afterwards.
+pub record Upkept (c d n : ℕ) (k : Change) (m : List ℕ) (u : Upkeep) : Type 0 where
+  pub leaving : (i : ℕ) → i < n → inSet (u .leaving) (numberIn c m i) ≡ (isListed c d m i && not (stays c d n k m i))
+  pub entering : (i : ℕ) → i < n → inSet (u .entering) (numberIn c m i) ≡ (not (isListed c d m i) && stays c d n k m i)
+  pub left : u .left ≡ count (λ i. isListed c d m i && not (stays c d n k m i)) (numbersFrom 0 n)
+  pub entered : u .entered ≡ count (λ i. not (isListed c d m i) && stays c d n k m i) (numbersFrom 0 n)
+  pub listed : u .listed ≡ (k .comes && not (hidden d (changedMoves d k (movesIn (lineFrom c d n m))) (asMove (k .coming))))
+
+-- What the steps compute.
+unfoldable pub hiddenByOthers : ℕ → ℕ → ℕ → ℕ → Move → List ℕ → Bool
+hiddenByOthers c d n goes x m = anyTo (λ j. not (eqb j goes) && hides d (moveIn c d m j) x) n
+
+unfoldable pub hiddenByComing : ℕ → Change → Move → Bool
+hiddenByComing d k x = k .comes && hides d (asMove (k .coming)) x
+
+unfoldable pub comesUp : ℕ → ℕ → ℕ → Change → Move → List ℕ → Bool
+comesUp c d n k x m =
+    ltb (k .goes) n
+    && isListed c d m (k .goes)
+    && hides d (moveIn c d m (k .goes)) x
+    && not (hiddenByComing d k x)
+    && not (hiddenByOthers c d n (k .goes) x m)
+
+unfoldable pub leaves : ℕ → Change → ℕ → Move → Bool
+leaves d k i x = eqb i (k .goes) || hiddenByComing d k x
+
+unfoldable pub leavesAt : ℕ → ℕ → Change → List ℕ → ℕ → Bool
+leavesAt c d k m i = isListed c d m i && leaves d k i (moveIn c d m i)
+
+unfoldable pub entersAt : ℕ → ℕ → ℕ → Change → List ℕ → ℕ → Bool
+entersAt c d n k m i = not (isListed c d m i) && (not (eqb i (k .goes)) && comesUp c d n k (moveIn c d m i) m)
+
+-- A set after the number of place i was looked at: in it if the test says so.
+unfoldable pub NextSet : List ℕ → Bool → ℕ → List ℕ → Type 0
+NextSet ws test number ws' = (k : ℕ) → inSet ws' k ≡ ((test && eqb k number) || inSet ws k)
+
+pub record LookedAt (c d n : ℕ) (k : Change) (u : Upkeep) (i : ℕ) (m : List ℕ) (r : Upkeep) : Type 0 where
+  pub leaving : NextSet (u .leaving) (leavesAt c d k m i) (numberIn c m i) (r .leaving)
+  pub entering : NextSet (u .entering) (entersAt c d n k m i) (numberIn c m i) (r .entering)
+  pub left : r .left ≡ u .left + cond (leavesAt c d k m i) 1 0
+  pub entered : r .entered ≡ u .entered + cond (entersAt c d n k m i) 1 0
+  pub listed : r .listed ≡ u .listed
+
+-- The moves at the places below e looked at.
+pub record LookedTo (c d n : ℕ) (k : Change) (e : ℕ) (m : List ℕ) (r : Upkeep) : Type 0 where
+  pub leaving : (j : ℕ) → inSet (r .leaving) j ≡ anyTo (λ i. leavesAt c d k m i && eqb j (numberIn c m i)) e
+  pub entering : (j : ℕ) → inSet (r .entering) j ≡ anyTo (λ i. entersAt c d n k m i && eqb j (numberIn c m i)) e
+  pub left : r .left ≡ count (leavesAt c d k m) (numbersFrom 0 e)
+  pub entered : r .entered ≡ count (entersAt c d n k m) (numbersFrom 0 e)
+  pub listed : r .listed ≡ false

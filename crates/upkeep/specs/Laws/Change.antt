@@ -1,0 +1,211 @@
+-- What the steps of a change compute is what the list of the moves afterwards says: a listed move stays exactly if the
+-- coming one does not hide it; a hidden one comes up exactly if no move left hides it, and then the going one was listed
+-- and hid it; the coming one is listed exactly if no move left hides it.
+use Prim.Native.Nat.{ℕ, _<_}
+use mathlib.Core.Bool.{Bool, true, false, not, cond, _&&_, _||_, or-false}
+use mathlib.Core.List.{List, map, List·Memᴰ, Memᴰ·of-map}
+use mathlib.Core.Path.{_≡_, refl, sym, ap, _∙_, subst}
+use borrow.Author.Tests.{eqb-true, eq-eqb, lt-ltb, not-false}
+use lib.Dec.{eqb, ltb}
+use Rattle.model.specs.Basics.{select, any, count, numbersFrom}
+use Rattle.model.specs.Moves.{Move, moveBefore, insert}
+use Rattle.model.specs.Dominance.{hides}
+use Rattle.model.specs.Lists.{hidden, skyline}
+use Rattle.model.specs.Sound.{Fit}
+use Rattle.model.specs.Laws.Bool.{testCases, both-ways, and-both, and-left, and-right, same-test}
+use Rattle.model.specs.Laws.Basics.{each-mem, any-map, any-select, any-mem, any-witness, any-mono, count-ext}
+use Rattle.model.specs.Laws.Skyline.{HiderIn, skyline-mem, enter-hidden, skyline-hider, enter-hidden-self}
+use Rattle.line.specs.Line.{movesIn}
+use Rattle.promises.specs.Layout.{numberIn, moveIn, lineFrom}
+use Rattle.promises.specs.Run.{Bytes}
+use Rattle.dominance.specs.Move.{asMove}
+use Rattle.memory.specs.Held.{SoundAt}
+use Rattle.memory.specs.Tests.{anyTo, isListed}
+use Rattle.memory.specs.Laws.Lines.{movesIn-line}
+use Rattle.memory.specs.Laws.Places.{anyTo-found}
+use Rattle.memory.specs.Laws.Held.{held-dimension, held-order, held-listed, held-fit, held-fit-at, held-once}
+use Rattle.numbers.specs.Set.{inSet}
+use Rattle.upkeep.specs.Change.{dropAt, changedMoves, stays, hiddenByOthers, hiddenByComing, comesUp, leaves, leavesAt, entersAt, LookedTo, Upkept}
+use Rattle.upkeep.specs.Laws.Places.{each-place, tab-places, anyTo-places, drop-places}
+use Rattle.upkeep.specs.declared.change.Change.{Change}
+use Rattle.upkeep.specs.declared.change.Upkeep.{Upkeep}
+
+-- ---- tests
+
+leave-test : (listed gone coming others : Bool) → (others ≡ true → listed ≡ false)
+    → (listed && (gone || coming)) ≡ (listed && not (not gone && not (others || coming)))
+leave-test false gone coming others q = refl
+leave-test true gone coming true q = both-ways refl (q refl)
+leave-test true true coming false q = refl
+leave-test true false true false q = refl
+leave-test true false false false q = refl
+
+enter-test : (listed gone hid coming others : Bool) → (listed ≡ false → others ≡ false → hid ≡ true)
+    → (not listed && (not gone && (hid && not coming && not others))) ≡ (not listed && (not gone && not (others || coming)))
+enter-test true gone hid coming others q = refl
+enter-test false true hid coming others q = refl
+enter-test false false true true true q = refl
+enter-test false false true true false q = refl
+enter-test false false true false true q = refl
+enter-test false false true false false q = refl
+enter-test false false false coming true q = refl
+enter-test false false false coming false q = both-ways (q refl refl) refl
+
+-- ---- the moves by places
+
+module _ (c d n : ℕ) (m : List ℕ) where
+  pub line-places : movesIn (lineFrom c d n m) ≡ map (moveIn c d m) (numbersFrom 0 n)
+  line-places = movesIn-line c d n m ∙ tab-places (moveIn c d m) n
+
+  pub rest-places : (g : ℕ) → dropAt g (movesIn (lineFrom c d n m)) ≡ map (moveIn c d m) (select (λ j. not (eqb j g)) (numbersFrom 0 n))
+  rest-places g = ap (dropAt g) line-places ∙ drop-places (moveIn c d m) n g
+
+  hidden-line : (x : Move) → hidden d (movesIn (lineFrom c d n m)) x ≡ any (λ j. hides d (moveIn c d m j) x) (numbersFrom 0 n)
+  unfolding hidden
+  hidden-line x = ap (any (λ p. hides d p x)) line-places ∙ any-map (λ p. hides d p x) (moveIn c d m) (numbersFrom 0 n)
+
+  module _ (g : ℕ) (x : Move) where
+    hidden-rest : hidden d (dropAt g (movesIn (lineFrom c d n m))) x ≡ any (λ j. not (eqb j g) && hides d (moveIn c d m j) x) (numbersFrom 0 n)
+    unfolding hidden
+    hidden-rest =
+        ap (any (λ p. hides d p x)) (rest-places g)
+        ∙ any-map (λ p. hides d p x) (moveIn c d m) (select (λ j. not (eqb j g)) (numbersFrom 0 n))
+        ∙ any-select (λ j. hides d (moveIn c d m j) x) (λ j. not (eqb j g)) (numbersFrom 0 n)
+
+    pub others-hide : hiddenByOthers c d n g x m ≡ hidden d (dropAt g (movesIn (lineFrom c d n m))) x
+    unfolding hiddenByOthers
+    others-hide = anyTo-places (λ j. not (eqb j g) && hides d (moveIn c d m j) x) n ∙ sym hidden-rest
+
+    -- what is left hides no more than all did
+    rest-hides : hidden d (dropAt g (movesIn (lineFrom c d n m))) x ≡ true → hidden d (movesIn (lineFrom c d n m)) x ≡ true
+    rest-hides e =
+        hidden-line x
+        ∙ any-mono (λ j. not (eqb j g) && hides d (moveIn c d m j) x) (λ j. hides d (moveIn c d m j) x) (numbersFrom 0 n)
+        (λ j _. and-right (not (eqb j g)) (hides d (moveIn c d m j) x)) (sym hidden-rest ∙ e)
+
+changed-hidden : (d : ℕ) (k : Change) (ms : List Move) (x : Move) → hidden d (changedMoves d k ms) x ≡ (hidden d (dropAt (k .goes) ms) x || hiddenByComing d k x)
+unfolding changedMoves hiddenByComing
+changed-hidden d k ms x =
+    let rest = dropAt (k .goes) ms in
+    let y = asMove (k .coming) in
+    testCases (λ (b : Bool). hidden d (cond b (insert d y rest) rest) x ≡ (hidden d rest x || (b && hides d y x))) (k .comes)
+    (λ _. enter-hidden d y rest x)
+    (λ _. sym (or-false (hidden d rest x)))
+
+module _ (c d n : ℕ) (k : Change) (m : List ℕ) (s : SoundAt c d n m) (b : Bytes m) where
+  abbrev before : List Move
+  before = movesIn (lineFrom c d n m)
+
+  abbrev rest : List Move
+  rest = dropAt (k .goes) before
+
+  stays-rest : (i : ℕ) → stays c d n k m i ≡ (not (eqb i (k .goes)) && not (hidden d rest (moveIn c d m i) || hiddenByComing d k (moveIn c d m i)))
+  unfolding stays
+  stays-rest i = ap (λ (t : Bool). not (eqb i (k .goes)) && not t) (changed-hidden d k before (moveIn c d m i))
+
+  pub leaves-law : (i : ℕ) → i < n → leavesAt c d k m i ≡ (isListed c d m i && not (stays c d n k m i))
+  unfolding leavesAt leaves
+  leaves-law i h =
+      let x = moveIn c d m i in
+      leave-test (isListed c d m i) (eqb i (k .goes)) (hiddenByComing d k x) (hidden d rest x)
+      (λ e. held-listed c d n m s i h ∙ ap not (rest-hides c d n m (k .goes) x e))
+      ∙ ap (λ (t : Bool). isListed c d m i && not t) (sym (stays-rest i))
+
+  -- What no move left hides was hidden by the going one, and that one was listed.
+  went : (i : ℕ) → i < n → isListed c d m i ≡ false → hidden d rest (moveIn c d m i) ≡ false
+      → (ltb (k .goes) n && isListed c d m (k .goes) && hides d (moveIn c d m (k .goes)) (moveIn c d m i)) ≡ true
+  went i h unlisted shown = by-place (eqb j (k .goes)) refl
+    where
+      x : Move
+      x = moveIn c d m i
+
+      hider : HiderIn (moveBefore d) (hides d) (skyline d before) x
+      hider =
+          skyline-hider d c (held-dimension c d n m s) before (held-fit c d n m s b) (held-order c d n m s) x (held-fit-at c d n m s b i h)
+          (not-false (hidden d before x) (sym (held-listed c d n m s i h) ∙ unlisted))
+
+      at : (j : ℕ) × List·Memᴰ j (numbersFrom 0 n) × (moveIn c d m j ≡ hider .hider)
+      at =
+          Memᴰ·of-map (moveIn c d m) (numbersFrom 0 n)
+          (subst (List·Memᴰ (hider .hider)) (line-places c d n m) (skyline-mem d before (hider .listed) .0))
+
+      j : ℕ
+      j = at .0
+
+      on-board : j < n
+      on-board = each-mem (λ j. j < n) (each-place (λ j. j < n) n (λ j l. l)) (at .1)
+
+      hides-x : hides d (moveIn c d m j) x ≡ true
+      hides-x = ap (λ (y : Move). hides d y x) (at .2) ∙ hider .hiding
+
+      is-listed : isListed c d m j ≡ true
+      is-listed =
+          held-listed c d n m s j on-board
+          ∙ ap not (ap (hidden d before) (at .2) ∙ skyline-mem d before (hider .listed) .1)
+
+      by-place : (t : Bool) → eqb j (k .goes) ≡ t → (ltb (k .goes) n && isListed c d m (k .goes) && hides d (moveIn c d m (k .goes)) x) ≡ true
+      by-place true e =
+          subst (λ (g : ℕ). (ltb g n && isListed c d m g && hides d (moveIn c d m g) x) ≡ true) (eqb-true j (k .goes) e)
+          (and-both (ltb j n && isListed c d m j) (hides d (moveIn c d m j) x) (and-both (ltb j n) (isListed c d m j) (lt-ltb j n on-board) is-listed) hides-x)
+      by-place false e =
+          both-ways
+          (hidden-rest c d n m (k .goes) x
+          ∙ any-mem (λ j. not (eqb j (k .goes)) && hides d (moveIn c d m j) x) (at .1)
+          (and-both (not (eqb j (k .goes))) (hides d (moveIn c d m j) x) (ap not e) hides-x))
+          shown
+
+  pub enters-law : (i : ℕ) → i < n → entersAt c d n k m i ≡ (not (isListed c d m i) && stays c d n k m i)
+  unfolding entersAt comesUp
+  enters-law i h =
+      let x = moveIn c d m i in
+      let hid = ltb (k .goes) n && isListed c d m (k .goes) && hides d (moveIn c d m (k .goes)) x in
+      ap (λ (t : Bool). not (isListed c d m i) && (not (eqb i (k .goes)) && (hid && not (hiddenByComing d k x) && not t))) (others-hide c d n m (k .goes) x)
+      ∙ enter-test (isListed c d m i) (eqb i (k .goes)) hid (hiddenByComing d k x) (hidden d rest x) (went i h)
+      ∙ ap (λ (t : Bool). not (isListed c d m i) && t) (sym (stays-rest i))
+
+  -- The coming move's test, whether one comes or not.
+  abbrev comingListed : Bool
+  comingListed = k .comes && not (hidden d (changedMoves d k before) (asMove (k .coming)))
+
+  pub listed-law : k .comes ≡ true → Fit c d (asMove (k .coming)) → not (hiddenByOthers c d n (k .goes) (asMove (k .coming)) m) ≡ comingListed
+  unfolding changedMoves
+  listed-law e fit =
+      let y = asMove (k .coming) in
+      ap not (others-hide c d n m (k .goes) y ∙ sym (enter-hidden-self d c (held-dimension c d n m s) y rest fit))
+      ∙ ap (λ (t : Bool). t && not (hidden d (cond t (insert d y rest) rest) y)) (sym e)
+
+  pub unlisted-law : k .comes ≡ false → false ≡ comingListed
+  unlisted-law e = ap (λ (t : Bool). t && not (hidden d (changedMoves d k before) (asMove (k .coming)))) (sym e)
+
+  -- ---- the sets and the counts
+
+  set-at : (test : ℕ → Bool) (ws : List ℕ) → ((j : ℕ) → inSet ws j ≡ anyTo (λ i. test i && eqb j (numberIn c m i)) n)
+      → (i : ℕ) → i < n → inSet ws (numberIn c m i) ≡ test i
+  set-at test ws found i h =
+      found (numberIn c m i)
+      ∙ same-test (anyTo here n) (test i)
+      (λ e. let w = any-witness here (numbersFrom 0 n) (sym (anyTo-places here n) ∙ e) in from (w .0) (each-mem (λ j. j < n) (each-place (λ j. j < n) n (λ j l. l)) (w .1)) (w .2))
+      (λ e. anyTo-found here n i h (and-both (test i) (eqb (numberIn c m i) (numberIn c m i)) e (eq-eqb (numberIn c m i) (numberIn c m i) refl)))
+    where
+      here : ℕ → Bool
+      here j = test j && eqb (numberIn c m i) (numberIn c m j)
+
+      from : (j : ℕ) → j < n → here j ≡ true → test i ≡ true
+      from j l e =
+          ap test (held-once c d n m s b i j h l (eqb-true (numberIn c m i) (numberIn c m j) (and-right (test j) (eqb (numberIn c m i) (numberIn c m j)) e)))
+          ∙ and-left (test j) (eqb (numberIn c m i) (numberIn c m j)) e
+
+  count-at : (p q : ℕ → Bool) → ((i : ℕ) → i < n → p i ≡ q i) → count p (numbersFrom 0 n) ≡ count q (numbersFrom 0 n)
+  count-at p q same = count-ext p q (numbersFrom 0 n) (each-place (λ i. p i ≡ q i) n same)
+
+  pub upkept : (u : Upkeep) → LookedTo c d n k n m u → (listed : Bool)
+      → listed ≡ comingListed
+      → Upkept c d n k m (record { leaving = u .leaving; entering = u .entering; left = u .left; entered = u .entered; listed = listed })
+  upkept u looked listed e =
+      record {
+        leaving = λ i h. set-at (leavesAt c d k m) (u .leaving) (looked .leaving) i h ∙ leaves-law i h;
+        entering = λ i h. set-at (entersAt c d n k m) (u .entering) (looked .entering) i h ∙ enters-law i h;
+        left = looked .left ∙ count-at (leavesAt c d k m) (λ i. isListed c d m i && not (stays c d n k m i)) leaves-law;
+        entered = looked .entered ∙ count-at (entersAt c d n k m) (λ i. not (isListed c d m i) && stays c d n k m i) enters-law;
+        listed = e;
+      }

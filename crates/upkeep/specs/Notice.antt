@@ -1,0 +1,72 @@
+-- What writing the notice and setting the marks leave.
+use Prim.Native.Nat.{ℕ, _+_, _-_, _<_, _≤_}
+use mathlib.Core.Bool.{Bool, true, false, cond}
+use mathlib.Core.Path.{_≡_}
+use mathlib.Core.List.{List, [], _∷_, _++_, map}
+use lib.Dec.{eqb}
+use lib.ListN.{length, drop}
+use lib.Seq.{sets}
+use Rattle.model.specs.Basics.{select, numbersFrom, consIf}
+use Rattle.model.specs.Moves.{Move, left, entered}
+use Rattle.promises.specs.Layout.{numberIn, markIn, moveIn}
+use Rattle.memory.specs.Room.{Room, Numbers}
+use Rattle.memory.specs.Frame.{MarksOnly}
+use Rattle.numbers.specs.Set.{inSet}
+use Rattle.upkeep.specs.declared.change.Upkeep.{Upkeep}
+
+-- A row as numbers: mark, number, costs.
+unfoldable pub rowNumbers : ℕ → Move → List ℕ
+rowNumbers mark x = mark ∷ x .number ∷ x .costs
+
+-- The places from one up to another whose number is in a set.
+unfoldable pub chosen : ℕ → ℕ → ℕ → List ℕ → List ℕ → List ℕ
+chosen c from to set m = select (λ i. inSet set (numberIn c m i)) (numbersFrom from (to - from))
+
+unfoldable pub rowsOf : ℕ → ℕ → ℕ → List ℕ → List ℕ → List (List ℕ)
+rowsOf c d mark places m = map (λ i. rowNumbers mark (moveIn c d m i)) places
+
+pub record PutAsked (c d from to : ℕ) (m : List ℕ) : Type 0 where
+  pub room : Room c m
+  pub order : from ≤ to
+  pub rows : to ≤ c
+  pub numbers : Numbers c to m
+  pub dimension : d ≤ 4
+
+-- The rows of the chosen places, put from row k on, the others as they were; then the next row.
+pub record PutSet (c d from to : ℕ) (set : List ℕ) (mark k : ℕ) (m : List ℕ) (rows rows' : List (List ℕ)) (r : ℕ) : Type 0 where
+  pub tells : rows' ≡ sets rows k (rowsOf c d mark (chosen c from to set m) m)
+  pub next : r ≡ k + length (chosen c from to set m)
+
+-- The whole notice: left, then entered with the coming move at its place.
+unfoldable pub noticeRows : ℕ → ℕ → ℕ → ℕ → Move → Upkeep → List ℕ → List (List ℕ)
+noticeRows c d n p x u m =
+    rowsOf c d left (chosen c 0 n (u .leaving) m) m
+    ++ (rowsOf c d entered (chosen c 0 p (u .entering) m) m
+    ++ (cond (u .listed) (rowNumbers entered x ∷ []) [] ++ rowsOf c d entered (chosen c p n (u .entering) m) m))
+
+pub record TellAsked (c d n p : ℕ) (u : Upkeep) (m : List ℕ) (rows : List (List ℕ)) : Type 0 where
+  pub room : Room c m
+  pub places : n ≤ c
+  pub place : p ≤ n
+  pub numbers : Numbers c n m
+  pub dimension : d ≤ 4
+  pub enough : (x : Move) → length (noticeRows c d n p x u m) ≤ length rows
+
+pub record Tells (c d n p : ℕ) (x : Move) (u : Upkeep) (m : List ℕ) (rows rows' : List (List ℕ)) (r : ℕ) : Type 0 where
+  pub tells : rows' ≡ noticeRows c d n p x u m ++ drop (length (noticeRows c d n p x u m)) rows
+  pub count : r ≡ length (noticeRows c d n p x u m)
+
+-- Whether the move at place i is listed once its mark is set.
+unfoldable pub listedThen : ℕ → List ℕ → List ℕ → List ℕ → ℕ → Bool
+listedThen c leaving entering m i =
+    cond (inSet leaving (numberIn c m i)) false
+    (cond (inSet entering (numberIn c m i)) true (eqb (markIn c m (numberIn c m i)) 1))
+
+pub record SetMark (c i : ℕ) (leaving entering m m' : List ℕ) : Type 0 where
+  pub here : eqb (markIn c m' (numberIn c m i)) 1 ≡ listedThen c leaving entering m i
+  pub others : (k : ℕ) → k < c → (k ≡ numberIn c m i → ⊥) → markIn c m' k ≡ markIn c m k
+  pub frame : MarksOnly c m m'
+
+pub record SetMarks (c n : ℕ) (leaving entering m m' : List ℕ) : Type 0 where
+  pub marks : (i : ℕ) → i < n → eqb (markIn c m' (numberIn c m i)) 1 ≡ listedThen c leaving entering m i
+  pub frame : MarksOnly c m m'

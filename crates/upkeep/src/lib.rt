@@ -1,0 +1,13 @@
+// The kept list: marked anew after a load, kept up by what a change does.
+mod change;
+mod mark;
+mod notice;
+
+pub use change::Change;
+pub use change::Upkeep;
+pub use change::upkeep_of;
+pub use mark::mark_all;
+pub use notice::ROW;
+pub use notice::row_of;
+pub use notice::set_marks;
+pub use notice::tell;
