@@ -1,0 +1,3 @@
+-- What the proofs of the functions use.
+pub mod Judging
+pub mod Answering

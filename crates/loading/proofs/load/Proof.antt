@@ -1,0 +1,84 @@
+-- `load` meets its contract: its checks are those of the definition, in their order. Assumes nothing.
+use mathlib.Core.List.{map}
+use mathlib.Core.Logic.{⊎-elim}
+use mathlib.Core.Path.{refl}
+use native.Mathlib.Omega.{arith}
+use borrow.Author.Needs.{needs}
+use borrow.Author.Tests.{ltb-true, ltb-false}
+use Rattle.promises.specs.Answers.{inputRow, numberOf, detailOf}
+use Rattle.promises.specs.declared.Verdict.the-variants.{NumberTooLarge, NumberTwice, BadArgument}
+use Rattle.loading.specs.File.{Acceptable}
+use Rattle.loading.proofs.Answering.{InRange, out-of-range, short-memory, row-bad, acceptable, load-accepted}
+use Rattle.loading.proofs.load.Statement.{statement}
+use Rattle.loading.proofs.load.Tie as tie
+
+in-range : (c : tie.Else4) → InRange (c .before .before .before .before .before .args .c) (c .before .before .before .before .before .args .d)
+in-range c = omega (arith, ltb-false)
+
+accepted : (c : tie.Else8) → Acceptable (c .before .before .before .before .before .before .before .before .before .before .before .before .before .args .c) (c .before .before .before .before .before .before .before .before .before .before .before .before .before .args .d) (map inputRow (c .before .before .before .before .before .before .before .before .before .before .before .before .before .args .rows .now))
+accepted c = acceptable (c .before .before .before .before .before .before .judge .ensures) (c .before .before .before .before .if6 .left) (c .before .before .if7 .left) (c .if8 .left)
+
+not-in-range : (c : tie.Joined1) → InRange (c .before .before .args .c) (c .before .before .args .d) → ⊥
+not-in-range c r =
+    ⊎-elim
+    (λ w. omega arith)
+    (⊎-elim (λ w. omega (arith, ltb-true)) (⊎-elim (λ w. omega (arith, ltb-true)) (λ w. omega (arith, ltb-true))))
+    (c .if1 .came)
+
+returns : tie.Need-returns
+returns c = out-of-range _ _ _ _ _ (not-in-range c) refl
+
+mul-if5 : tie.Need-mul-if5
+mul-if5 c = omega (arith, in-range c)
+
+add-if5 : tie.Need-add-if5
+add-if5 c = omega (arith, in-range c)
+
+returns-2 : tie.Need-returns-2
+returns-2 c = short-memory _ _ _ _ _ (in-range (c .before)) (omega arith) refl
+
+judge-requires : tie.Need-judge-requires
+judge-requires c κs = (omega (arith, in-range (c .before)), omega (arith, in-range (c .before)))
+
+returns-3 : tie.Need-returns-3
+unfolding numberOf detailOf
+returns-3 c =
+    row-bad _ _ _ _ _ (in-range (c .before .before .before .before)) (omega arith) (c .before .before .judge .ensures) (NumberTooLarge (c .before .before .judge .result .place)) 3 refl refl (c .if6 .taken) refl
+
+returns-4 : tie.Need-returns-4
+unfolding numberOf detailOf
+returns-4 c =
+    row-bad _ _ _ _ _ (in-range (c .before .before .before .before .before .before)) (omega arith) (c .before .before .before .before .judge .ensures) (BadArgument (c .before .before .before .before .judge .result .place)) 6 refl refl (c .if7 .taken) refl
+
+returns-5 : tie.Need-returns-5
+unfolding numberOf detailOf
+returns-5 c =
+    row-bad _ _ _ _ _ (in-range (c .before .before .before .before .before .before .before .before)) (omega arith) (c .before .before .before .before .before .before .judge .ensures) (NumberTwice (c .before .before .before .before .before .before .judge .result .place)) 4 refl refl (c .if8 .taken) refl
+
+fill-requires : tie.Need-fill-requires
+fill-requires c κs =
+    let range = in-range (c .before .before .before .before .before .before .before .before .before) in
+    (((omega arith, range .0 .1), range .0 .0, range .1 .0, range .1 .1), accepted (c .before))
+
+same-length : tie.Need-same-length
+same-length c = search needs
+
+returns-6 : tie.Need-returns-6
+returns-6 c =
+    load-accepted _ _ _ _ _ (in-range (c .before .before .before .before .before .before .before .before .before .before .before .before)) (omega arith) (c .before .before .before .before .before .before .before .before .before .before .judge .ensures) (accepted (c .before .before .before .before)) (c .before .before .fill .ensures)
+
+pub load-spec : {M : Type 1} → statement M
+load-spec =
+    tie.close
+    (tie.spec
+    returns
+    mul-if5
+    add-if5
+    returns-2
+    judge-requires
+    returns-3
+    returns-4
+    returns-5
+    fill-requires
+    same-length
+    returns-6)

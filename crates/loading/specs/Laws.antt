@@ -1,0 +1,4 @@
+-- What accepted rows are, and what filing them one by one comes to.
+pub mod Rows
+pub mod File
+pub mod Load

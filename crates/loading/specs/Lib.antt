@@ -1,0 +1,4 @@
+-- What the parts of a load say and leave.
+pub mod Judge
+pub mod File
+pub mod Laws
