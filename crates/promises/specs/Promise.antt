@@ -54,6 +54,11 @@ pub record ListPromise (m : List ℕ) (lent : List Row) (r : ListAnswer) (lent' 
   pub opened : (t : Tree) → Stands m t → r .opened ≡ counted (numberOf (r .verdict)) (nodesOpened (dimensionIn m) t)
   pub unsound : (Sound m → ⊥) → UnsoundSaid lent (r .verdict) (r .count) lent' × (r .opened ≡ 0)
 
+-- The other lists. Their memory is lent for reading only.
+pub record QueryPromise (q : Query) (m : List ℕ) (lent : List Row) (r : Answer) (lent' : List Row) : Type 0 where
+  pub sound : (t : Tree) → Stands m t → QuerySaid q (boardIn m) lent (r .verdict) (r .count) lent'
+  pub unsound : (Sound m → ⊥) → UnsoundSaid lent (r .verdict) (r .count) lent'
+
 -- Enter, withdraw and re-cost.
 abbrev pub ChangeSaid : Change → Board → List Row → Verdict → ℕ → List Row → Type 0
 ChangeSaid x b lent = Said (changeAnswer b x (length lent)) (changeNotice b x) lent

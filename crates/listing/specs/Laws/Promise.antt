@@ -108,7 +108,7 @@ enough-answer b lent need e h =
     ap (λ (x : Bool). cond x (record { number = 8; detail = need }) accepted) (sym (le-ltb lent need h))
     ∙ ap (λ (x : ℕ). cond (ltb lent x) (record { number = 8; detail = x }) accepted) (sym e)
 
-map-drop : {A B : Type 0} (f : A → B) (k : ℕ) (xs : List A) → map f (drop k xs) ≡ drop k (map f xs)
+pub map-drop : {A B : Type 0} (f : A → B) (k : ℕ) (xs : List A) → map f (drop k xs) ≡ drop k (map f xs)
 map-drop f zero xs = refl
 map-drop f (suc k) [] = refl
 map-drop f (suc k) (x ∷ xs) = map-drop f k xs

@@ -52,7 +52,7 @@ without-number {m} n ms k =
     let r = select-mem (λ m. not (eqb (m .number) n)) ms k in
     (r .0, not-true (eqb (m .number) n) (r .1))
 
-off-without : (n : ℕ) (ms : List Move) → onBoard n (without n ms) ≡ false
+pub off-without : (n : ℕ) (ms : List Move) → onBoard n (without n ms) ≡ false
 unfolding onBoard
 off-without n ms =
     any-none (λ m. eqb (m .number) n) (without n ms)

@@ -16,7 +16,7 @@ use Rattle.model.specs.Laws.Basics.{mem-each, select-mem, mem-select, se
 use Rattle.model.specs.Laws.Order.{move-path}
 use Rattle.model.specs.Laws.Permuted.{select-sublist, sublist-length}
 
-equal-refl : (ps : List ℕ) → equal ps ps ≡ true
+pub equal-refl : (ps : List ℕ) → equal ps ps ≡ true
 unfolding equal
 equal-refl [] = refl
 equal-refl (p ∷ ps) = and-both (eqb p p) (equal ps ps) (eq-eqb p p refl) (equal-refl ps)

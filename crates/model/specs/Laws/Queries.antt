@@ -25,7 +25,7 @@ undominated d ms = select (λ m. not (any (λ p. dominates d (p .costs) (m .cost
 
 -- ---- band
 
-count-zero : {A : Type 0} (p : A → Bool) (xs : List A) → leb (count p xs) 0 ≡ not (any p xs)
+pub count-zero : {A : Type 0} (p : A → Bool) (xs : List A) → leb (count p xs) 0 ≡ not (any p xs)
 unfolding count select any
 count-zero p [] = refl
 count-zero p (x ∷ xs) = step (p x) (count-zero p xs)

@@ -1,0 +1,99 @@
+-- `make::make_recost` meets its contract. Assumes nothing.
+use mathlib.Core.Path.{refl}
+use native.Mathlib.Omega.{arith}
+use borrow.Author.Needs.{needs}
+use Rattle.promises.specs.Run.{Bytes}
+use Rattle.board.specs.Laws.Rows.{marks-asked}
+use Rattle.board.specs.Laws.Steps.{coming-asked}
+use Rattle.board.specs.Laws.Recost.{recost-withdraw-asked, recost-written, recost-enter-asked, recost-count-asked, recost-made}
+use Rattle.board.proofs.make.make_recost.Statement.{statement}
+use Rattle.board.proofs.make.make_recost.Tie as tie
+
+set-marks-requires : tie.Need-set-marks-requires
+unfolding Bytes
+set-marks-requires c κs =
+    let start = c .before .before .before in
+    let bytes : Bytes (start .args .m .now) = λ i. omega (arith, c .before .before .slice-known .given i) in
+    marks-asked (start .pre .asked .sound) bytes
+
+set-listed-requires : tie.Need-set-listed-requires
+set-listed-requires c κs =
+    let marks = c .before .before .before in
+    let start = marks .before .before .before .before in
+    coming-asked (start .pre .asked) refl (marks .set-marks .ensures .frame)
+
+withdraw-line-requires : tie.Need-withdraw-line-requires
+unfolding Bytes
+withdraw-line-requires c κs =
+    let listed = c .before .before .before in
+    let marks = listed .before .before .before .before in
+    let start = marks .before .before .before .before in
+    let bytes : Bytes (start .args .m .now) = λ i. omega (arith, marks .before .before .before .slice-known .given i) in
+    recost-withdraw-asked (start .pre) bytes (marks .set-marks .ensures) (listed .set-listed .ensures)
+
+set-costs-requires : tie.Need-set-costs-requires
+unfolding Bytes
+set-costs-requires c κs =
+    let gone = c .before .before .before in
+    let listed = gone .before .before .before .before in
+    let marks = listed .before .before .before .before in
+    let start = marks .before .before .before .before in
+    let bytes : Bytes (start .args .m .now) = λ i. omega (arith, marks .before .before .before .slice-known .given i) in
+    coming-asked (start .pre .asked) refl
+    (recost-written (start .pre) bytes (marks .set-marks .ensures) (listed .set-listed .ensures) (gone .withdraw-line .ensures))
+
+sub-enter-line : tie.Need-sub-enter-line
+sub-enter-line c = search needs
+
+enter-line-requires : tie.Need-enter-line-requires
+unfolding Bytes
+enter-line-requires c κs =
+    let costs = c .before .before .before in
+    let gone = costs .before .before .before .before in
+    let listed = gone .before .before .before .before in
+    let marks = listed .before .before .before .before in
+    let start = marks .before .before .before .before in
+    let bytes : Bytes (start .args .m .now) = λ i. omega (arith, marks .before .before .before .slice-known .given i) in
+    recost-enter-asked (start .pre) bytes (marks .set-marks .ensures) (listed .set-listed .ensures) (gone .withdraw-line .ensures) (costs .set-costs .ensures)
+
+set-count-requires : tie.Need-set-count-requires
+unfolding Bytes
+set-count-requires c κs =
+    let entered = c .before .before .before in
+    let costs = entered .before .before .before .before in
+    let gone = costs .before .before .before .before in
+    let listed = gone .before .before .before .before in
+    let marks = listed .before .before .before .before in
+    let start = marks .before .before .before .before in
+    let bytes : Bytes (start .args .m .now) = λ i. omega (arith, marks .before .before .before .slice-known .given i) in
+    recost-count-asked (start .pre) bytes (marks .set-marks .ensures) (listed .set-listed .ensures) (gone .withdraw-line .ensures) (costs .set-costs .ensures) (entered .enter-line .ensures)
+
+same-length : tie.Need-same-length
+same-length c = search needs
+
+returns : tie.Need-returns
+unfolding Bytes
+returns c =
+    let counted = c .before .before in
+    let entered = counted .before .before .before .before in
+    let costs = entered .before .before .before .before in
+    let gone = costs .before .before .before .before in
+    let listed = gone .before .before .before .before in
+    let marks = listed .before .before .before .before in
+    let start = marks .before .before .before .before in
+    let bytes : Bytes (start .args .m .now) = λ i. omega (arith, marks .before .before .before .slice-known .given i) in
+    recost-made (start .pre) bytes (marks .set-marks .ensures) (listed .set-listed .ensures) (gone .withdraw-line .ensures) (costs .set-costs .ensures) (entered .enter-line .ensures) (counted .set-count .ensures)
+
+pub make-recost-spec : {M : Type 1} → statement M
+make-recost-spec =
+    tie.close
+    (tie.spec
+    set-marks-requires
+    set-listed-requires
+    withdraw-line-requires
+    set-costs-requires
+    sub-enter-line
+    enter-line-requires
+    set-count-requires
+    same-length
+    returns)

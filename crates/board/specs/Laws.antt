@@ -1,0 +1,13 @@
+-- What the parts of the three changes say and leave: laws over plain values.
+pub mod Judge
+pub mod Rows
+pub mod Kept
+pub mod Marks
+pub mod Steps
+pub mod Enter
+pub mod Withdraw
+pub mod Recost
+pub mod Notify
+pub mod Calls
+pub mod Accepted
+pub mod Unchanged

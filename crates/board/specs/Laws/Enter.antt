@@ -1,0 +1,88 @@
+-- Entering a move, step by step on sound memory: what the steps ask, and what all of them leave.
+use Prim.Native.Nat.{ℕ, _+_, _≤_, _<_}
+use mathlib.Core.Bool.{false}
+use mathlib.Core.List.{List}
+use mathlib.Core.Path.{_≡_, refl, sym, ap, _∙_, subst}
+use native.Mathlib.Numerals.{add-one}
+use native.Mathlib.Omega.{arith}
+use lib.ListN.{length}
+use Rattle.model.specs.Moves.{insert}
+use Rattle.model.specs.Tree.{Tree, movesOf}
+use Rattle.model.specs.Calls as calls
+use Rattle.model.specs.Calls.{onBoard, changed}
+use Rattle.model.specs.Changing.{changeTree}
+use Rattle.model.specs.Sound.{Fit}
+use Rattle.model.specs.Laws.Order.{move-order}
+use Rattle.model.specs.Laws.Entering.{enter-moves}
+use Rattle.promises.specs.Layout.{dimensionIn, markIn, boardIn}
+use Rattle.promises.specs.Sound.{Stands}
+use Rattle.promises.specs.Promise.{Kept}
+use Rattle.promises.specs.Run.{Bytes}
+use Rattle.dominance.specs.Move.{asMove}
+use Rattle.dominance.specs.declared.Move.{Move}
+use Rattle.memory.specs.Held.{SoundAt}
+use Rattle.memory.specs.Stores.{setListed, setCosts, setCount}
+use Rattle.memory.specs.Frame.{MarksOnly, CostsOnly}
+use Rattle.memory.specs.Laws.Frames.{frame-trans, frame-widen}
+use Rattle.memory.specs.Laws.Fields.{mark-over-rows, mark-over-costs}
+use Rattle.tree.specs.Hold.{RowsHold}
+use Rattle.tree.specs.Enter as tree
+use Rattle.upkeep.specs.Change.{changedMoves}
+use Rattle.upkeep.specs.Notice.{SetMarks}
+use Rattle.upkeep.specs.declared.change.Upkeep.{Upkeep}
+use Rattle.board.specs.Change.{EnterAsked, EnterMade}
+use Rattle.board.specs.Laws.Rows.{holds-sound, holds-moves, holds-over-marks, holds-counted}
+use Rattle.board.specs.Laws.Kept.{MarksRight, made}
+use Rattle.board.specs.Laws.Marks.{entering-moves, marks-come}
+use Rattle.board.specs.Laws.Steps.{listed-frame, stored-frame, stored-holds, stored-asked}
+
+module _ {c d n : ℕ} {x : Move} {u : Upkeep} {m m₁ m₂ m₃ : List ℕ} (a : EnterAsked c d n x u m) (b : Bytes m)
+    (set : SetMarks c n (u .leaving) (u .entering) m m₁)
+    (e₂ : m₂ ≡ setListed c (x .number) (u .listed) m₁)
+    (e₃ : m₃ ≡ setCosts c (x .number) (x .costs) m₂) where
+  abbrev s : SoundAt c d n m
+  s = a .asked .sound
+
+  marked : MarksOnly c m m₂
+  marked = listed-frame (x .number) (u .listed) (a .asked .fit refl .number) (set .frame) e₂
+
+  module _ (t : Tree) (stands : Stands m t) where
+    marked-holds : RowsHold c d n m₂ t
+    marked-holds = holds-over-marks (holds-sound s b t stands) marked
+
+    off : onBoard (x .number) (movesOf t) ≡ false
+    off = ap (onBoard (x .number)) (sym (holds-moves (holds-sound s b t stands)) ∙ sym (entering-moves c d n m)) ∙ a .asked .new refl
+
+  pub enter-line-asked : tree.EnterAsked c d n (asMove x) m₃
+  enter-line-asked =
+      let t = s .sound .tree in
+      let stands = s .sound .stands in
+      stored-asked (marked-holds t stands) (a .asked .fit refl) (off t stands) e₃ (a .space)
+
+  pub enter-count-asked : {m₄ : List ℕ} → tree.Entered c d n (asMove x) m₃ m₄ → (16 ≤ length m₄) × (n + 1 < 65536)
+  enter-count-asked entered =
+      let t = s .sound .tree in
+      let stands = s .sound .stands in
+      let k = holds-counted (entered .holds t (stored-holds (marked-holds t stands) (a .asked .fit refl) (off t stands) e₃)) in
+      omega arith
+
+  module _ {m₄ m₅ : List ℕ} (entered : tree.Entered c d n (asMove x) m₃ m₄) (e₅ : m₅ ≡ setCount (n + 1) m₄) (t : Tree) (stands : Stands m t) where
+    costs : CostsOnly c m₂ m₃
+    costs = stored-frame (marked-holds t stands) (a .asked .fit refl) (off t stands) e₃
+
+    enter-kept : Kept m m₅ (changed (boardIn m) (calls.enter (x .number) (x .costs))) (changeTree (dimensionIn m) (calls.enter (x .number) (x .costs)) t)
+    unfolding changeTree calls.changedMoves changedMoves
+    enter-kept =
+        let h = holds-sound s b t stands in
+        made s (calls.enter (x .number) (x .costs)) t
+        (frame-trans (frame-widen (omega arith) (omega arith) marked)
+        (frame-trans (frame-widen (omega arith) (omega arith) costs) (frame-widen (omega arith) (omega arith) (entered .frame))))
+        (entered .holds t (stored-holds (marked-holds t stands) (a .asked .fit refl) (off t stands) e₃))
+        (enter-moves d (Fit c d) (move-order d c (h .dimension)) (asMove x) (a .asked .fit refl) t (h .rules) (h .fits) ∙ ap (insert d (asMove x)) (sym (holds-moves h)))
+        (subst (MarksRight c d m₄) (ap (insert d (asMove x)) (entering-moves c d n m))
+        (marks-come (a .asked) (a .upkept) set m₄ refl
+        (λ v l. mark-over-rows c (entered .frame) v ∙ mark-over-costs c costs v l ∙ ap (λ (w : List ℕ). markIn c w v) e₂)))
+        (e₅ ∙ ap (λ (k : ℕ). setCount k m₄) (add-one n))
+
+  pub enter-made : {m₄ m₅ : List ℕ} → tree.Entered c d n (asMove x) m₃ m₄ → m₅ ≡ setCount (n + 1) m₄ → EnterMade (asMove x) m m₅
+  enter-made entered e₅ = record { kept = enter-kept entered e₅ }

@@ -1,0 +1,128 @@
+-- The end of every change: rows that hold the new tree, marks that say who is in its list, and then the count.
+use Prim.Native.Nat.{ℕ, _+_, _*_, _-_, _<_}
+use mathlib.Core.Bool.{not}
+use mathlib.Core.List.{List}
+use mathlib.Core.Logic.{inr}
+use mathlib.Core.Path.{_≡_, sym, ap, ap₂, _∙_, subst, subst₃}
+use native.Mathlib.Omega.{arith}
+use lib.Dec.{eqb}
+use lib.ListN.{length, drop, length-drop}
+use lib.Seq.{ext-getD, getD-drop}
+use Rattle.zorder.specs.Refusal.{costCountBad}
+use Rattle.model.specs.Basics.{Each}
+use Rattle.model.specs.Moves.{Move}
+use Rattle.model.specs.Lists.{hidden, skyline}
+use Rattle.model.specs.Tree.{Tree, movesOf, ruled}
+use Rattle.model.specs.Calls.{Change, changedMoves, changed, sizeBad, memoryNeed}
+use Rattle.model.specs.Changing.{changeTree}
+use Rattle.model.specs.Laws.Basics.{each-mono, select-ext}
+use Rattle.line.specs.Line.{movesIn, lineOf}
+use Rattle.line.specs.Laws.Line.{moves-line}
+use Rattle.promises.specs.Layout.{sizeIn, dimensionIn, countIn, markIn, moveIn, placedIn, lineFrom, lineIn, boardIn, keptFrom, keptIn}
+use Rattle.promises.specs.Sound.{Stands}
+use Rattle.promises.specs.Promise.{Kept}
+use Rattle.promises.specs.Laws.Tab.{each-tab}
+use Rattle.memory.specs.Held.{SoundAt}
+use Rattle.memory.specs.Stores.{setCount}
+use Rattle.memory.specs.Frame.{Frame}
+use Rattle.memory.specs.Laws.Frames.{frame-trans, frame-widen}
+use Rattle.memory.specs.Laws.Fields.{size-over, dimension-over, number-over-head, mark-over-head}
+use Rattle.memory.specs.Laws.Stored.{setCount-head, count-setCount, size-setCount, dimension-setCount}
+use Rattle.memory.specs.Laws.Lines.{lineIn-line, line-over-head}
+use Rattle.tree.specs.Hold.{RowsHold}
+
+-- The mark of each of the moves says whether it is in their list.
+abbrev pub MarksRight : ℕ → ℕ → List ℕ → List Move → Type 0
+MarksRight c d m ms = Each (λ x. eqb (markIn c m (x .number)) 1 ≡ not (hidden d ms x)) ms
+
+-- What a change may write before the count: rows, marks, costs and the work area.
+abbrev pub Written : ℕ → List ℕ → List ℕ → Type 0
+Written c = Frame 16 (16 + 23 * c)
+
+module _ {c d n k : ℕ} {m m₁ : List ℕ} {t : Tree} (s : SoundAt c d n m) (f : Written c m m₁) (h : RowsHold c d k m₁ t)
+    (marks : MarksRight c d m₁ (movesOf t)) where
+  abbrev m' : List ℕ
+  m' = setCount k m₁
+
+  abbrev head : Frame 0 16 m₁ (setCount k m₁)
+  head = setCount-head k m₁
+
+  size : sizeIn m' ≡ c
+  size = size-setCount k m₁ ∙ size-over f (omega arith) ∙ sym (s .size)
+
+  dimension : dimensionIn m' ≡ d
+  dimension = dimension-setCount k m₁ ∙ dimension-over f (omega arith) ∙ sym (s .dimension)
+
+  count : countIn m' ≡ k
+  count = count-setCount k m₁ (omega (arith, h .room))
+
+  line-is : lineIn m' ≡ lineFrom c d k m'
+  line-is = lineIn-line c d k m' size dimension count
+
+  line : lineIn m' ≡ lineOf t
+  line = line-is ∙ line-over-head c d k head ∙ h .line
+
+  moves : movesIn (lineIn m') ≡ movesOf t
+  moves = ap movesIn line ∙ moves-line t
+
+  numbers : Each (λ r. r .move .number < c) (lineFrom c d k m')
+  unfolding lineFrom placedIn moveIn
+  numbers =
+      each-tab (placedIn c d m') (λ r. r .move .number < c) k
+      (λ i l. subst (λ (v : ℕ). v < c) (sym (number-over-head c head i)) (h .numbers i l))
+
+  kept : keptIn m' ≡ skyline (dimensionIn m') (movesOf t)
+  unfolding keptIn keptFrom skyline
+  kept =
+      ap₂ (λ (v : ℕ) (ms : List Move). keptFrom v m' ms) size moves
+      ∙ select-ext (λ x. eqb (markIn c m' (x .number)) 1) (λ x. not (hidden d (movesOf t) x)) (movesOf t)
+      (each-mono (λ x. eqb (markIn c m₁ (x .number)) 1 ≡ not (hidden d (movesOf t) x)) (λ x. eqb (markIn c m' (x .number)) 1 ≡ not (hidden d (movesOf t) x)) (movesOf t)
+      (λ x e. ap (λ (v : ℕ). eqb v 1) (mark-over-head c head (x .number)) ∙ e) marks)
+      ∙ ap (λ (v : ℕ). skyline v (movesOf t)) (sym dimension)
+
+  stands : Stands m' t
+  unfolding memoryNeed
+  stands =
+      record {
+        size = ap sizeBad (size ∙ s .size) ∙ s .sound .stands .size;
+        dimension = ap costCountBad (dimension ∙ s .dimension) ∙ s .sound .stands .dimension;
+        room = omega (arith, size, h .room, head .length);
+        count = omega (arith, count, size, h .rows);
+        numbers = subst (λ (v : ℕ). Each (λ r. r .move .number < v) (lineIn m')) (sym size) (subst (Each (λ r. r .move .number < c)) (sym line-is) numbers);
+        line = line;
+        rules = ap (λ (v : ℕ). ruled v t) dimension ∙ h .rules;
+        kept = kept;
+      }
+
+  all : Frame 0 (16 + 23 * c) m m'
+  all = frame-trans (frame-widen (omega arith) (omega arith) f) (frame-widen (omega arith) (omega arith) head)
+
+  past : drop (memoryNeed c) m' ≡ drop (memoryNeed c) m
+  unfolding memoryNeed
+  past =
+      ext-getD 0 (drop (memoryNeed c) m') (drop (memoryNeed c) m)
+      (length-drop (memoryNeed c) m' ∙ ap (λ (v : ℕ). v - memoryNeed c) (all .length) ∙ sym (length-drop (memoryNeed c) m))
+      (λ i _. getD-drop (memoryNeed c) m' i 0 ∙ all .same (memoryNeed c + i) (inr (omega arith)) ∙ sym (getD-drop (memoryNeed c) m i 0))
+
+  kept-counted : (ms : List Move) → movesOf t ≡ ms → Kept m m' (record { size = c; dimension = d; moves = ms }) t
+  unfolding boardIn
+  kept-counted ms e =
+      record {
+        holding = record { stands = stands; board = λ i. record { size = size i; dimension = dimension i; moves = (moves ∙ e) i } };
+        length = all .length;
+        past = past;
+      }
+
+-- The same for a change of the board that sound memory holds.
+pub made : {c d n k : ℕ} {m m₁ m' : List ℕ} (s : SoundAt c d n m) (x : Change) (t : Tree) → Written c m m₁ → RowsHold c d k m₁ (changeTree d x t)
+    → movesOf (changeTree d x t) ≡ changedMoves d x (movesIn (lineFrom c d n m))
+    → MarksRight c d m₁ (changedMoves d x (movesIn (lineFrom c d n m)))
+    → m' ≡ setCount k m₁
+    → Kept m m' (changed (boardIn m) x) (changeTree (dimensionIn m) x t)
+unfolding changed boardIn lineIn
+made {c} {d} {n} {k} {m} {m₁} s x t f h moves marks e =
+    subst (λ (w : List ℕ). Kept m w (changed (boardIn m) x) (changeTree (dimensionIn m) x t)) (sym e)
+    (subst₃
+    (λ (c d n : ℕ). Kept m (setCount k m₁) (record { size = c; dimension = d; moves = changedMoves d x (movesIn (lineFrom c d n m)) }) (changeTree d x t))
+    (s .size) (s .dimension) (s .count)
+    (kept-counted s f h (subst (MarksRight c d m₁) (sym moves) marks) (changedMoves d x (movesIn (lineFrom c d n m))) moves))

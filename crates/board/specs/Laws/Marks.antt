@@ -1,0 +1,170 @@
+-- The marks after a change, and the moves that it leaves.
+use Prim.Native.Nat.{ℕ, suc, _<_}
+use mathlib.Core.Bool.{Bool, true, false, cond, not, _&&_}
+use mathlib.Core.List.{List, _++_, map, append-nil}
+use mathlib.Core.Logic.{_≢_}
+use mathlib.Core.Path.{_≡_, refl, sym, ap, ap₂, _∙_, subst}
+use native.Mathlib.Omega.{arith}
+use borrow.Author.Tests.{eq-eqb, eqb-true, eqb-false, ne-eqb, not-true}
+use lib.Dec.{eqb}
+use lib.ListN.{length, length-map, drop-of-length-le}
+use lib.Seq.{take-all}
+use Rattle.model.specs.Basics.{Each, select, any, numbersFrom}
+use Rattle.model.specs.Moves.{Move, moveBefore, insert}
+use Rattle.model.specs.Lists.{hidden}
+use Rattle.model.specs.Withdrawing.{without}
+use Rattle.model.specs.Calls.{onBoard}
+use Rattle.model.specs.Laws.Bool.{condCases, same-test, both-ways, and-both, not-flip}
+use Rattle.model.specs.Laws.Basics.{each-mem, mem-each, each-map, select-mem, select-map, select-ext, any-map, any-select}
+use Rattle.model.specs.Laws.Sorting.{each-insert}
+use Rattle.line.specs.Line.{movesIn}
+use Rattle.promises.specs.Layout.{numberIn, markIn, moveIn, lineFrom}
+use Rattle.promises.specs.Run.{Bytes}
+use Rattle.dominance.specs.Move.{asMove}
+use Rattle.memory.specs.Held.{SoundAt}
+use Rattle.memory.specs.Tests.{isListed}
+use Rattle.memory.specs.Laws.Places.{anyTo-found}
+use Rattle.memory.specs.Stores.{setListed}
+use Rattle.memory.specs.Laws.Frames.{room-over}
+use Rattle.memory.specs.Laws.Stored.{mark-setListed-other, listed-setListed}
+use Rattle.memory.specs.Laws.Lines.{length-line}
+use Rattle.memory.specs.Laws.Held.{held-room, held-numbers, held-once}
+use Rattle.upkeep.specs.Change.{dropAt, changedMoves, stays, Asked, Upkept}
+use Rattle.upkeep.specs.Notice.{listedThen, SetMarks}
+use Rattle.upkeep.specs.Laws.Places.{each-place, anyTo-places}
+use Rattle.upkeep.specs.Laws.Change.{line-places, rest-places}
+use Rattle.upkeep.specs.declared.change.Change.{Change}
+use Rattle.upkeep.specs.declared.change.Upkeep.{Upkeep}
+use Rattle.board.specs.Laws.Kept.{MarksRight}
+
+-- ---- the moves left
+
+-- No move goes.
+pub dropAt-past : (i : ℕ) (ms : List Move) → length ms ≡ i → dropAt i ms ≡ ms
+unfolding dropAt
+dropAt-past i ms e =
+    ap₂ (λ (xs ys : List Move). xs ++ ys) (take-all i ms (omega arith)) (drop-of-length-le ms {i = suc i} (omega arith)) ∙ append-nil ms
+
+-- A property of the moves left, by their places.
+module _ (c d n g : ℕ) (m : List ℕ) where
+  pub each-rest : (P : Move → Type 0) → ((i : ℕ) → i < n → i ≢ g → P (moveIn c d m i)) → Each P (dropAt g (movesIn (lineFrom c d n m)))
+  each-rest P f =
+      subst (Each P) (sym (rest-places c d n m g))
+      (each-map P (moveIn c d m) places
+      (mem-each (λ i. P (moveIn c d m i)) places
+      (λ i k.
+      let w = select-mem (λ j. not (eqb j g)) (numbersFrom 0 n) k in
+      f i (each-mem (λ j. j < n) (each-place (λ j. j < n) n (λ j l. l)) (w .0)) (eqb-false i g (not-true (eqb i g) (w .1))))))
+    where
+      places : List ℕ
+      places = select (λ j. not (eqb j g)) (numbersFrom 0 n)
+
+  -- A number that none of them has stands at no other place.
+  pub rest-absent : (k : ℕ) → onBoard k (dropAt g (movesIn (lineFrom c d n m))) ≡ false → (i : ℕ) → i < n → i ≢ g → numberIn c m i ≢ k
+  unfolding onBoard moveIn
+  rest-absent k off i l ne e =
+      both-ways
+      (ap (any has) (rest-places c d n m g)
+      ∙ any-map has (moveIn c d m) (select (λ j. not (eqb j g)) (numbersFrom 0 n))
+      ∙ any-select (λ j. has (moveIn c d m j)) (λ j. not (eqb j g)) (numbersFrom 0 n)
+      ∙ sym (anyTo-places here n)
+      ∙ anyTo-found here n i l (and-both (not (eqb i g)) (eqb (numberIn c m i) k) (not-flip (eqb i g) (ne-eqb i g ne)) (eq-eqb (numberIn c m i) k e)))
+      off
+    where
+      has : Move → Bool
+      has x = eqb (x .number) k
+
+      here : ℕ → Bool
+      here j = not (eqb j g) && has (moveIn c d m j)
+
+  -- They are those of other numbers.
+  pub rest-without : SoundAt c d n m → Bytes m → g < n → dropAt g (movesIn (lineFrom c d n m)) ≡ without (numberIn c m g) (movesIn (lineFrom c d n m))
+  unfolding without moveIn
+  rest-without s b l =
+      rest-places c d n m g
+      ∙ ap (map (moveIn c d m))
+      (select-ext (λ j. not (eqb j g)) (λ j. not (eqb (numberIn c m j) (numberIn c m g))) (numbersFrom 0 n)
+      (each-place (λ j. not (eqb j g) ≡ not (eqb (numberIn c m j) (numberIn c m g))) n
+      (λ j k.
+      ap not
+      (same-test (eqb j g) (eqb (numberIn c m j) (numberIn c m g))
+      (λ e. eq-eqb (numberIn c m j) (numberIn c m g) (ap (numberIn c m) (eqb-true j g e)))
+      (λ e. eq-eqb j g (held-once c d n m s b j g k l (eqb-true (numberIn c m j) (numberIn c m g) e)))))))
+      ∙ sym (select-map (λ x. not (eqb (x .number) (numberIn c m g))) (moveIn c d m) (numbersFrom 0 n))
+      ∙ sym (ap (without (numberIn c m g)) (line-places c d n m))
+
+pub entering-moves : (c d n : ℕ) (m : List ℕ) → dropAt n (movesIn (lineFrom c d n m)) ≡ movesIn (lineFrom c d n m)
+unfolding movesIn
+entering-moves c d n m =
+    dropAt-past n (movesIn (lineFrom c d n m)) (length-map (lineFrom c d n m) (λ r. r .move) ∙ length-line c d n m)
+
+-- ---- the marks
+
+mark-test : (listed stays : Bool) → cond (listed && not stays) false (cond (not listed && stays) true listed) ≡ stays
+mark-test true true = refl
+mark-test true false = refl
+mark-test false true = refl
+mark-test false false = refl
+
+module _ {c d n : ℕ} {k : Change} {m : List ℕ} {u : Upkeep} (up : Upkept c d n k m u) where
+  abbrev before : List Move
+  before = movesIn (lineFrom c d n m)
+
+  abbrev after : List Move
+  after = changedMoves d k before
+
+  then-stays : (i : ℕ) → i < n → listedThen c (u .leaving) (u .entering) m i ≡ stays c d n k m i
+  unfolding listedThen isListed moveIn
+  then-stays i l =
+      ap₂ (λ (p q : Bool). cond p false (cond q true (isListed c d m i))) (up .leaving i l) (up .entering i l)
+      ∙ mark-test (isListed c d m i) (stays c d n k m i)
+
+  marks-stay : {m₁ : List ℕ} → SetMarks c n (u .leaving) (u .entering) m m₁ → (i : ℕ) → i < n → eqb (markIn c m₁ (numberIn c m i)) 1 ≡ stays c d n k m i
+  marks-stay set i l = set .marks i l ∙ then-stays i l
+
+  -- Marks right at the places of the moves left, and at the coming one's number.
+  marks-right : (m₁ : List ℕ)
+      → ((i : ℕ) → i < n → i ≢ k .goes → eqb (markIn c m₁ (numberIn c m i)) 1 ≡ stays c d n k m i)
+      → (k .comes ≡ true → eqb (markIn c m₁ (k .coming .number)) 1 ≡ u .listed)
+      → MarksRight c d m₁ after
+  unfolding changedMoves insert stays moveIn
+  marks-right m₁ old new =
+      condCases (Each Right) (k .comes)
+      (λ e. each-insert (moveBefore d) Right (asMove (k .coming)) (dropAt (k .goes) before) (fresh e) rest)
+      (λ _. rest)
+    where
+      Right : Move → Type 0
+      Right x = eqb (markIn c m₁ (x .number)) 1 ≡ not (hidden d after x)
+
+      rest : Each Right (dropAt (k .goes) before)
+      rest =
+          each-rest c d n (k .goes) m Right
+          (λ i l ne. old i l ne ∙ ap (λ (b : Bool). not b && not (hidden d after (moveIn c d m i))) (ne-eqb i (k .goes) ne))
+
+      fresh : k .comes ≡ true → Right (asMove (k .coming))
+      fresh e = new e ∙ up .listed ∙ ap (λ (b : Bool). b && not (hidden d after (asMove (k .coming)))) e
+
+-- Of memory whose marks were set, and whatever else was written afterwards.
+module _ {c d n : ℕ} {k : Change} {m m₁ : List ℕ} {u : Upkeep} (asked : Asked c d n k m) (up : Upkept c d n k m u)
+    (set : SetMarks c n (u .leaving) (u .entering) m m₁) (m' : List ℕ) where
+  pub marks-gone : k .comes ≡ false → ((v : ℕ) → v < c → markIn c m' v ≡ markIn c m₁ v) → MarksRight c d m' (changedMoves d k (movesIn (lineFrom c d n m)))
+  marks-gone none same =
+      marks-right up m'
+      (λ i l ne. ap (λ (v : ℕ). eqb v 1) (same (numberIn c m i) (held-numbers c d n m (asked .sound) i l)) ∙ marks-stay up set i l)
+      (λ e. both-ways e none)
+
+  pub marks-come : k .comes ≡ true → ((v : ℕ) → v < c → markIn c m' v ≡ markIn c (setListed c (k .coming .number) (u .listed) m₁) v)
+      → MarksRight c d m' (changedMoves d k (movesIn (lineFrom c d n m)))
+  marks-come one same =
+      marks-right up m'
+      (λ i l ne.
+      ap (λ (v : ℕ). eqb v 1)
+      (same (numberIn c m i) (held-numbers c d n m (asked .sound) i l)
+      ∙ mark-setListed-other c x m₁ (numberIn c m i) (rest-absent c d n (k .goes) m x (asked .new one) i l ne) (u .listed))
+      ∙ marks-stay up set i l)
+      (λ _.
+      ap (λ (v : ℕ). eqb v 1) (same x (asked .fit one .number))
+      ∙ listed-setListed c x m₁ (room-over c (set .frame) (held-room c d n m (asked .sound))) (asked .fit one .number) (u .listed))
+    where
+      x : ℕ
+      x = k .coming .number

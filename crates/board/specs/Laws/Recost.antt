@@ -1,0 +1,169 @@
+-- Giving a move new costs, step by step on sound memory: what the steps ask, and what all of them leave.
+use Prim.Native.Nat.{ℕ, suc, _-_, _≤_, _<_}
+use mathlib.Core.Bool.{Bool, true, false, cond, _||_}
+use mathlib.Core.List.{List, [], _∷_}
+use mathlib.Core.Path.{_≡_, refl, sym, ap, ap₂, _∙_, subst, subst₂}
+use native.Mathlib.Omega.{arith}
+use borrow.Author.Tests.{eq-eqb, eqb-true}
+use lib.Dec.{eqb}
+use lib.ListN.{length}
+use Rattle.model.specs.Basics.{Each, any}
+use Rattle.model.specs.Moves as model
+use Rattle.model.specs.Moves.{insert}
+use Rattle.model.specs.Tree.{Tree, movesOf}
+use Rattle.model.specs.Entering.{enterTree}
+use Rattle.model.specs.Withdrawing.{without, withdrawTree, costsOn, unchanged, recostTree}
+use Rattle.model.specs.Calls as calls
+use Rattle.model.specs.Calls.{onBoard, changed}
+use Rattle.model.specs.Changing.{changeTree}
+use Rattle.model.specs.Sound.{Fit}
+use Rattle.model.specs.Laws.Bool.{condCases, both-ways}
+use Rattle.model.specs.Laws.Notice.{equal-true}
+use Rattle.model.specs.Laws.Order.{move-order}
+use Rattle.model.specs.Laws.Entering.{enter-moves}
+use Rattle.line.specs.Line.{movesIn}
+use Rattle.promises.specs.Layout.{dimensionIn, numberIn, costsIn, markIn, moveIn, lineFrom, boardIn}
+use Rattle.promises.specs.Sound.{Stands}
+use Rattle.promises.specs.Promise.{Kept}
+use Rattle.promises.specs.Run.{Bytes}
+use Rattle.promises.specs.Laws.Tab.{each-tab}
+use Rattle.dominance.specs.Move.{asMove}
+use Rattle.dominance.specs.declared.Move.{Move}
+use Rattle.memory.specs.Held.{SoundAt}
+use Rattle.memory.specs.Stores.{setListed, setCosts, setCount}
+use Rattle.memory.specs.Frame.{MarksOnly, CostsOnly}
+use Rattle.memory.specs.Laws.Frames.{frame-trans, frame-widen}
+use Rattle.memory.specs.Laws.Fields.{mark-over-rows, mark-over-costs}
+use Rattle.memory.specs.Laws.Places.{any-tab, anyTo-found}
+use Rattle.memory.specs.Laws.Lines.{movesIn-line}
+use Rattle.memory.specs.Laws.Held.{held-few}
+use Rattle.tree.specs.Hold.{RowsHold}
+use Rattle.tree.specs.Enter as tree
+use Rattle.tree.specs.Withdraw as withdraw
+use Rattle.upkeep.specs.Change.{dropAt, changedMoves}
+use Rattle.upkeep.specs.Notice.{SetMarks}
+use Rattle.upkeep.specs.declared.change.Upkeep.{Upkeep}
+use Rattle.board.specs.Change.{RecostAsked, RecostMade}
+use Rattle.board.specs.Laws.Rows.{holds-sound, holds-moves, holds-over-marks, holds-counted}
+use Rattle.board.specs.Laws.Kept.{Written, MarksRight, made}
+use Rattle.board.specs.Laws.Marks.{rest-without, marks-come}
+use Rattle.board.specs.Laws.Steps.{listed-frame, stored-frame, stored-holds, stored-asked, gone-written, gone-mark, gone-holds, gone-moves}
+
+-- The costs of a number on the board, where costs go by number.
+costs-on : (f : ℕ → List ℕ) (k : ℕ) (ms : List model.Move) → Each (λ x. x .costs ≡ f (x .number)) ms → onBoard k ms ≡ true → costsOn k ms ≡ f k
+unfolding costsOn onBoard any
+costs-on f k [] es on = both-ways on refl
+costs-on f k (y ∷ ys) es on = step (eqb (y .number) k) refl on (costs-on f k ys (es .1))
+  where
+    step : (t : Bool) → eqb (y .number) k ≡ t → (t || onBoard k ys) ≡ true → (onBoard k ys ≡ true → costsOn k ys ≡ f k) → cond t (y .costs) (costsOn k ys) ≡ f k
+    step true e o again = es .0 ∙ ap f (eqb-true (y .number) k e)
+    step false e o again = again o
+
+pub costs-board : (c d n : ℕ) (m : List ℕ) (k : ℕ) → onBoard k (movesIn (lineFrom c d n m)) ≡ true → costsOn k (movesIn (lineFrom c d n m)) ≡ costsIn c d m k
+unfolding moveIn
+costs-board c d n m k =
+    costs-on (costsIn c d m) k (movesIn (lineFrom c d n m))
+    (subst (Each (λ x. x .costs ≡ costsIn c d m (x .number))) (sym (movesIn-line c d n m))
+    (each-tab (moveIn c d m) (λ x. x .costs ≡ costsIn c d m (x .number)) n (λ _ _. refl)))
+
+module _ (c d n p : ℕ) (m : List ℕ) (l : p < n) where
+  on-board : onBoard (numberIn c m p) (movesIn (lineFrom c d n m)) ≡ true
+  unfolding onBoard moveIn
+  on-board =
+      ap (any (λ x. eqb (x .number) (numberIn c m p))) (movesIn-line c d n m)
+      ∙ any-tab (moveIn c d m) (λ x. eqb (x .number) (numberIn c m p)) n
+      ∙ anyTo-found (λ i. eqb (numberIn c m i) (numberIn c m p)) n p l (eq-eqb (numberIn c m p) (numberIn c m p) refl)
+
+  costs-there : costsOn (numberIn c m p) (movesIn (lineFrom c d n m)) ≡ costsIn c d m (numberIn c m p)
+  costs-there = costs-board c d n m (numberIn c m p) on-board
+
+module _ {c d n p : ℕ} {x : Move} {u : Upkeep} {m m₁ m₂ : List ℕ} (a : RecostAsked c d n p x u m) (b : Bytes m)
+    (set : SetMarks c n (u .leaving) (u .entering) m m₁)
+    (e₂ : m₂ ≡ setListed c (x .number) (u .listed) m₁) where
+  abbrev s : SoundAt c d n m
+  s = a .asked .sound
+
+  abbrev before : List model.Move
+  before = movesIn (lineFrom c d n m)
+
+  abbrev fit : Fit c d (asMove x)
+  fit = a .asked .fit refl
+
+  marked : MarksOnly c m m₂
+  marked = listed-frame (x .number) (u .listed) (fit .number) (set .frame) e₂
+
+  pub recost-withdraw-asked : withdraw.WithdrawAsked c d n p m₂
+  recost-withdraw-asked =
+      let t = s .sound .tree in
+      record { tree = record { tree = t; holds = holds-over-marks (holds-sound s b t (s .sound .stands)) marked }; place = a .place }
+
+  rest : without (x .number) before ≡ dropAt p before
+  rest = ap (λ (k : ℕ). without k before) (sym (a .number)) ∙ sym (rest-without c d n p m s b (a .place))
+
+  -- Its costs are others, so the move does go and come.
+  recost-tree : (t : Tree) → Stands m t → enterTree d (asMove x) (withdrawTree d (numberIn c m p) t) ≡ recostTree d (asMove x) t
+  unfolding recostTree unchanged
+  recost-tree t stands =
+      condCases (λ (r : Tree). enterTree d (asMove x) (withdrawTree d (numberIn c m p) t) ≡ r) (unchanged (x .number) (x .costs) (movesOf t))
+      (λ e.
+      absurd
+      (a .other
+      (sym (costs-there c d n p m (a .place))
+      ∙ ap₂ costsOn (a .number) (holds-moves (holds-sound s b t stands))
+      ∙ sym (equal-true (x .costs) (costsOn (x .number) (movesOf t)) e))))
+      (λ _. ap (λ (k : ℕ). enterTree d (asMove x) (withdrawTree d k t)) (a .number))
+
+  pub recost-written : {m₃ : List ℕ} → withdraw.Withdrawn c d n p m₂ m₃ → Written c m m₃
+  recost-written w = frame-trans (frame-widen (omega arith) (omega arith) marked) (gone-written w)
+
+  module _ {m₃ m₄ : List ℕ} (w : withdraw.Withdrawn c d n p m₂ m₃) (e₄ : m₄ ≡ setCosts c (x .number) (x .costs) m₃) where
+    gone : (t : Tree) → Stands m t → RowsHold c d (n - 1) m₃ (withdrawTree d (numberIn c m p) t)
+    gone = gone-holds w s b (a .place) marked
+
+    off : (t : Tree) → Stands m t → onBoard (x .number) (movesOf (withdrawTree d (numberIn c m p) t)) ≡ false
+    off t stands = ap (onBoard (x .number)) (gone-moves w s b (a .place) marked t stands) ∙ a .asked .new refl
+
+    pub recost-enter-asked : tree.EnterAsked c d (n - 1) (asMove x) m₄
+    recost-enter-asked =
+        let t = s .sound .tree in
+        let stands = s .sound .stands in
+        stored-asked (gone t stands) fit (off t stands) e₄ (omega (arith, a .place, held-few c d n m s))
+
+    module _ {m₅ m₆ : List ℕ} (entered : tree.Entered c d (n - 1) (asMove x) m₄ m₅) (e₆ : m₆ ≡ setCount n m₅) (t : Tree) (stands : Stands m t) where
+      costs : CostsOnly c m₃ m₄
+      costs = stored-frame (gone t stands) fit (off t stands) e₄
+
+      moves : movesOf (enterTree d (asMove x) (withdrawTree d (numberIn c m p) t)) ≡ insert d (asMove x) (dropAt p before)
+      moves =
+          let h = gone t stands in
+          enter-moves d (Fit c d) (move-order d c (h .dimension)) (asMove x) fit (withdrawTree d (numberIn c m p) t) (h .rules) (h .fits)
+          ∙ ap (insert d (asMove x)) (gone-moves w s b (a .place) marked t stands)
+
+      held : RowsHold c d n m₅ (recostTree d (asMove x) t)
+      held =
+          let all : suc (n - 1) ≡ n = omega (arith, a .place) in
+          subst₂ (λ (k : ℕ) (r : Tree). RowsHold c d k m₅ r) all (recost-tree t stands)
+          (entered .holds (withdrawTree d (numberIn c m p) t) (stored-holds (gone t stands) fit (off t stands) e₄))
+
+      recost-kept : Kept m m₆ (changed (boardIn m) (calls.recost (x .number) (x .costs))) (changeTree (dimensionIn m) (calls.recost (x .number) (x .costs)) t)
+      unfolding changeTree calls.changedMoves changedMoves
+      recost-kept =
+          made s (calls.recost (x .number) (x .costs)) t
+          (frame-trans (recost-written w)
+          (frame-trans (frame-widen (omega arith) (omega arith) costs) (frame-widen (omega arith) (omega arith) (entered .frame))))
+          held
+          (ap movesOf (sym (recost-tree t stands)) ∙ moves ∙ ap (insert d (asMove x)) (sym rest))
+          (subst (MarksRight c d m₅) (ap (insert d (asMove x)) (sym rest))
+          (marks-come (a .asked) (a .upkept) set m₅ refl
+          (λ v l.
+          mark-over-rows c (entered .frame) v
+          ∙ mark-over-costs c costs v l
+          ∙ gone-mark w v l
+          ∙ ap (λ (w : List ℕ). markIn c w v) e₂)))
+          e₆
+
+    pub recost-count-asked : {m₅ : List ℕ} → tree.Entered c d (n - 1) (asMove x) m₄ m₅ → (16 ≤ length m₅) × (n < 65536)
+    recost-count-asked entered = holds-counted (held entered refl (s .sound .tree) (s .sound .stands))
+
+    pub recost-made : {m₅ m₆ : List ℕ} → tree.Entered c d (n - 1) (asMove x) m₄ m₅ → m₆ ≡ setCount n m₅ → RecostMade (asMove x) m m₆
+    recost-made entered e₆ = record { kept = recost-kept entered e₆ }

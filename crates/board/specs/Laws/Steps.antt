@@ -1,0 +1,83 @@
+-- Steps that the changes share: what each asks of the rows, and what it leaves.
+use Prim.Native.Nat.{ℕ, _-_, _≤_, _<_}
+use mathlib.Core.Bool.{Bool, true, false}
+use mathlib.Core.List.{List}
+use mathlib.Core.Path.{_≡_, sym, ap, _∙_, subst}
+use native.Mathlib.Omega.{arith}
+use lib.ListN.{length}
+use Rattle.zorder.specs.Address.{rowCosts}
+use Rattle.model.specs.Moves as model
+use Rattle.model.specs.Tree.{Tree, movesOf}
+use Rattle.model.specs.Withdrawing.{without, withdrawTree}
+use Rattle.model.specs.Calls.{onBoard}
+use Rattle.model.specs.Sound.{Fit}
+use Rattle.model.specs.Laws.Order.{move-order}
+use Rattle.model.specs.Laws.Withdrawing.{withdraw-moves}
+use Rattle.line.specs.Line.{movesIn}
+use Rattle.promises.specs.Layout.{numberIn, costsIn, markIn, lineFrom}
+use Rattle.promises.specs.Sound.{Stands}
+use Rattle.promises.specs.Run.{Bytes}
+use Rattle.memory.specs.Room.{Room}
+use Rattle.memory.specs.Held.{SoundAt}
+use Rattle.memory.specs.Stores.{setListed, setCosts}
+use Rattle.memory.specs.Frame.{Frame, MarksOnly, CostsOnly}
+use Rattle.memory.specs.Laws.Frames.{frame-trans, frame-widen, room-over}
+use Rattle.memory.specs.Laws.Fields.{number-over-marks, mark-over-rows, mark-over-work}
+use Rattle.memory.specs.Laws.Stored.{setListed-marks, setCosts-costs, costs-setCosts}
+use Rattle.memory.specs.Laws.Held.{held-room}
+use Rattle.tree.specs.Hold.{RowsHold}
+use Rattle.tree.specs.Enter.{EnterAsked}
+use Rattle.tree.specs.Withdraw.{Withdrawn}
+use Rattle.upkeep.specs.Change.{dropAt, Asked}
+use Rattle.upkeep.specs.declared.change.Change.{Change}
+use Rattle.board.specs.Laws.Rows.{holds-sound, holds-moves, holds-over-marks, holds-setCosts, enter-asked}
+use Rattle.board.specs.Laws.Kept.{Written}
+use Rattle.board.specs.Laws.Marks.{rest-without}
+
+-- What storing the mark and the costs of a coming move asks, whatever was written before.
+pub coming-asked : {c d n a b : ℕ} {k : Change} {m m₁ : List ℕ} → Asked c d n k m → k .comes ≡ true → Frame a b m m₁ → Room c m₁ × (k .coming .number < c)
+coming-asked {c} {d} {n} {m = m} asked comes f = (room-over c f (held-room c d n m (asked .sound)), asked .fit comes .number)
+
+-- Its mark, after those of the others.
+pub listed-frame : {c : ℕ} {m m₁ m₂ : List ℕ} (k : ℕ) (b : Bool) → k < c → MarksOnly c m m₁ → m₂ ≡ setListed c k b m₁ → MarksOnly c m m₂
+listed-frame {c} {m₁ = m₁} k b l f e = frame-trans f (subst (MarksOnly c m₁) (sym e) (setListed-marks c k m₁ l b))
+
+-- Its costs, where no row has its number.
+module _ {c d n : ℕ} {x : model.Move} {m m' : List ℕ} {t : Tree} (h : RowsHold c d n m t) (fit : Fit c d x) (off : onBoard (x .number) (movesOf t) ≡ false)
+    (e : m' ≡ setCosts c (x .number) (x .costs) m) where
+  few : length (x .costs) ≤ rowCosts
+  few = omega (arith, fit .costs .count)
+
+  pub stored-frame : CostsOnly c m m'
+  stored-frame = subst (CostsOnly c m) (sym e) (setCosts-costs c (x .number) m (fit .number) (x .costs) few)
+
+  pub stored-holds : RowsHold c d n m' t
+  stored-holds = subst (λ (w : List ℕ). RowsHold c d n w t) (sym e) (holds-setCosts h (x .number) (x .costs) (fit .number) few off)
+
+  pub stored-asked : n < c → EnterAsked c d n x m'
+  stored-asked space =
+      enter-asked stored-holds x space fit
+      (ap (λ (w : List ℕ). costsIn c d w (x .number)) e ∙ costs-setCosts c d (x .number) (x .costs) m (h .dimension) (fit .costs) (h .room) (fit .number))
+      off
+
+-- A move goes.
+module _ {c d n p : ℕ} {m₁ m₂ : List ℕ} (w : Withdrawn c d n p m₁ m₂) where
+  pub gone-written : Written c m₁ m₂
+  gone-written = frame-trans (frame-widen (omega arith) (omega arith) (w .work)) (frame-widen (omega arith) (omega arith) (w .rows))
+
+  pub gone-mark : (v : ℕ) → v < c → markIn c m₂ v ≡ markIn c m₁ v
+  gone-mark v k = mark-over-rows c (w .rows) v ∙ mark-over-work c (w .work) v k
+
+  module _ {m : List ℕ} (s : SoundAt c d n m) (b : Bytes m) (l : p < n) (marked : MarksOnly c m m₁) (t : Tree) (stands : Stands m t) where
+    pub gone-holds : RowsHold c d (n - 1) m₂ (withdrawTree d (numberIn c m p) t)
+    gone-holds =
+        let h = holds-sound s b t stands in
+        subst (λ (k : ℕ). RowsHold c d (n - 1) m₂ (withdrawTree d k t)) (number-over-marks c marked p (omega (arith, h .rows)))
+        (w .holds t (holds-over-marks h marked))
+
+    pub gone-moves : movesOf (withdrawTree d (numberIn c m p) t) ≡ dropAt p (movesIn (lineFrom c d n m))
+    gone-moves =
+        let h = holds-sound s b t stands in
+        withdraw-moves d (Fit c d) (move-order d c (h .dimension)) (numberIn c m p) t (h .rules) (h .fits)
+        ∙ ap (without (numberIn c m p)) (sym (holds-moves h))
+        ∙ sym (rest-without c d n p m s b l)

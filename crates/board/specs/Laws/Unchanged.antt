@@ -1,0 +1,110 @@
+-- A re-cost with equal costs changes nothing: the board, its tree and its list stay, and no row is told.
+use Prim.Native.Nat.{ℕ}
+use mathlib.Core.Bool.{Bool, true, false, cond, not}
+use mathlib.Core.List.{List, [], _++_, map}
+use mathlib.Core.Path.{_≡_, refl, sym, ap, ap₂, _∙_, subst}
+use native.Mathlib.Omega.{arith}
+use lib.ListN.{length, drop}
+use Rattle.zorder.specs.Address.{rowCosts}
+use Rattle.zorder.specs.Laws.Address.{Costs}
+use Rattle.model.specs.Basics.{Each, distinct, equal}
+use Rattle.model.specs.Moves as model
+use Rattle.model.specs.Moves.{Row, rowOf, insert, left, entered}
+use Rattle.model.specs.Notice.{noticeOf}
+use Rattle.model.specs.Tree.{Tree, movesOf}
+use Rattle.model.specs.Entering.{enterTree}
+use Rattle.model.specs.Withdrawing.{without, withdrawTree, costsOn, unchanged, recostTree}
+use Rattle.model.specs.Calls as calls
+use Rattle.model.specs.Calls.{onBoard, listOf, changeNotice, changed}
+use Rattle.model.specs.Changing.{changeTree}
+use Rattle.model.specs.Sound.{Fit}
+use Rattle.model.specs.Laws.Bool.{not-flip}
+use Rattle.model.specs.Laws.Basics.{mem-each, select-none}
+use Rattle.model.specs.Laws.Order.{move-order}
+use Rattle.model.specs.Laws.Notice.{among, gone, mem-among, notice-rows}
+use Rattle.model.specs.Laws.Recosting.{recost-moves}
+use Rattle.promises.specs.Layout.{sizeIn, dimensionIn, costsIn, boardIn}
+use Rattle.promises.specs.Sound.{Stands}
+use Rattle.promises.specs.Promise.{ChangePromise}
+use Rattle.promises.specs.Run.{Bytes}
+use Rattle.promises.specs.Laws.Stands.{stands-dimension, stands-moves, stands-fit, stands-once}
+use Rattle.promises.specs.declared.Verdict.the-variants.{Accepted}
+use Rattle.dominance.specs.Move.{asMove}
+use Rattle.dominance.specs.declared.Move.{Move}
+use Rattle.memory.specs.Held.{SoundAt}
+use Rattle.board.specs.Change.{Judges, Made}
+use Rattle.board.specs.Laws.Judge.{board-moves}
+use Rattle.board.specs.Laws.Recost.{costs-board}
+use Rattle.board.specs.Laws.Calls.{change-accepted}
+use Rattle.board.specs.Laws.Accepted.{recost-fit, recost-on}
+
+gone-none : (ms : List model.Move) → gone ms ms ≡ []
+unfolding gone
+gone-none ms =
+    select-none (λ y. not (among y ms)) ms
+    (mem-each (λ y. not (among y ms) ≡ false) ms (λ y k. ap not (mem-among k)))
+
+notice-none : (ms : List model.Move) → noticeOf ms ms ≡ []
+notice-none ms =
+    notice-rows ms ms ∙ ap (λ (ns : List model.Move). map (rowOf left) ns ++ map (rowOf entered) ns) (gone-none ms)
+
+module _ {c d n : ℕ} {m : List ℕ} (s : SoundAt c d n m) (b : Bytes m) (x : Move) (w : Costs rowCosts (x .costs)) (j : Judges (calls.recost (x .number) (x .costs)) m Accepted)
+    (r : equal (x .costs) (costsIn c d m (x .number)) ≡ true) where
+  abbrev change : calls.Change
+  change = calls.recost (x .number) (x .costs)
+
+  module _ (t : Tree) (stands : Stands m t) where
+    moves : movesOf t ≡ boardIn m .moves
+    moves = stands-moves m t stands
+
+    same-costs : unchanged (x .number) (x .costs) (movesOf t) ≡ true
+    unfolding unchanged
+    same-costs =
+        let own = board-moves c d n m s in
+        ap (equal (x .costs))
+        (ap (costsOn (x .number)) (moves ∙ own) ∙ costs-board c d n m (x .number) (ap (onBoard (x .number)) (sym own) ∙ recost-on s b x w j))
+        ∙ r
+
+    same-tree : recostTree (dimensionIn m) (asMove x) t ≡ t
+    unfolding recostTree
+    same-tree =
+        ap (λ (u : Bool). cond u t (enterTree (dimensionIn m) (asMove x) (withdrawTree (dimensionIn m) (x .number) t))) same-costs
+
+    same-moves : insert (dimensionIn m) (asMove x) (without (x .number) (boardIn m .moves)) ≡ boardIn m .moves
+    same-moves =
+        let P = Fit (sizeIn m) (dimensionIn m) in
+        let fit = subst (λ (k : ℕ). Fit k (dimensionIn m) (asMove x)) (s .size) (subst (λ (k : ℕ). Fit c k (asMove x)) (s .dimension) (recost-fit s b x w j)) in
+        ap (λ (ns : List model.Move). insert (dimensionIn m) (asMove x) (without (x .number) ns)) (sym moves)
+        ∙ sym
+        (recost-moves (dimensionIn m) P (move-order (dimensionIn m) (sizeIn m) (stands-dimension m t stands)) (asMove x) fit t (stands .rules)
+        (subst (Each P) (sym moves) (stands-fit m t stands b))
+        (ap (onBoard (x .number)) moves ∙ recost-on s b x w j)
+        (ap (λ (ns : List model.Move). distinct (map (λ y. y .number) ns)) moves ∙ stands-once m t stands b))
+        ∙ ap movesOf same-tree
+        ∙ moves
+
+  same-board : changed (boardIn m) change ≡ boardIn m
+  unfolding changed calls.changedMoves boardIn
+  same-board =
+      λ i. record { size = boardIn m .size; dimension = boardIn m .dimension; moves = same-moves (s .sound .tree) (s .sound .stands) i }
+
+  no-notice : changeNotice (boardIn m) change ≡ []
+  unfolding changeNotice
+  no-notice = ap (λ (k : calls.Board). noticeOf (listOf (boardIn m)) (listOf k)) same-board ∙ notice-none (listOf (boardIn m))
+
+  same-made : Made change m m
+  unfolding changeTree
+  same-made =
+      record {
+        kept = λ t stands.
+            record {
+              holding = record { stands = subst (Stands m) (sym (same-tree t stands)) stands; board = sym same-board };
+              length = refl;
+              past = refl;
+            };
+      }
+
+  pub change-unchanged : {lent : List Row} → ChangePromise change m lent (record { verdict = Accepted; count = 0 }) m lent
+  change-unchanged {lent} =
+      change-accepted 0 (s .sound) j (ap length (sym no-notice)) (omega arith)
+      (ap (λ (rows : List Row). rows ++ drop (length rows) lent) (sym no-notice)) same-made

@@ -1,0 +1,3 @@
+-- What the parts of the three changes say and leave, and what holds of it.
+pub mod Change
+pub mod Laws
