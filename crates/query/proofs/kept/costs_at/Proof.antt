@@ -1,0 +1,21 @@
+-- `kept::costs_at` meets its contract. Assumes nothing.
+use mathlib.Core.Path.{ap, _∙_}
+use borrow.Author.Needs.{needs}
+use Rattle.promises.specs.Layout.{costsIn, moveIn}
+use Rattle.query.proofs.kept.costs_at.Statement.{statement}
+use Rattle.query.proofs.kept.costs_at.Tie as tie
+
+number-at-requires : tie.Need-number-at-requires
+number-at-requires c κs = search needs
+
+costs-of-requires : tie.Need-costs-of-requires
+costs-of-requires c κs = search needs
+
+returns : tie.Need-returns
+unfolding moveIn
+returns c =
+    let a = c .before .before .before .args in
+    c .costs-of .ensures ∙ ap (costsIn (a .c) (a .d) (a .m .now)) (c .before .number-at .ensures)
+
+pub costs-at-spec : {M : Type 1} → statement M
+costs-at-spec = tie.close (tie.spec number-at-requires costs-of-requires returns)

@@ -1,0 +1,12 @@
+-- Laws of the lists.
+pub mod Rule
+pub mod Places
+pub mod Counting
+pub mod Found
+pub mod Put
+pub mod Told
+pub mod Calls
+pub mod Insert
+pub mod Ranked
+pub mod Rank
+pub mod RankTold

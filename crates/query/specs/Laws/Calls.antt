@@ -1,0 +1,142 @@
+-- The promises of the calls, from their refusals and from what is told.
+use Prim.Native.Nat.{ℕ, _^_, _≤_, _<_}
+use mathlib.Core.Bool.{Bool, true, false, cond, not, _&&_, and-false}
+use mathlib.Core.List.{List, [], _∷_}
+use mathlib.Core.Path.{_≡_, refl, sym, ap, _∙_, subst, fun-ext}
+use mathlib.Core.Logic.{_⊎_, ⊎-elim}
+use native.Mathlib.Omega.{arith}
+use lib.Dec.{leb, eqb}
+use lib.ListN.{length}
+use borrow.Author.Tests.{le-leb, lt-leb, eq-eqb, ne-eqb}
+use Rattle.zorder.specs.Refusal.{refusal}
+use Rattle.model.specs.Basics.{select, any, within}
+use Rattle.model.specs.Moves.{Move, Row}
+use Rattle.model.specs.Lists.{dominators, band, onK, chosen, listedRows}
+use Rattle.model.specs.Calls.{Query, bandQuery, rankQuery, onKQuery, chosenQuery, queryRefusal, queryRows, queryAnswer, rowsAnswer, refusedWith, orElse}
+use Rattle.model.specs.Laws.Bool.{or-left, or-right, or-false-both}
+use Rattle.model.specs.Laws.Queries.{count-zero}
+use Rattle.model.specs.Laws.Tree.{within-true}
+use Rattle.promises.specs.Layout.{dimensionIn, boardIn}
+use Rattle.promises.specs.Answers.{answerOf, numberOf, detailOf, counted, told}
+use Rattle.promises.specs.Promise.{Said, QueryPromise}
+use Rattle.promises.specs.declared.Answer.{Answer}
+use Rattle.promises.specs.declared.Verdict.the-variants.{Unsound, BadArgument}
+use Rattle.memory.specs.Tests.{Decides}
+use Rattle.query.specs.Rule.{beats}
+use Rattle.query.specs.Kept.{stays, kept, keptRows}
+use Rattle.query.specs.Rank.{rankRows}
+use Rattle.query.specs.declared.rule.Rule.{Rule}
+use Rattle.query.specs.declared.rule.Rule.the-variants.{All, OnK, Chosen}
+
+-- ---- 3, 7, and what is told
+
+module _ (q : Query) (m : List ℕ) (lent : List Row) (b : Bool) (decides : Decides b m) where
+  pub promise-unsound : b ≡ false → QueryPromise q m lent (record { verdict = Unsound; count = 0 }) lent
+  unfolding answerOf numberOf detailOf refusedWith counted told
+  promise-unsound e =
+      record {
+        sound = λ t s. absurd (decides .unsound e (record { tree = t; stands = s }));
+        unsound = λ _. record { answers = refl; counts = refl; tells = refl };
+      }
+
+  module _ (e : b ≡ true) where
+    pub promise-bad : queryRefusal (boardIn m) q ≡ 7 → QueryPromise q m lent (record { verdict = BadArgument 0; count = 0 }) lent
+    unfolding answerOf numberOf detailOf refusedWith counted told queryAnswer orElse
+    promise-bad f =
+        record {
+          sound = λ t s. record {
+            answers = ap (λ (n : ℕ). orElse (refusedWith n) (rowsAnswer (length (queryRows (boardIn m) q)) (length lent))) (sym f);
+            counts = refl;
+            tells = refl;
+          };
+          unsound = λ n. absurd (n (decides .sound e));
+        }
+
+    pub promise-told : (a : Answer) (lent' rows : List Row) → queryRefusal (boardIn m) q ≡ 0 → queryRows (boardIn m) q ≡ rows
+        → Said (rowsAnswer (length rows) (length lent)) rows lent (a .verdict) (a .count) lent' → QueryPromise q m lent a lent'
+    unfolding queryAnswer orElse refusedWith
+    promise-told a lent' rows f g s =
+        record {
+          sound = λ t st.
+              subst
+              (λ (n : ℕ). Said (orElse (refusedWith n) (rowsAnswer (length (queryRows (boardIn m) q)) (length lent))) (queryRows (boardIn m) q) lent (a .verdict) (a .count) lent')
+              (sym f)
+              (subst (λ (l : List Row). Said (rowsAnswer (length l) (length lent)) l lent (a .verdict) (a .count) lent') (sym g) s);
+          unsound = λ n. absurd (n (decides .sound e));
+        }
+
+-- ---- the refusals
+
+below : (lo hi n : ℕ) → n < lo → within lo hi n ≡ false
+unfolding within
+below lo hi n h = ap (λ (b : Bool). b && leb n hi) (lt-leb lo n h)
+
+above : (lo hi n : ℕ) → hi < n → within lo hi n ≡ false
+unfolding within
+above lo hi n h = ap (λ (b : Bool). leb lo n && b) (lt-leb n hi h) ∙ and-false (leb lo n)
+
+checked : (b c : Bool) → b ≡ c → refusal ((b, 7) ∷ []) ≡ cond c 7 0
+unfolding refusal
+checked b c e = ap (λ (x : Bool). cond x 7 0) e
+
+module _ (m : List ℕ) where
+  pub band-bad : (n : ℕ) → 4095 < n → queryRefusal (boardIn m) (bandQuery n) ≡ 7
+  unfolding queryRefusal
+  band-bad n h = checked _ true (ap not (above 0 4095 n h))
+
+  pub band-right : (n : ℕ) → n ≤ 4095 → queryRefusal (boardIn m) (bandQuery n) ≡ 0
+  unfolding queryRefusal
+  band-right n h = checked _ false (ap not (within-true 0 4095 n (omega arith) h))
+
+  pub rank-bad : (t : ℕ) → (t < 1) ⊎ (4096 < t) → queryRefusal (boardIn m) (rankQuery t) ≡ 7
+  unfolding queryRefusal
+  rank-bad t h = checked _ true (ap not (⊎-elim (below 1 4096 t) (above 1 4096 t) h))
+
+  pub rank-right : (t : ℕ) → 1 ≤ t → t ≤ 4096 → queryRefusal (boardIn m) (rankQuery t) ≡ 0
+  unfolding queryRefusal
+  rank-right t h l = checked _ false (ap not (within-true 1 4096 t h l))
+
+  pub on-bad : (k : ℕ) → (k < 1) ⊎ (dimensionIn m < k) → queryRefusal (boardIn m) (onKQuery k) ≡ 7
+  unfolding queryRefusal boardIn
+  on-bad k h = checked _ true (ap not (⊎-elim (below 1 (dimensionIn m) k) (above 1 (dimensionIn m) k) h))
+
+  pub on-right : (k : ℕ) → 1 ≤ k → k ≤ dimensionIn m → queryRefusal (boardIn m) (onKQuery k) ≡ 0
+  unfolding queryRefusal boardIn
+  on-right k h l = checked _ false (ap not (within-true 1 (dimensionIn m) k h l))
+
+  pub chosen-bad : (set : ℕ) → (set ≡ 0) ⊎ (2 ^ dimensionIn m ≤ set) → queryRefusal (boardIn m) (chosenQuery set) ≡ 7
+  unfolding queryRefusal boardIn
+  chosen-bad set h =
+      checked _ true
+      (⊎-elim
+      (λ e. or-left (eqb set 0) (leb (2 ^ dimensionIn m) set) (eq-eqb set 0 e))
+      (λ l. or-right (eqb set 0) (leb (2 ^ dimensionIn m) set) (le-leb (2 ^ dimensionIn m) set l))
+      h)
+
+  pub chosen-right : (set : ℕ) → (set ≡ 0 → ⊥) → set < 2 ^ dimensionIn m → queryRefusal (boardIn m) (chosenQuery set) ≡ 0
+  unfolding queryRefusal boardIn
+  chosen-right set n l =
+      checked _ false (or-false-both (eqb set 0) (leb (2 ^ dimensionIn m) set) (ne-eqb set 0 n) (lt-leb (2 ^ dimensionIn m) set l))
+
+  -- ---- the rows: on k and chosen costs keep what no move beats
+
+  pub band-rows : (n : ℕ) → queryRows (boardIn m) (bandQuery n) ≡ keptRows All n m
+  unfolding queryRows keptRows boardIn kept stays beats band dominators
+  band-rows n = refl
+
+  unbeaten : (rule : Rule) (ms : List Move) → kept (dimensionIn m) rule 0 ms ≡ select (λ x. not (any (λ p. beats (dimensionIn m) rule (p .costs) (x .costs)) ms)) ms
+  unfolding kept stays
+  unbeaten rule ms =
+      ap (λ (p : Move → Bool). select p ms) (fun-ext (λ x. count-zero (λ p. beats (dimensionIn m) rule (p .costs) (x .costs)) ms))
+
+  pub on-rows : (k : ℕ) → queryRows (boardIn m) (onKQuery k) ≡ keptRows (OnK k) 0 m
+  unfolding queryRows keptRows boardIn beats onK
+  on-rows k = ap listedRows (sym (unbeaten (OnK k) (boardIn m .moves)))
+
+  pub chosen-rows : (set : ℕ) → queryRows (boardIn m) (chosenQuery set) ≡ keptRows (Chosen set) 0 m
+  unfolding queryRows keptRows boardIn beats chosen
+  chosen-rows set = ap listedRows (sym (unbeaten (Chosen set) (boardIn m .moves)))
+
+  pub rank-rows : (t : ℕ) → queryRows (boardIn m) (rankQuery t) ≡ rankRows t m
+  unfolding queryRows rankRows boardIn
+  rank-rows t = refl

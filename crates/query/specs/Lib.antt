@@ -1,0 +1,5 @@
+-- What the lists besides Definition 2's compute; then their laws.
+pub mod Rule
+pub mod Kept
+pub mod Rank
+pub mod Laws
