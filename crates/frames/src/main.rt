@@ -75,7 +75,10 @@ fn feed(p: Point, m: &mut [u8], rows: &mut [[u16; ROW]], out: &mut [u8]) -> Fed
     let got = libc::read(libc::STDIN_FILENO, &mut buffer);
     let n = io::count(got, &buffer);
     let q = all_taken(p, &buffer[..n], m, rows, out);
-    Fed { point: q, more: 0 < n }
+    Fed {
+        point: q,
+        more: 0 < n,
+    }
 }
 
 // A last line without a line end.

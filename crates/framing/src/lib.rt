@@ -12,7 +12,9 @@ pub use serving::answer;
 
 // The board's size, the bytes that it needs, and the rows lent to each call.
 pub const SIZE: usize = 256;
+
 pub const BYTES: usize = 17408;
+
 pub const ROWS: usize = 257;
 
 // The longest answer: ten digits before the rows, 22 for each row, and a line end.

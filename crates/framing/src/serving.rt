@@ -37,12 +37,25 @@ fn loaded(m: &mut [u8], d: usize, asked: usize, rows: &[[u16; ROW]], out: &mut [
     let verdict = load(m, SIZE, asked, &none);
     let count = put_answer(out, d, Answer { verdict, count: 0 }, rows);
     if number_of(verdict) == 0 {
-        return Answered { count, dimension: asked };
+        return Answered {
+            count,
+            dimension: asked,
+        };
     }
-    Answered { count, dimension: d }
+    Answered {
+        count,
+        dimension: d,
+    }
 }
 
-fn entered(m: &mut [u8], d: usize, number: u16, costs: [u16; COSTS], rows: &mut [[u16; ROW]], out: &mut [u8]) -> usize
+fn entered(
+    m: &mut [u8],
+    d: usize,
+    number: u16,
+    costs: [u16; COSTS],
+    rows: &mut [[u16; ROW]],
+    out: &mut [u8],
+) -> usize
     requires { ⌜ Asked d (now m) (now rows) (now out) ⌝ }
     ensures { λ r. ⌜ Served d (frames.change (calls.enter number costs)) (now (m .entry)) (now (out .entry)) r d (now (m .exit)) (now (out .exit)) ⌝ }
 {
@@ -58,7 +71,14 @@ fn withdrawn(m: &mut [u8], d: usize, number: u16, rows: &mut [[u16; ROW]], out: 
     put_answer(out, d, r, rows)
 }
 
-fn recosted(m: &mut [u8], d: usize, number: u16, costs: [u16; COSTS], rows: &mut [[u16; ROW]], out: &mut [u8]) -> usize
+fn recosted(
+    m: &mut [u8],
+    d: usize,
+    number: u16,
+    costs: [u16; COSTS],
+    rows: &mut [[u16; ROW]],
+    out: &mut [u8],
+) -> usize
     requires { ⌜ Asked d (now m) (now rows) (now out) ⌝ }
     ensures { λ r. ⌜ Served d (frames.change (calls.recost number costs)) (now (m .entry)) (now (out .entry)) r d (now (m .exit)) (now (out .exit)) ⌝ }
 {
@@ -93,11 +113,20 @@ fn respond(m: &mut [u8], d: usize, f: Frame, rows: &mut [[u16; ROW]], out: &mut 
         Kind::Early => put_refusal(out, 3, 0),
         Kind::Wrong => put_refusal(out, 9, 0),
     };
-    Answered { count, dimension: d }
+    Answered {
+        count,
+        dimension: d,
+    }
 }
 
 // The answer to a line, put at the start of `out`.
-pub fn answer(m: &mut [u8], d: usize, line: Line, rows: &mut [[u16; ROW]], out: &mut [u8]) -> Answered
+pub fn answer(
+    m: &mut [u8],
+    d: usize,
+    line: Line,
+    rows: &mut [[u16; ROW]],
+    out: &mut [u8],
+) -> Answered
     requires { ⌜ Ready d (now m) ⌝ }
     requires { ⌜ Lent (now m) (now rows) (now out) ⌝ }
     ensures { λ r. ⌜ Answers d line (now (m .entry)) r (now (m .exit)) (now (out .exit)) ⌝ }

@@ -2,6 +2,7 @@
 mod change;
 mod mark;
 mod notice;
+mod telling;
 
 pub use change::Change;
 pub use change::Upkeep;
@@ -11,3 +12,4 @@ pub use notice::ROW;
 pub use notice::row_of;
 pub use notice::set_marks;
 pub use notice::tell;
+pub use telling::Telling;

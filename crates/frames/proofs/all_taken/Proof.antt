@@ -30,7 +30,7 @@ loop-less : tie.Need-loop-less Inv-loop μ-loop
 loop-less c = omega arith
 
 loop-again : tie.Need-loop-again Inv-loop μ-loop
-loop-again c = 
+loop-again c =
     (omega arith, c .before .before .before .before .before .taken .ensures, record { memory = omega arith; table = omega arith; text = omega arith })
 
 same-length : tie.Need-same-length Inv-loop μ-loop

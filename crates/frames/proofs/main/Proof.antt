@@ -20,9 +20,9 @@ new-requires c κs = search needs
 loop-holds : tie.Need-loop-holds Inv-loop μ-loop
 unfolding Holds memoryNeed
 loop-holds c = (
-      record { state = unloaded; holds = refl },
-      record { memory = refl; table = refl; text = refl },
-    )
+  record { state = unloaded; holds = refl },
+  record { memory = refl; table = refl; text = refl },
+)
 
 slice-aggregate-feed : tie.Need-slice-aggregate-feed Inv-loop μ-loop
 unfolding memoryNeed
@@ -48,9 +48,10 @@ slice-aggregate-finish-3 : tie.Need-slice-aggregate-finish-3 Inv-loop μ-loop
 slice-aggregate-finish-3 c = omega arith
 
 finish-requires : tie.Need-finish-requires Inv-loop μ-loop
-finish-requires c κs =
-    (c .before .before .before .before .before .before .before .before .before .feed .ensures,
-    record { memory = omega arith; table = omega arith; text = omega arith })
+finish-requires c κs = (
+  c .before .before .before .before .before .before .before .before .before .feed .ensures,
+  record { memory = omega arith; table = omega arith; text = omega arith },
+)
 
 returns : tie.Need-returns Inv-loop μ-loop
 returns c = search needs
@@ -62,7 +63,7 @@ loop-less : tie.Need-loop-less Inv-loop μ-loop
 loop-less c = omega arith
 
 loop-again : tie.Need-loop-again Inv-loop μ-loop
-loop-again c = 
+loop-again c =
     (c .before .before .before .before .before .before .feed .ensures, record { memory = omega arith; table = omega arith; text = omega arith })
 
 returns-2 : tie.Need-returns-2 Inv-loop μ-loop

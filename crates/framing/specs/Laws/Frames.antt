@@ -31,9 +31,9 @@ module _ (rest : List ℕ) (count asked number : ℕ) (costs : List ℕ) (counts
   unfolding sizedKind sized framed
   sized-found m n k {f} digits most same =
       let tests : eqb count m ≡ eqb (length rest) n =
-        same-test (eqb count m) (eqb (length rest) n)
-        (λ e. eq-eqb (length rest) n (omega (arith, eqb-true count m e)))
-        (λ e. eq-eqb count m (omega (arith, eqb-true (length rest) n e))) in
+      same-test (eqb count m) (eqb (length rest) n)
+      (λ e. eq-eqb (length rest) n (omega (arith, eqb-true count m e)))
+      (λ e. eq-eqb count m (omega (arith, eqb-true (length rest) n e))) in
       cond-map found (eqb count m) k Wrong
       ∙ ap (λ (b : Bool). cond b (found k) wrong) tests
       ∙ testCases (λ (b : Bool). cond b (found k) wrong ≡ cond b f wrong) (eqb (length rest) n)
@@ -44,29 +44,29 @@ module _ (rest : List ℕ) (count asked number : ℕ) (costs : List ℕ) (counts
       (loads : length rest ≡ 1 → asked ≡ getD rest 0 0)
       (numbers : (n : ℕ) → length rest ≡ 2 * n → number ≡ numberIn rest)
       (row : length rest ≡ 2 + 2 * d → costs ≡ costsIn d rest)
-      where
-    with-costs : (f : ℕ → List ℕ → calls.Change) → length rest ≡ 2 + 2 * d → change (f number costs) ≡ change (f (numberIn rest) (costsIn d rest))
-    with-costs f e = ap₂ (λ (n : ℕ) (cs : List ℕ). change (f n cs)) (numbers (1 + d) (omega arith)) (row e)
+    where
+      with-costs : (f : ℕ → List ℕ → calls.Change) → length rest ≡ 2 + 2 * d → change (f number costs) ≡ change (f (numberIn rest) (costsIn d rest))
+      with-costs f e = ap₂ (λ (n : ℕ) (cs : List ℕ). change (f n cs)) (numbers (1 + d) (omega arith)) (row e)
 
-    found-on : (code : ℕ) → found (kindOn d code count) ≡ onBoard d code rest
-    unfolding kindOn onBoard framed
-    found-on code =
-        cond-map found (eqb code 0x20) (sizedKind count (6 + 4 * d) Enter) _
-        ∙ ap₂ (cond (eqb code 0x20)) (sized-found (6 + 4 * d) (2 + 2 * d) Enter (omega arith) (omega arith) (with-costs enter))
-        (cond-map found (eqb code 0x30) (sizedKind count 6 Withdraw) _
-        ∙ ap₂ (cond (eqb code 0x30)) (sized-found 6 2 Withdraw refl (omega arith) (λ e. ap (λ (n : ℕ). change (withdraw n)) (numbers 1 e)))
-        (cond-map found (eqb code 0x40) (sizedKind count (6 + 4 * d) Recost) (sizedKind count 2 ListAll)
-        ∙ ap₂ (cond (eqb code 0x40)) (sized-found (6 + 4 * d) (2 + 2 * d) Recost (omega arith) (omega arith) (with-costs recost))
-        (sized-found 2 0 ListAll refl (omega arith) (λ e. refl))))
+      found-on : (code : ℕ) → found (kindOn d code count) ≡ onBoard d code rest
+      unfolding kindOn onBoard framed
+      found-on code =
+          cond-map found (eqb code 0x20) (sizedKind count (6 + 4 * d) Enter) _
+          ∙ ap₂ (cond (eqb code 0x20)) (sized-found (6 + 4 * d) (2 + 2 * d) Enter (omega arith) (omega arith) (with-costs enter))
+          (cond-map found (eqb code 0x30) (sizedKind count 6 Withdraw) _
+          ∙ ap₂ (cond (eqb code 0x30)) (sized-found 6 2 Withdraw refl (omega arith) (λ e. ap (λ (n : ℕ). change (withdraw n)) (numbers 1 e)))
+          (cond-map found (eqb code 0x40) (sizedKind count (6 + 4 * d) Recost) (sizedKind count 2 ListAll)
+          ∙ ap₂ (cond (eqb code 0x40)) (sized-found (6 + 4 * d) (2 + 2 * d) Recost (omega arith) (omega arith) (with-costs recost))
+          (sized-found 2 0 ListAll refl (omega arith) (λ e. refl))))
 
-    pub found-in : (code : ℕ) → found (kindOf d code count) ≡ frameIn d (code ∷ rest)
-    unfolding kindOf frameIn framed
-    found-in code =
-        cond-map found (eqb code 0x10) (sizedKind count 4 Load) _
-        ∙ ap₂ (cond (eqb code 0x10)) (sized-found 4 1 Load refl (omega arith) (λ e. ap load (loads e)))
-        (cond-map found (has code callCodes) (cond (eqb d 0) Early (kindOn d code count)) Wrong
-        ∙ ap (λ (f : Frame). cond (has code callCodes) f wrong)
-        (cond-map found (eqb d 0) Early (kindOn d code count) ∙ ap (cond (eqb d 0) early) (found-on code)))
+      pub found-in : (code : ℕ) → found (kindOf d code count) ≡ frameIn d (code ∷ rest)
+      unfolding kindOf frameIn framed
+      found-in code =
+          cond-map found (eqb code 0x10) (sizedKind count 4 Load) _
+          ∙ ap₂ (cond (eqb code 0x10)) (sized-found 4 1 Load refl (omega arith) (λ e. ap load (loads e)))
+          (cond-map found (has code callCodes) (cond (eqb d 0) Early (kindOn d code count)) Wrong
+          ∙ ap (λ (f : Frame). cond (has code callCodes) f wrong)
+          (cond-map found (eqb d 0) Early (kindOn d code count) ∙ ap (cond (eqb d 0) early) (found-on code)))
 
 -- A blank line has no first byte, and reads 0.
 found-blank : (d count asked number : ℕ) (costs : List ℕ) → framed (kindOf d 0 count) asked number costs ≡ frameIn d []
@@ -99,11 +99,11 @@ module _ (d : ℕ) (most : d ≤ 4) (first : List ℕ) where
       let count : length (drop 1 numbers) ≡ d = omega (arith, length-drop 1 numbers, joined-length 256 rest (1 + d) even) in
       four-padded (costAt first d) d (drop 1 numbers) most count
       (λ j h.
-        let place : 3 + 2 * j ≡ 1 + 2 * (1 + j) = omega arith in
-        ap (λ (x : ℕ). cond (ltb j d) x 0)
-        (ap (wordAt first) place
-        ∙ word-at code rest (1 + d) (1 + j) reads even (omega arith)
-        ∙ sym (getD-drop 1 numbers j 0)))
+      let place : 3 + 2 * j ≡ 1 + 2 * (1 + j) = omega arith in
+      ap (λ (x : ℕ). cond (ltb j d) x 0)
+      (ap (wordAt first) place
+      ∙ word-at code rest (1 + d) (1 + j) reads even (omega arith)
+      ∙ sym (getD-drop 1 numbers j 0)))
 
   found-bytes : (bytes : List ℕ) (count : ℕ) → count ≡ min (2 * length bytes) 23 → Reads bytes → framed (kindOf d (byteAt first 0) count) (byteAt first 1) (wordAt first 1) (costsAt first d) ≡ frameIn d bytes
   unfolding Reads numberIn
@@ -153,11 +153,11 @@ module _ (line : List ℕ) (l : Line) (j : Judged line l) where
       ∙ ap₂ (λ (o s : Bool). cond o wrong (cond s (found kind) wrong)) (j .odd) (j .spelled)
       ∙ whole-or-wrong odd (all isDigit line)
       (λ e.
-        let not-odd : length line % 2 ≡ 1 → ⊥ = eqb-false (length line % 2) 1 e in
-        let even : length line ≡ 2 * (length line / 2) = omega arith in
-        let bytes : length (bytesOf line) ≡ length line / 2 =
-          joined-length 16 (map valueOf line) (length line / 2) (length-map line valueOf ∙ even) in
-        found-bytes d most first (bytesOf line) (l .count) (omega (arith, j .count)) (bytes-at (length line / 2) even))
+      let not-odd : length line % 2 ≡ 1 → ⊥ = eqb-false (length line % 2) 1 e in
+      let even : length line ≡ 2 * (length line / 2) = omega arith in
+      let bytes : length (bytesOf line) ≡ length line / 2 =
+      joined-length 16 (map valueOf line) (length line / 2) (length-map line valueOf ∙ even) in
+      found-bytes d most first (bytesOf line) (l .count) (omega (arith, j .count)) (bytes-at (length line / 2) even))
       ∙ ap (λ (b : Bool). cond (all isDigit line && b) (frameIn d (bytesOf line)) wrong) (sym (even-odd (length line)))
 
 -- Before an accepted 10 no kind of call is found.

@@ -35,9 +35,9 @@ module _ (line : List ℕ) (b : ℕ) where
       byCases (ltb i (length line))
       (λ e. sym (List·getD-append line (b ∷ []) 0 i (ltb-true i (length line) e)))
       (λ e.
-        let past : length line ≤ i = ltb-false i (length line) e in
-        List·getD-eq-default line 0 {n = i} past
-        ∙ sym (List·getD-eq-default (line ++ b ∷ []) 0 {n = i} (omega (arith, more-length))))
+      let past : length line ≤ i = ltb-false i (length line) e in
+      List·getD-eq-default line 0 {n = i} past
+      ∙ sym (List·getD-eq-default (line ++ b ∷ []) 0 {n = i} (omega (arith, more-length))))
 
 -- A byte more: its place is kept if it is among the first, and the count goes up to 23.
 module _ (line : List ℕ) (b : ℕ) (l : Line) (j : Judged line l) where
@@ -45,11 +45,11 @@ module _ (line : List ℕ) (b : ℕ) (l : Line) (j : Judged line l) where
   first-more i h =
       testCases (λ (x : Bool). cond x b (getD (l .first) i 0) ≡ getD (line ++ b ∷ []) i 0) (eqb i (l .count))
       (λ e.
-        let at : length line ≡ i = omega (arith, eqb-true i (l .count) e, j .count) in
-        sym (getD-append-seam line b [] 0) ∙ ap (λ (n : ℕ). getD (line ++ b ∷ []) n 0) at)
+      let at : length line ≡ i = omega (arith, eqb-true i (l .count) e, j .count) in
+      sym (getD-append-seam line b [] 0) ∙ ap (λ (n : ℕ). getD (line ++ b ∷ []) n 0) at)
       (λ e.
-        let off : i ≡ l .count → ⊥ = eqb-false i (l .count) e in
-        j .first i h ∙ more-other line b i (λ z. off (omega (arith, j .count))))
+      let off : i ≡ l .count → ⊥ = eqb-false i (l .count) e in
+      j .first i h ∙ more-other line b i (λ z. off (omega (arith, j .count))))
 
   pub stepped : {first : List ℕ} {count : ℕ} {spelled : Bool}
       → Placed (l .first) (l .count) b first
@@ -62,12 +62,12 @@ module _ (line : List ℕ) (b : ℕ) (l : Line) (j : Judged line l) where
         first = λ i h. kept i h ∙ first-more i h;
         count = omega (arith, counts, j .count, more-length line b);
         odd =
-          ap not (j .odd)
-          ∙ odd-next (length line)
-          ∙ ap (λ (n : ℕ). eqb (n % 2) 1) (sym (more-length line b));
+            ap not (j .odd)
+            ∙ odd-next (length line)
+            ∙ ap (λ (n : ℕ). eqb (n % 2) 1) (sym (more-length line b));
         spelled =
-          spells
-          ∙ and-comm (isDigit b) (l .spelled)
-          ∙ ap₂ (λ (x y : Bool). x && y) (j .spelled) (sym (and-true (isDigit b)))
-          ∙ sym (all-append isDigit line (b ∷ []));
+            spells
+            ∙ and-comm (isDigit b) (l .spelled)
+            ∙ ap₂ (λ (x y : Bool). x && y) (j .spelled) (sym (and-true (isDigit b)))
+            ∙ sym (all-append isDigit line (b ∷ []));
       }

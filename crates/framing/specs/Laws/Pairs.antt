@@ -42,11 +42,11 @@ padded-at d cs count j room =
     testCases (λ (b : Bool). getD (cs ++ replicate (4 - d) 0) j 0 ≡ cond b (getD cs j 0) 0) (ltb j d)
     (λ e. List·getD-append cs (replicate (4 - d) 0) 0 j (omega (arith, ltb-true j d e)))
     (λ e.
-      let past : d ≤ j = ltb-false j d e in
-      let place : length cs + (j - d) ≡ j = omega arith in
-      ap (λ (i : ℕ). getD (cs ++ replicate (4 - d) 0) i 0) (sym place)
-      ∙ getD-append-add cs (replicate (4 - d) 0) (j - d) 0
-      ∙ getD-replicate (4 - d) (j - d) 0 0 (omega arith))
+    let past : d ≤ j = ltb-false j d e in
+    let place : length cs + (j - d) ≡ j = omega arith in
+    ap (λ (i : ℕ). getD (cs ++ replicate (4 - d) 0) i 0) (sym place)
+    ∙ getD-append-add cs (replicate (4 - d) 0) (j - d) 0
+    ∙ getD-replicate (4 - d) (j - d) 0 0 (omega arith))
 
 four-at : (f : ℕ → ℕ) (j : ℕ) → j < 4 → getD (f 0 ∷ f 1 ∷ f 2 ∷ f 3 ∷ []) j 0 ≡ f j
 four-at f zero h = refl

@@ -109,116 +109,118 @@ room-for d n m rows rows' out asked same within =
 module _ (x : Change) (m m' : List ℕ) (rows rows' : List (List ℕ)) (r : Answer)
     (p : ChangePromise x m (map resultRow rows) r m' (map resultRow rows'))
     (lent : length rows ≡ lentRows) (same : length rows' ≡ length rows)
-    where
-  module _ (t : Tree) (stands : Stands m t) where
-    says : promise.ChangeSaid x (boardIn m) (map resultRow rows) (r .verdict) (r .count) (map resultRow rows')
-    says = p .sound t stands
+  where
+    module _ (t : Tree) (stands : Stands m t) where
+      says : promise.ChangeSaid x (boardIn m) (map resultRow rows) (r .verdict) (r .count) (map resultRow rows')
+      says = p .sound t stands
 
-    answers-lent : answerOf (r .verdict) ≡ changeAnswer (boardIn m) x lentRows
-    answers-lent = says .answers ∙ ap (changeAnswer (boardIn m) x) (length-map rows resultRow ∙ lent)
+      answers-lent : answerOf (r .verdict) ≡ changeAnswer (boardIn m) x lentRows
+      answers-lent = says .answers ∙ ap (changeAnswer (boardIn m) x) (length-map rows resultRow ∙ lent)
 
-    change-within : r .count ≤ lentRows
-    change-within =
-        omega
-        (arith,
-        within-lent (numberOf (r .verdict)) (r .count) (changeNotice (boardIn m) x) (map resultRow rows) (map resultRow rows')
-        (says .counts) (says .tells) (length-map rows' resultRow ∙ same ∙ sym (length-map rows resultRow)),
-        length-map rows resultRow)
+      change-within : r .count ≤ lentRows
+      change-within =
+          omega (
+            arith,
+            within-lent (numberOf (r .verdict)) (r .count) (changeNotice (boardIn m) x) (map resultRow rows) (map resultRow rows')
+                (says .counts) (says .tells) (length-map rows' resultRow ∙ same ∙ sym (length-map rows resultRow)),
+            length-map rows resultRow,
+          )
 
-    change-said : answerSaid r rows' ≡ said (change x) (holds (boardIn m) t)
-    unfolding answerSaid said answerOf
-    change-said =
-        saidBy-same (answerOf (r .verdict))
-        (λ e.
+      change-said : answerSaid r rows' ≡ said (change x) (holds (boardIn m) t)
+      unfolding answerSaid said answerOf
+      change-said =
+          saidBy-same (answerOf (r .verdict))
+          (λ e.
           ap told
           (told-rows (numberOf (r .verdict)) (r .count) (changeNotice (boardIn m) x) (map resultRow rows) (map resultRow rows') e
           (says .counts) (says .tells)))
-        ∙ ap (λ (a : calls.Answer). saidBy a (told (changeNotice (boardIn m) x))) answers-lent
+          ∙ ap (λ (a : calls.Answer). saidBy a (told (changeNotice (boardIn m) x))) answers-lent
 
-    change-held : (d : ℕ) → Holds (holds (boardIn m) t) d m → Holds (held (change x) (holds (boardIn m) t)) d m'
-    unfolding held Holds changed boardIn answerOf
-    change-held d h =
-        left-held (numberOf (r .verdict)) (changeAnswer (boardIn m) x lentRows) (changed (boardIn m) x)
-        (changeTree (dimensionIn m) x t) (holds (boardIn m) t) d m m'
-        (ap (λ (a : calls.Answer). a .number) answers-lent)
-        (p .left t stands) (h .1) h
+      change-held : (d : ℕ) → Holds (holds (boardIn m) t) d m → Holds (held (change x) (holds (boardIn m) t)) d m'
+      unfolding held Holds changed boardIn answerOf
+      change-held d h =
+          left-held (numberOf (r .verdict)) (changeAnswer (boardIn m) x lentRows) (changed (boardIn m) x)
+          (changeTree (dimensionIn m) x t) (holds (boardIn m) t) d m m'
+          (ap (λ (a : calls.Answer). a .number) answers-lent)
+          (p .left t stands) (h .1) h
 
-  pub room-change : (d : ℕ) (out : List ℕ) → Asked d m rows out → Room d 10 (r .count) rows' out
-  room-change d out asked =
-      let sound = stands-asked d m (asked .loaded) (asked .ready .state) (asked .ready .holds) in
-      room-for d (r .count) m rows rows' out asked same (change-within (sound .tree) (sound .stands))
+    pub room-change : (d : ℕ) (out : List ℕ) → Asked d m rows out → Room d 10 (r .count) rows' out
+    room-change d out asked =
+        let sound = stands-asked d m (asked .loaded) (asked .ready .state) (asked .ready .holds) in
+        room-for d (r .count) m rows rows' out asked same (change-within (sound .tree) (sound .stands))
 
-  change-text : (d : ℕ) → 0 < d → (s : State) → Holds s d m → answerSaid r rows' ≡ said (change x) s
-  unfolding Holds
-  change-text d loaded unloaded h = absurd (omega arith)
-  change-text d loaded (holds b t) h =
-      change-said t (h .0 .stands) ∙ ap (λ (c : Board). said (change x) (holds c t)) (h .0 .board)
+    change-text : (d : ℕ) → 0 < d → (s : State) → Holds s d m → answerSaid r rows' ≡ said (change x) s
+    unfolding Holds
+    change-text d loaded unloaded h = absurd (omega arith)
+    change-text d loaded (holds b t) h =
+        change-said t (h .0 .stands) ∙ ap (λ (c : Board). said (change x) (holds c t)) (h .0 .board)
 
-  change-left : (d : ℕ) → 0 < d → (s : State) → Holds s d m → Holds (held (change x) s) d m'
-  unfolding Holds
-  change-left d loaded unloaded h = absurd (omega arith)
-  change-left d loaded (holds b t) h =
-      subst (λ (c : Board). Holds (held (change x) (holds c t)) d m') (h .0 .board)
-      (change-held t (h .0 .stands) d (subst (λ (c : Board). Holds (holds c t) d m) (sym (h .0 .board)) h))
+    change-left : (d : ℕ) → 0 < d → (s : State) → Holds s d m → Holds (held (change x) s) d m'
+    unfolding Holds
+    change-left d loaded unloaded h = absurd (omega arith)
+    change-left d loaded (holds b t) h =
+        subst (λ (c : Board). Holds (held (change x) (holds c t)) d m') (h .0 .board)
+        (change-held t (h .0 .stands) d (subst (λ (c : Board). Holds (holds c t) d m) (sym (h .0 .board)) h))
 
-  pub served-change : (d n : ℕ) (out out' : List ℕ) → 0 < d → Put (answerText d (answerSaid r rows')) out 0 out' n → Served d (change x) m out n d m' out'
-  served-change d n out out' loaded put =
-      record {
-        text = λ s h. put-as (ap (answerText d) (change-text d loaded s h)) put;
-        left = change-left d loaded;
-      }
+    pub served-change : (d n : ℕ) (out out' : List ℕ) → 0 < d → Put (answerText d (answerSaid r rows')) out 0 out' n → Served d (change x) m out n d m' out'
+    served-change d n out out' loaded put =
+        record {
+          text = λ s h. put-as (ap (answerText d) (change-text d loaded s h)) put;
+          left = change-left d loaded;
+        }
 
 -- ---- a list
 
 module _ (m : List ℕ) (rows rows' : List (List ℕ)) (r : ListAnswer)
     (p : ListPromise m (map resultRow rows) r (map resultRow rows'))
     (lent : length rows ≡ lentRows) (same : length rows' ≡ length rows)
-    where
-  module _ (t : Tree) (stands : Stands m t) where
-    lists : promise.QuerySaid calls.list (boardIn m) (map resultRow rows) (r .verdict) (r .count) (map resultRow rows')
-    lists = p .sound t stands
+  where
+    module _ (t : Tree) (stands : Stands m t) where
+      lists : promise.QuerySaid calls.list (boardIn m) (map resultRow rows) (r .verdict) (r .count) (map resultRow rows')
+      lists = p .sound t stands
 
-    list-within : r .count ≤ lentRows
-    list-within =
-        omega
-        (arith,
-        within-lent (numberOf (r .verdict)) (r .count) (queryRows (boardIn m) calls.list) (map resultRow rows) (map resultRow rows')
-        (lists .counts) (lists .tells) (length-map rows' resultRow ∙ same ∙ sym (length-map rows resultRow)),
-        length-map rows resultRow)
+      list-within : r .count ≤ lentRows
+      list-within =
+          omega (
+            arith,
+            within-lent (numberOf (r .verdict)) (r .count) (queryRows (boardIn m) calls.list) (map resultRow rows) (map resultRow rows')
+                (lists .counts) (lists .tells) (length-map rows' resultRow ∙ same ∙ sym (length-map rows resultRow)),
+            length-map rows resultRow,
+          )
 
-    opened-nodes : numberOf (r .verdict) ≡ 0 → r .opened ≡ nodesOpened (dimensionIn m) t
-    unfolding counted
-    opened-nodes e = p .opened t stands ∙ ap (λ (k : ℕ). counted k (nodesOpened (dimensionIn m) t)) e
+      opened-nodes : numberOf (r .verdict) ≡ 0 → r .opened ≡ nodesOpened (dimensionIn m) t
+      unfolding counted
+      opened-nodes e = p .opened t stands ∙ ap (λ (k : ℕ). counted k (nodesOpened (dimensionIn m) t)) e
 
-    list-said : listSaid r rows' ≡ said list (holds (boardIn m) t)
-    unfolding listSaid said answerOf boardIn
-    list-said =
-        saidBy-same (answerOf (r .verdict))
-        (λ e.
+      list-said : listSaid r rows' ≡ said list (holds (boardIn m) t)
+      unfolding listSaid said answerOf boardIn
+      list-said =
+          saidBy-same (answerOf (r .verdict))
+          (λ e.
           ap₂ listed (opened-nodes e)
           (told-rows (numberOf (r .verdict)) (r .count) (queryRows (boardIn m) calls.list) (map resultRow rows) (map resultRow rows') e
           (lists .counts) (lists .tells)))
-        ∙ ap (λ (a : calls.Answer). saidBy a (listed (nodesOpened (dimensionIn m) t) (queryRows (boardIn m) calls.list)))
-        (lists .answers ∙ ap (queryAnswer (boardIn m) calls.list) (length-map rows resultRow ∙ lent))
+          ∙ ap (λ (a : calls.Answer). saidBy a (listed (nodesOpened (dimensionIn m) t) (queryRows (boardIn m) calls.list)))
+          (lists .answers ∙ ap (queryAnswer (boardIn m) calls.list) (length-map rows resultRow ∙ lent))
 
-  pub room-list : (d : ℕ) (out : List ℕ) → Asked d m rows out → Room d 10 (r .count) rows' out
-  room-list d out asked =
-      let sound = stands-asked d m (asked .loaded) (asked .ready .state) (asked .ready .holds) in
-      room-for d (r .count) m rows rows' out asked same (list-within (sound .tree) (sound .stands))
+    pub room-list : (d : ℕ) (out : List ℕ) → Asked d m rows out → Room d 10 (r .count) rows' out
+    room-list d out asked =
+        let sound = stands-asked d m (asked .loaded) (asked .ready .state) (asked .ready .holds) in
+        room-for d (r .count) m rows rows' out asked same (list-within (sound .tree) (sound .stands))
 
-  list-text : (d : ℕ) → 0 < d → (s : State) → Holds s d m → listSaid r rows' ≡ said list s
-  unfolding Holds
-  list-text d loaded unloaded h = absurd (omega arith)
-  list-text d loaded (holds b t) h =
-      list-said t (h .0 .stands) ∙ ap (λ (c : Board). said list (holds c t)) (h .0 .board)
+    list-text : (d : ℕ) → 0 < d → (s : State) → Holds s d m → listSaid r rows' ≡ said list s
+    unfolding Holds
+    list-text d loaded unloaded h = absurd (omega arith)
+    list-text d loaded (holds b t) h =
+        list-said t (h .0 .stands) ∙ ap (λ (c : Board). said list (holds c t)) (h .0 .board)
 
-  pub served-list : (d n : ℕ) (out out' : List ℕ) → 0 < d → Put (answerText d (listSaid r rows')) out 0 out' n → Served d list m out n d m out'
-  unfolding held
-  served-list d n out out' loaded put =
-      record {
-        text = λ s h. put-as (ap (answerText d) (list-text d loaded s h)) put;
-        left = λ s h. h;
-      }
+    pub served-list : (d n : ℕ) (out out' : List ℕ) → 0 < d → Put (answerText d (listSaid r rows')) out 0 out' n → Served d list m out n d m out'
+    unfolding held
+    served-list d n out out' loaded put =
+        record {
+          text = λ s h. put-as (ap (answerText d) (list-text d loaded s h)) put;
+          left = λ s h. h;
+        }
 
 -- ---- a load of nothing
 
@@ -229,48 +231,48 @@ left-same (suc k) m m' b t refuses left = left
 
 module _ (asked : ℕ) (m m' : List ℕ) (rows : List (List ℕ)) (v : Verdict)
     (p : LoadPromise boardSize asked [] m v m') (memory : length m ≡ memoryNeed boardSize)
-    where
-  load-answers : answerOf v ≡ loadSays asked
-  unfolding loadSays
-  load-answers = p .said ∙ ap (λ (n : ℕ). loadAnswer n boardSize asked []) memory
+  where
+    load-answers : answerOf v ≡ loadSays asked
+    unfolding loadSays
+    load-answers = p .said ∙ ap (λ (n : ℕ). loadAnswer n boardSize asked []) memory
 
-  load-text : (s : State) → answerSaid (record { verdict = v; count = 0 }) rows ≡ said (load asked) s
-  unfolding answerSaid said
-  load-text s = ap (λ (a : calls.Answer). saidBy a (told [])) load-answers
+    load-text : (s : State) → answerSaid (record { verdict = v; count = 0 }) rows ≡ said (load asked) s
+    unfolding answerSaid said
+    load-text s = ap (λ (a : calls.Answer). saidBy a (told [])) load-answers
 
-  load-number : numberOf v ≡ loadSays asked .number
-  unfolding answerOf
-  load-number = ap (λ (a : calls.Answer). a .number) load-answers
+    load-number : numberOf v ≡ loadSays asked .number
+    unfolding answerOf
+    load-number = ap (λ (a : calls.Answer). a .number) load-answers
 
-  new : State
-  new = holds (calls.loaded boardSize asked []) (loadTree asked [])
+    new : State
+    new = holds (calls.loaded boardSize asked []) (loadTree asked [])
 
-  held-new : numberOf v ≡ 0 → (s : State) → Holds (held (load asked) s) asked m'
-  unfolding held new Holds Left calls.loaded
-  held-new accepts s =
-      held-accepted (loadSays asked) new s asked m' (sym load-number ∙ accepts)
-      (subst (λ (k : ℕ). Left k m m' (calls.loaded boardSize asked []) (loadTree asked [])) accepts (p .left) .holding, refl)
+    held-new : numberOf v ≡ 0 → (s : State) → Holds (held (load asked) s) asked m'
+    unfolding held new Holds Left calls.loaded
+    held-new accepts s =
+        held-accepted (loadSays asked) new s asked m' (sym load-number ∙ accepts)
+        (subst (λ (k : ℕ). Left k m m' (calls.loaded boardSize asked []) (loadTree asked [])) accepts (p .left) .holding, refl)
 
-  held-old : (numberOf v ≡ 0 → ⊥) → (d : ℕ) (s : State) → Holds s d m → Holds (held (load asked) s) d m'
-  unfolding held new
-  held-old refuses d s h =
-      let same = left-same (numberOf v) m m' (calls.loaded boardSize asked []) (loadTree asked []) refuses (p .left) in
-      held-refused (loadSays asked) new s d m' (λ z. refuses (load-number ∙ z)) (subst (Holds s d) (sym same) h)
+    held-old : (numberOf v ≡ 0 → ⊥) → (d : ℕ) (s : State) → Holds s d m → Holds (held (load asked) s) d m'
+    unfolding held new
+    held-old refuses d s h =
+        let same = left-same (numberOf v) m m' (calls.loaded boardSize asked []) (loadTree asked []) refuses (p .left) in
+        held-refused (loadSays asked) new s d m' (λ z. refuses (load-number ∙ z)) (subst (Holds s d) (sym same) h)
 
-  module _ (d n : ℕ) (out out' : List ℕ) (put : Put (answerText d (answerSaid (record { verdict = v; count = 0 }) rows)) out 0 out' n) where
-    pub served-load : numberOf v ≡ 0 → Served d (load asked) m out n asked m' out'
-    served-load accepts =
-        record {
-          text = λ s h. put-as (ap (answerText d) (load-text s)) put;
-          left = λ s h. held-new accepts s;
-        }
+    module _ (d n : ℕ) (out out' : List ℕ) (put : Put (answerText d (answerSaid (record { verdict = v; count = 0 }) rows)) out 0 out' n) where
+      pub served-load : numberOf v ≡ 0 → Served d (load asked) m out n asked m' out'
+      served-load accepts =
+          record {
+            text = λ s h. put-as (ap (answerText d) (load-text s)) put;
+            left = λ s h. held-new accepts s;
+          }
 
-    pub served-refusal : (numberOf v ≡ 0 → ⊥) → Served d (load asked) m out n d m' out'
-    served-refusal refuses =
-        record {
-          text = λ s h. put-as (ap (answerText d) (load-text s)) put;
-          left = held-old refuses d;
-        }
+      pub served-refusal : (numberOf v ≡ 0 → ⊥) → Served d (load asked) m out n d m' out'
+      served-refusal refuses =
+          record {
+            text = λ s h. put-as (ap (answerText d) (load-text s)) put;
+            left = held-old refuses d;
+          }
 
 -- ---- no call
 
@@ -299,8 +301,8 @@ unfolding answerTo after
 answers-line d l f m out m' out' r ready found served =
     record {
       text = λ s line h j.
-        served .text s h .text
-        ∙ ap₂ (λ (k : ℕ) (g : Frame). answerText k (said g s)) (sym (holds-dimension s d m h)) (frame s line h j);
+          served .text s h .text
+          ∙ ap₂ (λ (k : ℕ) (g : Frame). answerText k (said g s)) (sym (holds-dimension s d m h)) (frame s line h j);
       left = λ s line h j. subst (λ (g : Frame). Holds (held g s) (r .dimension) m') (frame s line h j) (served .left s h);
       ready = record {
         state = held (asFrame f) (ready .state);

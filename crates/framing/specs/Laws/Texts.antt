@@ -42,13 +42,14 @@ pub rowText-most : (d : ℕ) (r : Row) → length (rowText d r) ≤ 6 + 4 * d
 unfolding rowText
 rowText-most d r =
     let ns : List ℕ = r .number ∷ take d (r .costs) in
-    omega
-    (arith,
-    length-append (byteText (r .mark)) (flatMap wordText ns),
-    byteText-length (r .mark),
-    words-length ns,
-    length-take d (r .costs),
-    min-le-left d (length (r .costs)))
+    omega (
+      arith,
+      length-append (byteText (r .mark)) (flatMap wordText ns),
+      byteText-length (r .mark),
+      words-length ns,
+      length-take d (r .costs),
+      min-le-left d (length (r .costs)),
+    )
 
 pub rowsText-most : (d : ℕ) → d ≤ 4 → (rows : List Row) → length (rowsText d rows) ≤ 22 * length rows
 unfolding rowsText flatMap

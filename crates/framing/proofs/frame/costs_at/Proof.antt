@@ -18,7 +18,7 @@ cost-at-requires-4 c κs = search needs
 
 returns : tie.Need-returns
 unfolding costsAt
-returns c = 
+returns c =
     let first = c .before .before .before .cost-at .ensures in
     let second = c .before .before .cost-at2 .ensures in
     let third = c .before .cost-at3 .ensures in

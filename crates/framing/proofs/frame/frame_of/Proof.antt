@@ -26,7 +26,7 @@ costs-at-requires c κs = search needs
 
 returns : tie.Need-returns
 unfolding asFrame
-returns c = 
+returns c =
     let a = c .before .before .before .before .before .args in
     let kind = c .before .before .before .line-kind in
     let asked = c .before .before .byte-at in
@@ -34,9 +34,9 @@ returns c =
     let costs = c .costs-at in
     record {
       frame = λ line j.
-        ap₂ (λ (k : Kind) (n : ℕ). framed k n (number .result) (costs .result)) (kind .ensures) (asked .ensures)
-        ∙ ap₂ (λ (n : ℕ) (cs : List ℕ). framed (lineKind (a .d) (a .line)) (byteAt (a .line .first) 1) n cs) (number .ensures) (costs .ensures)
-        ∙ found-line line (a .line) j (a .d) (c .before .before .before .before .before .pre);
+          ap₂ (λ (k : Kind) (n : ℕ). framed k n (number .result) (costs .result)) (kind .ensures) (asked .ensures)
+          ∙ ap₂ (λ (n : ℕ) (cs : List ℕ). framed (lineKind (a .d) (a .line)) (byteAt (a .line .first) 1) n cs) (number .ensures) (costs .ensures)
+          ∙ found-line line (a .line) j (a .d) (c .before .before .before .before .before .pre);
       timely = subst (Timely (a .d)) (sym (kind .ensures)) (timely-kind (a .d) (a .line));
     }
 

@@ -18,12 +18,12 @@ is-call-requires c κs = search needs
 
 returns-2 : tie.Need-returns-2
 unfolding kindOf
-returns-2 c = 
+returns-2 c =
     simp (ne-eqb _ _ (c .before .before .if1 .left), sym (c .before .is-call .ensures) ∙ not-true _ (c .if2 .taken))
 
 returns-3 : tie.Need-returns-3
 unfolding kindOf
-returns-3 c = 
+returns-3 c =
     let call = sym (c .before .before .is-call .ensures) ∙ not-false _ (c .before .if2 .left) in
     simp (ne-eqb _ _ (c .before .before .before .if1 .left), call, eq-eqb _ _ (c .if3 .taken))
 
@@ -32,7 +32,7 @@ kind-on-requires c κs = search needs
 
 returns-4 : tie.Need-returns-4
 unfolding kindOf
-returns-4 c = 
+returns-4 c =
     let call = sym (c .before .before .before .is-call .ensures) ∙ not-false _ (c .before .before .if2 .left) in
     simp (ne-eqb _ _ (c .before .before .before .before .if1 .left), call, ne-eqb _ _ (c .before .if3 .left)) (c .kind-on .ensures)
 

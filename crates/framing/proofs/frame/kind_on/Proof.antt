@@ -36,7 +36,7 @@ sized-requires-3 c κs = search needs
 
 returns-3 : tie.Need-returns-3
 unfolding kindOn
-returns-3 c = 
+returns-3 c =
     simp (ne-eqb _ _ (c .before .before .before .if1 .left), ne-eqb _ _ (c .before .before .if2 .left), eq-eqb _ _ (c .before .if3 .taken))
     (c .sized3 .ensures)
 
@@ -45,7 +45,7 @@ sized-requires-4 c κs = search needs
 
 returns-4 : tie.Need-returns-4
 unfolding kindOn
-returns-4 c = 
+returns-4 c =
     simp (ne-eqb _ _ (c .before .before .before .if1 .left), ne-eqb _ _ (c .before .before .if2 .left), ne-eqb _ _ (c .before .if3 .left))
     (c .sized4 .ensures)
 

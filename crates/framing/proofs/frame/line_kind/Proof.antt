@@ -18,7 +18,7 @@ kind-of-requires c κs = search needs
 
 returns-2 : tie.Need-returns-2
 unfolding lineKind
-returns-2 c = 
+returns-2 c =
     let a = c .before .before .before .before .before .args in
     let first = ap (λ (code : ℕ). kindOf (a .d) code (a .line .count)) (c .before .byte-at .ensures) in
     simp (c .before .before .before .if1 .left, c .before .before .if2 .taken) (c .kind-of .ensures ∙ first)

@@ -26,7 +26,7 @@ same-length c = search needs
 
 returns : tie.Need-returns
 unfolding answerSaid
-returns c = 
+returns c =
     let a = c .before .before .before .before .before .before .before .before .args in
     put-as
     (refused-text (a .d) (a .r .verdict) _ (c .before .before .before .before .before .before .number-of .ensures) (c .before .before .before .detail-of .ensures) (c .before .before .before .before .before .if1 .taken))
@@ -37,7 +37,7 @@ put-head-requires c κs = search needs
 
 put-tail-requires : tie.Need-put-tail-requires
 unfolding headText
-put-tail-requires c κs = 
+put-tail-requires c κs =
     let a = c .before .before .before .before .before .before .before .before .args in
     let text = length-append (byteText 0) (wordText (a .r .count)) in
     record {
@@ -51,7 +51,7 @@ same-length-2 c = search needs
 
 returns-2 : tie.Need-returns-2
 unfolding answerSaid
-returns-2 c = 
+returns-2 c =
     let a = c .before .before .before .before .before .before .before .before .before .before .before .args in
     let enough = c .before .before .before .before .before .before .before .before .before .before .before .pre .enough in
     put-as

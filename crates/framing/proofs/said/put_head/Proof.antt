@@ -25,7 +25,7 @@ same-length c = search needs
 
 returns : tie.Need-returns
 unfolding headText
-returns c = 
+returns c =
     let count : ℕ = c .before .before .before .before .before .before .before .before .before .before .args .count in
     put-as
     (ap (λ (l : List ℕ). byteText 0 ++ l) (ap wordText (c .before .before .before .two-bytes .ensures) ∙ wordText-low count))

@@ -27,7 +27,7 @@ same-length c = search needs
 
 returns : tie.Need-returns
 unfolding listSaid
-returns c = 
+returns c =
     let a = c .before .before .before .before .before .before .before .before .args in
     put-as
     (refused-text (a .d) (a .r .verdict) _ (c .before .before .before .before .before .before .number-of .ensures) (c .before .before .before .detail-of .ensures) (c .before .before .before .before .before .if1 .taken))
@@ -41,13 +41,13 @@ two-bytes-requires c κs = search needs
 
 put-word-requires : tie.Need-put-word-requires
 unfolding headText
-put-word-requires c κs = 
+put-word-requires c κs =
     let n : ℕ = c .before .before .before .before .before .before .before .before .before .args .r .count in
     omega (arith, byteText-length 0, wordText-length n, length-append (byteText 0) (wordText n))
 
 put-tail-requires : tie.Need-put-tail-requires
 unfolding headText
-put-tail-requires c κs = 
+put-tail-requires c κs =
     let a = c .before .before .before .before .before .before .before .before .before .before .before .before .before .args in
     let opened : ℕ = c .before .before .before .before .two-bytes .result in
     let text = length-append (byteText 0) (wordText (a .r .count)) in
@@ -62,7 +62,7 @@ same-length-2 c = search needs
 
 returns-2 : tie.Need-returns-2
 unfolding listSaid
-returns-2 c = 
+returns-2 c =
     let a = c .before .before .before .before .before .before .before .before .before .before .before .before .before .before .before .before .args in
     let enough = c .before .before .before .before .before .before .before .before .before .before .before .before .before .before .before .before .pre .enough in
     let opened = ap wordText (c .before .before .before .before .before .before .before .two-bytes .ensures) ∙ wordText-low (a .r .opened) in

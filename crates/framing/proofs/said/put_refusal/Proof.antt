@@ -17,11 +17,11 @@ two-bytes-requires : tie.Need-two-bytes-requires
 two-bytes-requires c κs = search needs
 
 put-word-requires : tie.Need-put-word-requires
-put-word-requires c κs = 
+put-word-requires c κs =
     omega (arith, byteText-length (c .before .before .before .before .before .before .before .args .number))
 
 put-end-requires : tie.Need-put-end-requires
-put-end-requires c κs = 
+put-end-requires c κs =
     let a = c .before .before .before .before .before .before .before .before .before .before .before .args in
     omega (arith, byteText-length (a .number), wordText-length (c .before .before .before .before .two-bytes .result))
 
@@ -30,7 +30,7 @@ same-length c = search needs
 
 returns : tie.Need-returns
 unfolding saidText answerText
-returns c = 
+returns c =
     let put = c .before .before .before .before .before .before .before .before .before .before .before .put-byte in
     let a = c .before .before .before .before .before .before .before .before .before .before .before .before .before .before .args in
     let detail = ap wordText (c .before .before .before .before .before .before .before .two-bytes .ensures) ∙ wordText-low (a .detail) in

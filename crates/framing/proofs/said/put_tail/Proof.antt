@@ -16,14 +16,15 @@ put-rows-requires : tie.Need-put-rows-requires
 put-rows-requires c κs = search needs
 
 put-end-requires : tie.Need-put-end-requires
-put-end-requires c κs = 
+put-end-requires c κs =
     let a = c .before .before .before .before .before .before .args in
     let rows = map resultRow (a .rows .now) in
-    omega
-    (arith,
-    rowsText-most (a .d) (c .before .before .before .before .before .before .pre .dimension) (take (a .count) rows),
-    length-take (a .count) rows,
-    min-le-left (a .count) (length rows))
+    omega (
+      arith,
+      rowsText-most (a .d) (c .before .before .before .before .before .before .pre .dimension) (take (a .count) rows),
+      length-take (a .count) rows,
+      min-le-left (a .count) (length rows),
+    )
 
 same-length : tie.Need-same-length
 same-length c = search needs

@@ -20,7 +20,7 @@ same-length-3 : tie.Need-same-length-3
 same-length-3 c = search needs
 
 returns : tie.Need-returns
-returns c = 
+returns c =
     let start = c .before .before .before .before .before .before .before .before .before .before .before .before in
     answers-line (start .args .d) (start .args .line) (c .before .before .before .before .before .before .before .before .frame-of .result) _ _ _ _ (c .before .before .before .before .before .respond .result)
     (start .pre .0) (c .before .before .before .before .before .before .before .before .frame-of .ensures) (c .before .before .before .before .before .respond .ensures)

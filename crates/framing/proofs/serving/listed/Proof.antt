@@ -9,7 +9,7 @@ list-requires : tie.Need-list-requires
 list-requires c κs = search needs
 
 put-list-requires : tie.Need-put-list-requires
-put-list-requires c κs = 
+put-list-requires c κs =
     let a = c .before .before .before .before .before .before .before .args in
     let asked = c .before .before .before .before .before .before .before .pre in
     let made = c .before .before .before .list in
@@ -22,7 +22,7 @@ same-length-2 : tie.Need-same-length-2
 same-length-2 c = search needs
 
 returns : tie.Need-returns
-returns c = 
+returns c =
     let a = c .before .before .before .before .before .before .before .before .before .before .args in
     let asked = c .before .before .before .before .before .before .before .before .before .before .pre in
     let made = c .before .before .before .before .before .before .list in

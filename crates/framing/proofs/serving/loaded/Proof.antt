@@ -13,7 +13,7 @@ load-requires : tie.Need-load-requires
 load-requires c κs = search needs
 
 put-answer-requires : tie.Need-put-answer-requires
-put-answer-requires c κs = 
+put-answer-requires c κs =
     let start = c .before .before .before .before .before .before .before .before in
     record {
       dimension = ready-most _ _ (start .pre .0);
@@ -31,7 +31,7 @@ same-length-2 : tie.Need-same-length-2
 same-length-2 c = search needs
 
 returns : tie.Need-returns
-returns c = 
+returns c =
     let start = c .before .before .before .before .before .before .before .before .before .before .before .before .before in
     let made = c .before .before .before .before .before .before .before .before .load in
     served-load (start .args .asked) _ _ (start .args .rows .now) (made .result) (made .ensures) (start .pre .1 .memory)
@@ -45,7 +45,7 @@ same-length-4 : tie.Need-same-length-4
 same-length-4 c = search needs
 
 returns-2 : tie.Need-returns-2
-returns-2 c = 
+returns-2 c =
     let start = c .before .before .before .before .before .before .before .before .before .before .before .before .before in
     let made = c .before .before .before .before .before .before .before .before .load in
     served-refusal (start .args .asked) _ _ (start .args .rows .now) (made .result) (made .ensures) (start .pre .1 .memory)

@@ -24,7 +24,7 @@ same-length-3 c = search needs
 
 returns : tie.Need-returns
 unfolding asFrame framed
-returns c = 
+returns c =
     let f = c .before .before .before .before .before .before .before .before .before .before .before .before .before .args .f in
     serve-as
     (ap (λ (k : Kind). framed k (f .dimension) (f .number) (f .costs)) (c .before .before .before .before .before .before .before .before .enum-told .given .1))
@@ -35,7 +35,7 @@ enum-told-2 c = search needs
 
 entered-requires : tie.Need-entered-requires
 unfolding calling Timely
-entered-requires c κs = 
+entered-requires c κs =
     let start = c .before .before .before .before .before .before .before .before in
     record {
       ready = start .pre .0 .0;
@@ -48,7 +48,7 @@ enum-told-3 c = search needs
 
 withdrawn-requires : tie.Need-withdrawn-requires
 unfolding calling Timely
-withdrawn-requires c κs = 
+withdrawn-requires c κs =
     let start = c .before .before .before .before .before .before .before .before in
     record {
       ready = start .pre .0 .0;
@@ -61,7 +61,7 @@ enum-told-4 c = search needs
 
 recosted-requires : tie.Need-recosted-requires
 unfolding calling Timely
-recosted-requires c κs = 
+recosted-requires c κs =
     let start = c .before .before .before .before .before .before .before .before in
     record {
       ready = start .pre .0 .0;
@@ -74,7 +74,7 @@ enum-told-5 c = search needs
 
 listed-requires : tie.Need-listed-requires
 unfolding calling Timely
-listed-requires c κs = 
+listed-requires c κs =
     let start = c .before .before .before .before .before .before .before .before in
     record {
       ready = start .pre .0 .0;
@@ -105,7 +105,7 @@ same-length-6 c = search needs
 
 returns-2 : tie.Need-returns-2
 unfolding asFrame framed
-returns-2 c = 
+returns-2 c =
     let f = c .before .before .before .before .before .before .before .before .before .before .before .before .before .before .args .f in
     serve-as
     (ap (λ (k : Kind). framed k (f .dimension) (f .number) (f .costs)) (c .before .before .before .before .before .before .before .before .before .enum-told2 .given .1))
@@ -122,7 +122,7 @@ same-length-9 c = search needs
 
 returns-3 : tie.Need-returns-3
 unfolding asFrame framed
-returns-3 c = 
+returns-3 c =
     let f = c .before .before .before .before .before .before .before .before .before .before .before .before .before .before .args .f in
     serve-as
     (ap (λ (k : Kind). framed k (f .dimension) (f .number) (f .costs)) (c .before .before .before .before .before .before .before .before .before .enum-told3 .given .1))
@@ -139,7 +139,7 @@ same-length-12 c = search needs
 
 returns-4 : tie.Need-returns-4
 unfolding asFrame framed
-returns-4 c = 
+returns-4 c =
     let f = c .before .before .before .before .before .before .before .before .before .before .before .before .before .before .args .f in
     serve-as
     (ap (λ (k : Kind). framed k (f .dimension) (f .number) (f .costs)) (c .before .before .before .before .before .before .before .before .before .enum-told4 .given .1))
@@ -156,7 +156,7 @@ same-length-15 c = search needs
 
 returns-5 : tie.Need-returns-5
 unfolding asFrame framed
-returns-5 c = 
+returns-5 c =
     let f = c .before .before .before .before .before .before .before .before .before .before .before .before .args .f in
     serve-as
     (ap (λ (k : Kind). framed k (f .dimension) (f .number) (f .costs)) (c .before .before .before .before .before .before .before .enum-told5 .given .1))
@@ -167,7 +167,7 @@ same-length-16 c = search needs
 
 returns-6 : tie.Need-returns-6
 unfolding asFrame framed
-returns-6 c = 
+returns-6 c =
     let f = c .before .before .before .before .before .before .before .before .before .args .f in
     serve-as
     (ap (λ (k : Kind). framed k (f .dimension) (f .number) (f .costs)) (c .before .before .before .before .enum-told6 .given .1))
@@ -178,7 +178,7 @@ same-length-17 c = search needs
 
 returns-7 : tie.Need-returns-7
 unfolding asFrame framed
-returns-7 c = 
+returns-7 c =
     let f = c .before .before .before .before .before .before .before .before .before .args .f in
     serve-as
     (ap (λ (k : Kind). framed k (f .dimension) (f .number) (f .costs)) (c .before .before .before .before .enum-told7 .given .1))

@@ -29,7 +29,7 @@ same-length : tie.Need-same-length
 same-length c = search needs
 
 returns : tie.Need-returns
-returns c = 
+returns c =
     let a = c .before .before .before .args in
     put-as
     (byteText-digits (a .n) _ _ (omega arith) (c .before .digit .ensures) (c .digit2 .ensures))

@@ -42,13 +42,14 @@ array-read-put-word : tie.Need-array-read-put-word Inv-loop μ-loop
 array-read-put-word c = omega arith
 
 put-word-requires : tie.Need-put-word-requires Inv-loop μ-loop
-put-word-requires c κs = 
+put-word-requires c κs =
     let a = c .before .before .before .before .before .before .before .before .args in
     let own = c .before .before .loop in
-    omega
-    (arith,
-    numbers-length (a .t4) (omega arith) (own .j) (omega arith),
-    byteText-length (getD (a .t4) 0 0 % 256))
+    omega (
+      arith,
+      numbers-length (a .t4) (omega arith) (own .j) (omega arith),
+      byteText-length (getD (a .t4) 0 0 % 256),
+    )
 
 add-j : tie.Need-add-j Inv-loop μ-loop
 add-j c = omega arith
@@ -57,7 +58,7 @@ loop-less : tie.Need-loop-less Inv-loop μ-loop
 loop-less c = omega arith
 
 loop-again : tie.Need-loop-again Inv-loop μ-loop
-loop-again c = 
+loop-again c =
     let a = c .before .before .before .before .before .before .before .before .before .before .before .args in
     let own = c .before .before .before .before .before .loop in
     (omega arith, put-as (numbers-more (a .t4) (omega arith) (own .j) (omega arith)) (put-both (own .inv .1) (c .before .before .put-word .ensures)))
@@ -66,7 +67,7 @@ same-length : tie.Need-same-length Inv-loop μ-loop
 same-length c = omega arith
 
 returns : tie.Need-returns Inv-loop μ-loop
-returns c = 
+returns c =
     let a = c .before .before .before .before .before .before .before .args in
     let own = c .before .loop in
     let all : own .j ≡ a .d + 1 = omega arith in

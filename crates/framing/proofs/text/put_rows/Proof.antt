@@ -46,21 +46,22 @@ loop-less : tie.Need-loop-less Inv-loop μ-loop
 loop-less c = omega arith
 
 loop-again : tie.Need-loop-again Inv-loop μ-loop
-loop-again c = 
+loop-again c =
     let a = c .before .before .before .before .before .before .before .before .args in
     let own = c .before .before .before .before .before .before .loop in
     let rows = a .rows .now in
-    let put = c .before .before .put-row .ensures in
-    (omega arith,
-    omega (arith, rowText-most (a .d) (resultRow (getD rows (own .i) []))),
-    put-as (rows-more (a .d) rows (own .i) (omega arith)) (put-both (own .inv .2) put))
+    let put = c .before .before .put-row .ensures in (
+      omega arith,
+      omega (arith, rowText-most (a .d) (resultRow (getD rows (own .i) []))),
+      put-as (rows-more (a .d) rows (own .i) (omega arith)) (put-both (own .inv .2) put),
+    )
 
 same-length : tie.Need-same-length Inv-loop μ-loop
 same-length c = omega arith
 
 returns : tie.Need-returns Inv-loop μ-loop
 unfolding rowsText
-returns c = 
+returns c =
     let a = c .before .before .before .args in
     let own = c .before .loop in
     let all : own .i ≡ a .count = omega arith in

@@ -20,7 +20,7 @@ cast-put-byte-2 : tie.Need-cast-put-byte-2
 cast-put-byte-2 c = search needs
 
 put-byte-requires-2 : tie.Need-put-byte-requires-2
-put-byte-requires-2 c κs = 
+put-byte-requires-2 c κs =
     omega (arith, byteText-length (c .before .before .before .before .before .before .args .n / 256))
 
 same-length : tie.Need-same-length
@@ -28,7 +28,7 @@ same-length c = search needs
 
 returns : tie.Need-returns
 unfolding wordText
-returns c = 
+returns c =
     let n : ℕ = c .before .before .before .before .before .before .before .before .before .args .n in
     put-as
     (ap (λ (l : List ℕ). byteText (n / 256) ++ l) (byteText-low n))

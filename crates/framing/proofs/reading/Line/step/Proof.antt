@@ -22,10 +22,10 @@ returns c =
     let a = c .before .before .before .before .before .args in
     let digit = sym (c .if1 .taken) ∙ c .before .is-digit .ensures in
     λ line j.
-      stepped line (a .b) (a .self) j
-      (c .before .before .before .placed .ensures)
-      (c .before .before .counted .ensures)
-      (ap (λ (x : Bool). x && a .self .spelled) digit)
+    stepped line (a .b) (a .self) j
+    (c .before .before .before .placed .ensures)
+    (c .before .before .counted .ensures)
+    (ap (λ (x : Bool). x && a .self .spelled) digit)
 
 returns-2 : tie.Need-returns-2
 unfolding Stepped
@@ -33,10 +33,10 @@ returns-2 c =
     let a = c .before .before .before .before .before .args in
     let digit = sym (c .if1 .left) ∙ c .before .is-digit .ensures in
     λ line j.
-      stepped line (a .b) (a .self) j
-      (c .before .before .before .placed .ensures)
-      (c .before .before .counted .ensures)
-      (c .if1 .left ∙ ap (λ (x : Bool). x && a .self .spelled) digit)
+    stepped line (a .b) (a .self) j
+    (c .before .before .before .placed .ensures)
+    (c .before .before .counted .ensures)
+    (c .if1 .left ∙ ap (λ (x : Bool). x && a .self .spelled) digit)
 
 pub step-spec : {M : Type 1} → statement M
 step-spec = tie.close (tie.spec placed-requires counted-requires is-digit-requires returns returns-2)
