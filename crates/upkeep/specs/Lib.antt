@@ -2,4 +2,5 @@
 pub mod Mark
 pub mod Change
 pub mod Notice
+pub mod Telling
 pub mod Laws

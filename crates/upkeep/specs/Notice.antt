@@ -37,12 +37,16 @@ pub record PutSet (c d from to : ℕ) (set : List ℕ) (mark k : ℕ) (m : List 
   pub tells : rows' ≡ sets rows k (rowsOf c d mark (chosen c from to set m) m)
   pub next : r ≡ k + length (chosen c from to set m)
 
--- The whole notice: left, then entered with the coming move at its place.
-unfoldable pub noticeRows : ℕ → ℕ → ℕ → ℕ → Move → Upkeep → List ℕ → List (List ℕ)
-noticeRows c d n p x u m =
-    rowsOf c d left (chosen c 0 n (u .leaving) m) m
+-- The rows that leave, with a mark, then those that enter, the coming move at its place.
+abbrev pub rowsTold : ℕ → ℕ → ℕ → ℕ → ℕ → Move → Upkeep → List ℕ → List (List ℕ)
+rowsTold c d n p mark x u m =
+    rowsOf c d mark (chosen c 0 n (u .leaving) m) m
     ++ (rowsOf c d entered (chosen c 0 p (u .entering) m) m
     ++ (cond (u .listed) (rowNumbers entered x ∷ []) [] ++ rowsOf c d entered (chosen c p n (u .entering) m) m))
+
+-- The whole notice: left, then entered.
+unfoldable pub noticeRows : ℕ → ℕ → ℕ → ℕ → Move → Upkeep → List ℕ → List (List ℕ)
+noticeRows c d n p x u m = rowsTold c d n p left x u m
 
 pub record TellAsked (c d n p : ℕ) (u : Upkeep) (m : List ℕ) (rows : List (List ℕ)) : Type 0 where
   pub room : Room c m

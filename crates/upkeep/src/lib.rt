@@ -12,4 +12,6 @@ pub use notice::ROW;
 pub use notice::row_of;
 pub use notice::set_marks;
 pub use notice::tell;
+pub use telling::Step;
 pub use telling::Telling;
+pub use telling::told_next;
