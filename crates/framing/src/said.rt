@@ -3,48 +3,16 @@ use crate::ROW;
 use crate::text::put_byte;
 use crate::text::put_rows;
 use crate::text::put_word;
+use answers::detail_of;
+use answers::number_of;
 use promises::Answer;
 use promises::ListAnswer;
-use promises::Verdict;
 ghost use mathlib.Core.Path.{_≡_};
 ghost use mathlib.Core.List.{[], _∷_};
 ghost use Prim.Native.Nat.{_+_, _%_, _≤_};
 ghost use lib.ListN.{length};
-ghost use Rattle.promises.specs.Answers.{numberOf, detailOf};
 ghost use Rattle.framing.specs.Text.{refused, lineEnd, answerText};
 ghost use Rattle.framing.specs.Writing.{Put, Room, headText, tailText, answerSaid, listSaid};
-
-pub fn number_of(verdict: Verdict) -> u8
-    ensures { λ r. ⌜ r ≡ numberOf verdict ⌝ }
-{
-    match verdict {
-        Verdict::Accepted => 0,
-        Verdict::ShortMemory => 1,
-        Verdict::OutOfRange => 2,
-        Verdict::Unsound => 3,
-        Verdict::NumberTooLarge(_) => 4,
-        Verdict::NumberTwice(_) => 5,
-        Verdict::NumberAbsent => 6,
-        Verdict::BadArgument(_) => 7,
-        Verdict::FewRows(_) => 8,
-    }
-}
-
-fn detail_of(verdict: Verdict) -> usize
-    ensures { λ r. ⌜ r ≡ detailOf verdict ⌝ }
-{
-    match verdict {
-        Verdict::Accepted => 0,
-        Verdict::ShortMemory => 0,
-        Verdict::OutOfRange => 0,
-        Verdict::Unsound => 0,
-        Verdict::NumberTooLarge(place) => place,
-        Verdict::NumberTwice(place) => place,
-        Verdict::NumberAbsent => 0,
-        Verdict::BadArgument(place) => place,
-        Verdict::FewRows(need) => need,
-    }
-}
 
 // A number in two bytes.
 fn two_bytes(n: usize) -> u16

@@ -1,9 +1,9 @@
--- `said::number_of` meets its contract. Assumes nothing.
+-- `number_of` meets its contract. Assumes nothing.
 use borrow.Author.Needs.{needs}
 use mathlib.Core.Path.{sym, ap}
 use Rattle.promises.specs.Answers.{numberOf}
-use Rattle.framing.proofs.said.number_of.Statement.{statement}
-use Rattle.framing.proofs.said.number_of.Tie as tie
+use Rattle.answers.proofs.number_of.Statement.{statement}
+use Rattle.answers.proofs.number_of.Tie as tie
 
 enum-told : tie.Need-enum-told
 enum-told c = search needs

@@ -1,9 +1,9 @@
--- `said::detail_of` meets its contract. Assumes nothing.
+-- `detail_of` meets its contract. Assumes nothing.
 use borrow.Author.Needs.{needs}
 use mathlib.Core.Path.{sym, ap}
 use Rattle.promises.specs.Answers.{detailOf}
-use Rattle.framing.proofs.said.detail_of.Statement.{statement}
-use Rattle.framing.proofs.said.detail_of.Tie as tie
+use Rattle.answers.proofs.detail_of.Statement.{statement}
+use Rattle.answers.proofs.detail_of.Tie as tie
 
 enum-told : tie.Need-enum-told
 enum-told c = search needs
