@@ -59,7 +59,7 @@ pub extern "C" fn dolzhev_address(d: usize, costs: Costs) -> AddressOf
 }
 
 #[no_mangle]
-pub extern "C" fn dolzhev_costs(d: usize, address: u64) -> CostsOf
+pub extern "C" fn dolzhev_costs_of(d: usize, address: u64) -> CostsOf
     ensures { λ r. ⌜ CostsExported d address r ⌝ }
 {
     let r = zorder::costs(d, address);

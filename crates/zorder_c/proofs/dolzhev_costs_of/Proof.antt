@@ -1,8 +1,8 @@
--- `dolzhev_costs` meets its contract. Assumes nothing.
+-- `dolzhev_costs_of` meets its contract. Assumes nothing.
 use mathlib.Core.Path.{sym}
 use borrow.Author.Needs.{needs}
-use Rattle.zorder_c.proofs.dolzhev_costs.Statement.{statement}
-use Rattle.zorder_c.proofs.dolzhev_costs.Tie as tie
+use Rattle.zorder_c.proofs.dolzhev_costs_of.Statement.{statement}
+use Rattle.zorder_c.proofs.dolzhev_costs_of.Tie as tie
 
 costs-requires : tie.Need-costs-requires
 costs-requires c κs = search needs
@@ -15,5 +15,5 @@ returns c =
     let promise = c .before .before .costs .ensures in
     record { verdict = _; number = c .number-of .ensures; detail = sym (promise .detail); promise = promise }
 
-pub dolzhev-costs-spec : {M : Type 1} → statement M
-dolzhev-costs-spec = tie.close (tie.spec costs-requires number-of-requires returns)
+pub dolzhev-costs-of-spec : {M : Type 1} → statement M
+dolzhev-costs-of-spec = tie.close (tie.spec costs-requires number-of-requires returns)
