@@ -114,26 +114,26 @@ pub board-line : {c d n : ℕ} {m : List ℕ} → SoundAt c d n m → movesIn (l
 unfolding boardIn lineIn
 board-line {m = m} h = λ j. movesIn (lineFrom (h .size j) (h .dimension j) (h .count j) m)
 
-module _ (c d n : ℕ) (test : ℕ → Bool) (m : List ℕ) (r : Found) (f : Finds c n test m r) where
-  -- The moves found.
-  abbrev pub foundMoves : List Move
-  foundMoves = select (λ x. test (x .number)) (movesIn (lineFrom c d n m))
+-- The moves found.
+abbrev pub foundMoves : ℕ → ℕ → ℕ → (ℕ → Bool) → List ℕ → List Move
+foundMoves c d n test m = select (λ x. test (x .number)) (movesIn (lineFrom c d n m))
 
-  found-places : foundMoves ≡ map (moveIn c d m) (select (λ i. test (numberIn c m i)) (numbersFrom 0 n))
+module _ (c d n : ℕ) (test : ℕ → Bool) (m : List ℕ) (r : Found) (f : Finds c n test m r) where
+  found-places : foundMoves c d n test m ≡ map (moveIn c d m) (select (λ i. test (numberIn c m i)) (numbersFrom 0 n))
   unfolding moveIn
   found-places =
       ap (select (λ x. test (x .number))) (line-places c d n m)
       ∙ select-map (λ x. test (x .number)) (moveIn c d m) (numbersFrom 0 n)
 
-  pub found-count : r .count ≡ length (listedRows foundMoves)
+  pub found-count : r .count ≡ length (listedRows (foundMoves c d n test m))
   unfolding count listedRows
   found-count =
       f .counts
       ∙ sym (length-map (select (λ i. test (numberIn c m i)) (numbersFrom 0 n)) (moveIn c d m))
       ∙ ap length (sym found-places)
-      ∙ sym (length-map foundMoves (rowOf listed))
+      ∙ sym (length-map (foundMoves c d n test m) (rowOf listed))
 
-  pub found-rows : (t : Telling) → TellsNumbers c d n (r .numbers) t → map resultRow (toldRows t m) ≡ listedRows foundMoves
+  pub found-rows : (t : Telling) → TellsNumbers c d n (r .numbers) t → map resultRow (toldRows t m) ≡ listedRows (foundMoves c d n test m)
   unfolding chosen
   found-rows t s =
       let all : n - 0 ≡ n = omega arith in

@@ -99,6 +99,10 @@ module _ (q : Query) (m : List ℕ) (lent : ℕ) (t : Telling) where
             asked = λ _. a;
           }
 
+pub told-at : {q : Query} {m : List ℕ} {lent : ℕ} {v v' : Verdict} {k k' : ℕ} {t : Telling} → QueryTold q m lent v k t → v' ≡ v → k' ≡ k → QueryTold q m lent v' k' t
+told-at {q} {m} {lent} {v' = v'} {k = k} {t = t} p e f =
+    subst (λ (n : ℕ). QueryTold q m lent v' n t) (sym f) (subst (λ (w : Verdict). QueryTold q m lent w k t) (sym e) p)
+
 -- ---- the promise
 
 tells-at : (k count : ℕ) (new rows rows' : List Row) → count ≡ counted k (length new) → (k ≡ 0 → rows' ≡ new ++ drop count rows) → (count ≡ 0 → rows' ≡ rows) → rows' ≡ told k new rows
