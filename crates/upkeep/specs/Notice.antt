@@ -5,7 +5,7 @@ use mathlib.Core.Path.{_≡_}
 use mathlib.Core.List.{List, [], _∷_, _++_, map}
 use lib.Dec.{eqb}
 use lib.ListN.{length, drop}
-use Rattle.model.specs.Basics.{select, numbersFrom, consIf}
+use Rattle.model.specs.Basics.{select, numbersFrom}
 use Rattle.model.specs.Moves.{Move, left, entered}
 use Rattle.promises.specs.Layout.{numberIn, markIn, moveIn}
 use Rattle.memory.specs.Room.{Room, Numbers}
