@@ -47,11 +47,11 @@ pub fn plan_list(m: &[u8], lent: usize) -> ListPlan
     let n = count(m);
     let found = find_listed(m, c, n);
     let need = found.count;
+    let opened = nodes_opened(m, c, d, n);
     if lent < need {
         return refused(Verdict::FewRows(need));
     }
     let numbers = found.numbers;
-    let opened = nodes_opened(m, c, d, n);
     let telling = telling_of(c, d, n, numbers);
     ListPlan {
         verdict: Verdict::Accepted,

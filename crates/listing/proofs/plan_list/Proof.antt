@@ -37,16 +37,16 @@ find-listed-requires : tie.Need-find-listed-requires
 find-listed-requires c κs =
     sound-room (sound-at c)
 
+nodes-opened-requires : tie.Need-nodes-opened-requires
+nodes-opened-requires c κs = sound-at (c .before)
+
 refused-requires-2 : tie.Need-refused-requires-2
 refused-requires-2 c κs = search needs
 
 returns-2 : tie.Need-returns-2
 returns-2 c =
-    let found = c .before .before .find-listed in
-    list-few (sound-at (c .before .before .before)) (found .result) (found .ensures) (c .before .before .before .before .before .before .before .before .before .args .lent) (c .refused2 .result) (c .refused2 .ensures) (c .before .if2 .taken)
-
-nodes-opened-requires : tie.Need-nodes-opened-requires
-nodes-opened-requires c κs = sound-at (c .before .before .before)
+    let found = c .before .before .before .find-listed in
+    list-few (sound-at (c .before .before .before .before)) (found .result) (found .ensures) (c .before .before .before .before .before .before .before .before .before .before .args .lent) (c .refused2 .result) (c .refused2 .ensures) (c .before .if2 .taken)
 
 telling-of-requires : tie.Need-telling-of-requires
 telling-of-requires c κs = search needs
@@ -54,8 +54,8 @@ telling-of-requires c κs = search needs
 returns-3 : tie.Need-returns-3
 returns-3 c =
     let found = c .before .before .before .before .find-listed in
-    let opened = c .before .nodes-opened in
-    list-all (sound-at (c .before .before .before .before .before)) (found .result) (found .ensures) (c .before .before .before .before .before .before .before .before .before .before .before .args .lent) (c .telling-of .result) (c .telling-of .ensures) (opened .result) (opened .ensures) (c .before .before .before .if2 .left)
+    let opened = c .before .before .before .nodes-opened in
+    list-all (sound-at (c .before .before .before .before .before)) (found .result) (found .ensures) (c .before .before .before .before .before .before .before .before .before .before .before .args .lent) (c .telling-of .result) (c .telling-of .ensures) (opened .result) (opened .ensures) (c .before .before .if2 .left)
 
 pub plan-list-spec : {M : Type 1} → statement M
 plan-list-spec =
@@ -68,8 +68,8 @@ plan-list-spec =
     dimension-requires
     count-requires
     find-listed-requires
+    nodes-opened-requires
     refused-requires-2
     returns-2
-    nodes-opened-requires
     telling-of-requires
     returns-3)
