@@ -1,0 +1,2 @@
+-- A row as numbers.
+pub mod Rows
