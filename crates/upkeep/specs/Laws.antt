@@ -6,3 +6,4 @@ pub mod Marks
 pub mod Place
 pub mod Notified
 pub mod Told
+pub mod Telling

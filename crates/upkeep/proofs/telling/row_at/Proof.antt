@@ -1,0 +1,68 @@
+-- `telling::row_at` meets its contract. Assumes nothing.
+use Prim.Native.Nat.{_<_}
+use mathlib.Core.Path.{sym, ap, _∙_}
+use native.Mathlib.Omega.{arith}
+use borrow.Author.Needs.{needs}
+use borrow.Author.Tests.{lt-ltb, le-ltb}
+use Rattle.model.specs.Moves.{entered}
+use Rattle.upkeep.specs.Notice.{rowNumbers}
+use Rattle.upkeep.specs.Laws.Telling.{place-below, coming-row, place-row}
+use Rattle.upkeep.proofs.telling.row_at.Statement.{statement}
+use Rattle.upkeep.proofs.telling.row_at.Tie as tie
+
+add-if1 : tie.Need-add-if1
+add-if1 c = search needs
+
+row-of-requires : tie.Need-row-of-requires
+row-of-requires c κs = search needs
+
+returns : tie.Need-returns
+returns c =
+    let a = c .before .before .before .before .before .args in
+    c .row-of .ensures ∙ sym (coming-row (a .t) (a .m .now) (a .i) (c .before .before .if1 .taken))
+
+place-at-requires : tie.Need-place-at-requires
+place-at-requires c κs = search needs
+
+move-at-requires : tie.Need-move-at-requires
+move-at-requires c κs =
+    let a = c .before .before .before .before .args in
+    let pre = c .before .before .before .before .pre in
+    let on-board : c .place-at .result < a .t .count = omega (arith, place-below (a .t) (a .i) (pre .0 .place) (pre .1) (c .before .if1 .left), c .place-at .ensures) in
+    (pre .0 .room, omega (arith, pre .0 .places), pre .0 .numbers (c .place-at .result) on-board, pre .0 .dimension)
+
+row-of-requires-2 : tie.Need-row-of-requires-2
+row-of-requires-2 c κs = search needs
+
+returns-2 : tie.Need-returns-2
+returns-2 c =
+    let read = c .before .before .before .before in
+    let a = read .before .before .before .before .args in
+    c .row-of2 .ensures
+    ∙ ap (rowNumbers (a .t .mark)) (c .before .before .before .move-at .ensures)
+    ∙ sym (place-row (a .t) (a .m .now) (a .i) (read .before .if1 .left) (read .place-at .result) (sym (read .place-at .ensures)) (lt-ltb (a .i) (a .t .count) (c .before .if2 .taken)))
+
+row-of-requires-3 : tie.Need-row-of-requires-3
+row-of-requires-3 c κs = search needs
+
+returns-3 : tie.Need-returns-3
+returns-3 c =
+    let read = c .before .before .before .before in
+    let a = read .before .before .before .before .args in
+    c .row-of3 .ensures
+    ∙ ap (rowNumbers entered) (c .before .before .before .move-at .ensures)
+    ∙ sym (place-row (a .t) (a .m .now) (a .i) (read .before .if1 .left) (read .place-at .result) (sym (read .place-at .ensures)) (le-ltb (a .i) (a .t .count) (omega arith)))
+
+pub row-at-spec : {M : Type 1} → statement M
+row-at-spec =
+    tie.close
+    (tie.spec
+    add-if1
+    row-of-requires
+    returns
+    place-at-requires
+    move-at-requires
+    row-of-requires-2
+    returns-2
+    row-of-requires-3
+    returns-3)
