@@ -5,8 +5,8 @@ use upkeep::told_next;
 use zorder::COSTS;
 ghost use mathlib.Core.List.{map};
 ghost use mathlib.Core.Path.{_≡_};
-ghost use Prim.Native.Nat.{_≤_, _<_};
-ghost use lib.ListN.{length, set};
+ghost use Prim.Native.Nat.{_≤_};
+ghost use lib.ListN.{length};
 ghost use Rattle.upkeep.specs.Telling.{TellingAsked, filledRows};
 ghost use Rattle.rows.specs.Rows.{rowNumbers};
 
@@ -25,13 +25,6 @@ pub fn row_from(numbers: [u16; ROW]) -> Row
         number: numbers[1],
         costs: [numbers[2], numbers[3], numbers[4], numbers[5]],
     }
-}
-
-pub fn put(rows: &mut [Row], at: usize, row: Row)
-    requires { ⌜ at < length (now rows) ⌝ }
-    ensures { λ _. ⌜ now (rows .exit) ≡ set (now (rows .entry)) at row ⌝ }
-{
-    rows[at] = row;
 }
 
 // The rows that a telling tells, put at the start of the lent ones.

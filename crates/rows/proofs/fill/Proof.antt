@@ -23,18 +23,17 @@ use contract.Monad.{Fun}
 use contract.Running.{givenOf, tables, tablesOf}
 use types.Kit.{Given, Item, ‵, raw, _⊛_, ⋆, atRet, _$_, _∵_, !, qed, by, move, keep, drop, use0, use1, use2, split, join, rewrite, fsplit, fjoin, feqI, suffices, frame, done}
 use types.Part.{whole, sub, look-in}
-use types.Run.{look, init, store, store-raw, forget, stop, hop, fld, from, load, lit, unit-lit, of-opd, bin, and-then, no-more, assigns, assigns-last, first, blocks, loops, again, stays, leaves-loop, land, exec, returns, enter, alloc1, alloc0, params1, pass1, pass0}
+use types.Run.{look, init, store, forget, stop, hop, fld, from, load, lit, unit-lit, of-opd, bin, and-then, no-more, assigns, assigns-last, first, blocks, loops, again, stays, leaves-loop, land, exec, returns, enter, alloc1, alloc0, params1, pass1, pass0}
 use sound.WpLaws.{FmC, fmOf, WpFn-mono}
 use denote.RattleType.{owns}
-use denote.Shadow.{pureI}
-use denote.Laws.{Is, shows}
+use denote.Laws.{Is}
 use denote.Array.{array-makes}
 use denote.Plain.{uint-makes, uint-vals, uint-tells}
 use denote.Builtin.{u8, u16, usize, Array}
 use denote.Ref.{RefT}
-use denote.Slice.{sliceVal, slice-vals, mut-slice-tells, shr-slice-tells, shr-slice-copy, MutSlice, ShrSlice, Room, heres, codedHoleys, at-slice}
+use denote.Slice.{sliceVal, slice-vals, mut-slice-tells, shr-slice-tells, shr-slice-copy, MutSlice, ShrSlice, Room, heres, codedHoleys}
 use denote.Lend.{Held}
-use denote.Index.{row, place-is, elem-out, elem-put, opens-slice, closes-slice}
+use denote.Index.{row, place-is, opens-slice, closes-slice}
 use denote.Steps.{only, owned, nothing}
 use denote.Struct.Field.{u16-field}
 use denote.Struct.Laws as LL
@@ -60,6 +59,7 @@ use Rattle.upkeep.proofs.told_next.Met as told-next-thm
 use Rattle.rows.specs.declared.Row.{Row}
 use Rattle.rows.specs.Rows.{rowNumbers}
 use Rattle.rows.proofs.Walk.{typeOf, envOf, diesOf, either, free-all, returned}
+use Rattle.rows.proofs.Lent.{at-rows, tells, told as row-told, typed, rows-apart, rows-whole, put-row}
 use Rattle.rows.proofs.Row as T
 use Rattle.rows.proofs.Row.Laws as T′
 use Rattle.rows.proofs.row_from as row-from
@@ -123,15 +123,8 @@ module _ {M : Type 1} (𝓤 : URA M) (H : Heap 𝓤) (A : Atoms 𝓤) (W : Given
   abbrev m : List ℕ
   m = mem-at .now
 
-  -- the borrow at a list
-  abbrev x : List Row → RefT (List Row)
-  x l = record { ptr = (b, o); name = γ; now = l }
-
   abbrev s : Val
   s = sliceVal (b, o) (length ys)
-
-  abbrev mach : Row → Val
-  mach r = LL.val T.the-type T′.the-laws r
 
   abbrev told : Val
   told = LL.val Y.the-type Y′.the-laws t
@@ -140,7 +133,7 @@ module _ {M : Type 1} (𝓤 : URA M) (H : Heap 𝓤) (A : Atoms 𝓤) (W : Given
   Arg = RefT (List Row) × (RefT (List ℕ) × (Telling × (ℕ × Unit {0})))
 
   abbrev a : Arg
-  a = (x ys, (mem-at, (t, (count, tt))))
+  a = (at-rows b o γ ys, (mem-at, (t, (count, tt))))
 
   abbrev vals : List Val × (List Val × (List Val × (List Val × Unit {0})))
   vals = (s ∷ [], (slice-vals mem-at, (told ∷ [], (vint w64 count ∷ [], tt))))
@@ -158,7 +151,7 @@ module _ {M : Type 1} (𝓤 : URA M) (H : Heap 𝓤) (A : Atoms 𝓤) (W : Given
       suffices ! _ (ends-at 𝓤 H A f.ended stayed (f.clauses 𝓤 H A mem run) W (((κ, (λ′, tt)), (q, (p, tt)), tt, a, vals), tt) vunit tt (zs, (tt, (tt, (tt, tt)))) (long, (tt, (tt, (tt, tt))))) $ says ! e $
       nothing ! $ move ! (4 ∷ 0 ∷ []) $ join ! $ move ! (3 ∷ 0 ∷ []) $ join ! $ frame ! $
       -- [obs; the borrow; what m owns]
-      fjoin ! $ pureI ! (at-slice T.the-row (x zs) (s ∷ [])) (tt, (tt, tt)) (ap (λ (n : ℕ). sliceVal (b, o) n ∷ []) (sym long), subst (Room T.the-row) (sym long) room) $ fjoin ! $
+      rows-whole (named 0) κ b o γ ! ys zs long room $
       nothing ! $ owned ! usize (Is usize) (uint-makes 𝓤 H A W w64) count _ (refl, fits) $ fjoin ! $ owned ! Y.the-row (Is Y.the-row) (LL.makes Y.the-type Y′.the-plain 𝓤 H A) t _ is $ fjoin ! $ move ! (2 ∷ 0 ∷ []) $ fjoin ! $ move ! (1 ∷ 0 ∷ []) $ fjoin ! $
       feqI ! (List Val) (vunit ∷ []) (vunit ∷ []) refl $ move ! (1 ∷ 0 ∷ []) $ done !
 
@@ -210,7 +203,7 @@ module _ {M : Type 1} (𝓤 : URA M) (H : Heap 𝓤) (A : Atoms 𝓤) (W : Given
         -- [_11; …; _0; …; the tokens; what the parameters own]
         assigns ! (of-opd ! (lit ! tt)) (from ! (stop !)) (init ! 12 refl (tt, record { fits = lit< tt })) $
         assigns ! (of-opd ! (lit ! tt)) (from ! (stop !)) (init ! 10 refl (tt, record { fits = lit< tt })) $
-        move ! (25 ∷ []) $ fsplit ! $ fsplit ! $ fsplit ! $ drop ! $ drop ! $ fsplit ! $ move ! (2 ∷ []) $ fsplit ! $ move ! (28 ∷ []) $ split ! $ move ! (1 ∷ []) $ split ! $ move ! (5 ∷ 6 ∷ 2 ∷ []) $ opens-slice ! tt T.the-row ys b o $
+        move ! (25 ∷ []) $ fsplit ! $ rows-apart (named 0) κ b o γ ! ys (s ∷ []) $ move ! (2 ∷ []) $ fsplit ! $ move ! (28 ∷ []) $ split ! $ move ! (1 ∷ []) $ split ! $ move ! (5 ∷ 6 ∷ 2 ∷ []) $ opens-slice ! tt T.the-row ys b o $
         first ! $ blocks ! $ keep ! (0 ∷ 20 ∷ 18 ∷ 4 ∷ 6 ∷ 16 ∷ 14 ∷ 12 ∷ 10 ∷ 8 ∷ 28 ∷ 26 ∷ 24 ∷ 22 ∷ 30 ∷ 1 ∷ 2 ∷ 3 ∷ 31 ∷ 29 ∷ 27 ∷ 25 ∷ 23 ∷ 21 ∷ 19 ∷ 17 ∷ 15 ∷ 13 ∷ 11 ∷ 9 ∷ []) $
         loops ! 𝓣 ≺ wf (I l₀ l₁ l₂ l₃ l₄ l₅ l₆ l₇ l₈ l₉ l₁₀ l₁₁) (λ st. either (st .k) count
         (λ less y.
@@ -228,8 +221,7 @@ module _ {M : Type 1} (𝓤 : URA M) (H : Heap 𝓤) (A : Atoms 𝓤) (W : Given
         use0 W (raw (RowFrom 𝓤 H A mem run .pre (to-row r))) (goes-row r (subst (Is S.the-row r) (LL.tells S.the-type S′.the-laws r _ is) is)) $
         calls-at ! fm (RowFrom 𝓤 H A mem run) known-row (to-row r) (and-then ! (load ! (from ! (fld ! refl (stop !))) (look-in ! 6 (sub ! 0 refl (whole !)))) (no-more !)) (λ w′.
         returned row-from.ended (row-from.clauses 𝓤 H A mem run) ! tt (to-row r) w′ (λ r′. rowNumbers r′ ≡ r .row) (λ r′ e′. id⊢ 𝓤 _) (λ r′ e′ is′. drop ! $
-        land ! (from ! (stop !)) (init ! 7 refl (LL.lawful T.the-type T′.the-laws 𝓤 H A W .typed r′ _ is′ .0)) $ rewrite ! 7 (λ (u : Val). ‵ (fat fullShare T′.mir l₉ 0 u)) (ap only (LL.tells T.the-type T′.the-laws r′ _ is′)) refl $
-        let row-is : Is T.the-row r′ (LL.vals T.the-type T′.the-laws r′) = subst (Is T.the-row r′) (LL.tells T.the-type T′.the-laws r′ _ is′) is′ in
+        land ! (from ! (stop !)) (init ! 7 refl (typed 𝓤 H A W r′ w′ is′)) $ rewrite ! 7 (λ (u : Val). ‵ (fat fullShare T′.mir l₉ 0 u)) (ap only (tells r′ w′ is′)) refl $
         let within : st .k < length (st .zs) = omega (arith, less, enough, st .long) in
         let small : st .k * 12 < 2 ^ 64 = omega (arith, less, enough, room .1) in
         let next-small : st .k + 1 < 2 ^ 64 = omega (arith, less, c-fits) in
@@ -238,15 +230,13 @@ module _ {M : Type 1} (𝓤 : URA M) (H : Heap 𝓤) (A : Atoms 𝓤) (W : Given
         assigns ! (bin ! (load ! (from ! (stop !)) (look ! 4 refl)) (lit ! tt) (record { fits = small })) (from ! (stop !)) (init ! 8 refl (tt, record { fits = small })) $
         assigns ! (bin ! (load ! (from ! (fld ! refl (stop !))) (look-in ! 10 (sub ! 0 refl (whole !)))) (load ! (from ! (stop !)) (look ! 8 refl)) tt) (from ! (stop !)) (init ! 9 refl (tt, tt)) $
         rewrite ! 9 (λ (j : ℕ). ‵ (fat fullShare tyPtr l₁₁ 0 (vptr b j))) (sym (place-is 12 o (st .k))) refl $
-        move ! (2 ∷ []) $ elem-out ! T.the-row (Is T.the-row) (shows 𝓤 H A T.the-row) (LL.vals T.the-type T′.the-laws) (LL.tells T.the-type T′.the-laws) fullShare (st .zs) (st .k) r′ b o within (λ _.
-        assigns ! (of-opd ! (load ! (from ! (stop !)) (look ! 9 refl))) (from ! (hop ! (look ! 11 refl) (stop !))) (store-raw ! 0 refl (LL.lawful T.the-type T′.the-laws 𝓤 H A W .typed r′ _ row-is .0)) $
-        move ! (1 ∷ []) $ drop ! $ owned ! T.the-row (Is T.the-row) (LL.makes T.the-type T′.the-plain 𝓤 H A) r′ _ row-is $ move ! (1 ∷ 0 ∷ []) $ elem-put ! T.the-row fullShare (st .zs) (st .k) r′ (mach r′ ∷ []) b o within $
+        move ! (2 ∷ []) $ put-row ! (st .zs) (st .k) r′ b o within (row-told r′ w′ is′) (load ! (from ! (stop !)) (look ! 9 refl)) (from ! (hop ! (look ! 11 refl) (stop !))) $
         -- [the rows; the token; what m owns; _5; _6; _7; …]
         assigns ! (of-opd ! (load ! (from ! (fld ! refl (stop !))) (look-in ! 5 (sub ! 1 refl (whole !))))) (from ! (stop !)) (store ! 3 refl (tt, record { fits = next-fits })) $
         assigns-last ! (bin ! (load ! (from ! (stop !)) (look ! 4 refl)) (lit ! tt) (record { fits = next-small })) (from ! (stop !)) (store ! 4 refl (tt, record { fits = next-small })) $
         forget ! 5 refl $ forget ! 6 refl $ forget ! 7 refl $ forget ! 8 refl $ forget ! 9 refl $
         rewrite ! 3 (λ (j : ℕ). ‵ (fat fullShare (tyInt w64) l₅ 0 (vint w64 j))) (e .1) refl $ rewrite ! 4 (λ (j : ℕ). ‵ (fat fullShare (tyInt w64) l₆ 0 (vint w64 j))) (one-more (st .k)) refl $
-        move ! (0 ∷ 3 ∷ 4 ∷ []) $ again ! ≺ (I l₀ l₁ l₂ l₃ l₄ l₅ l₆ l₇ l₈ l₉ l₁₀ l₁₁) st (turned t m count ys st r′ (r .next) less (e′ ∙ e .0) (e .1) next-fits) (omega (arith, less))))))))
+        move ! (0 ∷ 3 ∷ 4 ∷ []) $ again ! ≺ (I l₀ l₁ l₂ l₃ l₄ l₅ l₆ l₇ l₈ l₉ l₁₀ l₁₁) st (turned t m count ys st r′ (r .next) less (e′ ∙ e .0) (e .1) next-fits) (omega (arith, less)))))))
         (λ most y.
         let all : st .k ≡ count = omega (arith, most, st .most) in
         assigns ! (bin ! (load ! (from ! (stop !)) (look ! 2 refl)) (load ! (from ! (stop !)) (look ! 13 refl)) tt) (from ! (stop !)) (init ! 6 refl (tt, tt)) $
