@@ -58,6 +58,7 @@ use Rattle.upkeep.proofs.told_next.Symbol.{name as #upkeep·told-next}
 use Rattle.upkeep.proofs.told_next.Met as told-next-thm
 use Rattle.rows.specs.declared.Row.{Row}
 use Rattle.rows.specs.Rows.{rowNumbers}
+use Rattle.rows.specs.Laws.{map-set}
 use Rattle.rows.proofs.Walk.{typeOf, envOf, diesOf, either, free-all, returned}
 use Rattle.rows.proofs.Lent.{at-rows, tells, told as row-told, typed, rows-apart, rows-whole, put-row}
 use Rattle.rows.proofs.Row as T
@@ -94,11 +95,6 @@ record State (t : Telling) (m : List ℕ) (count : ℕ) (ys : List Row) : Type 0
 
 one-more : (n : ℕ) → n + 1 ≡ suc n
 one-more n = omega arith
-
-map-set : {X Y : Type 0} (g : X → Y) (xs : List X) (i : ℕ) (x : X) → map g (set xs i x) ≡ set (map g xs) i (g x)
-map-set g [] i x = refl
-map-set g (y ∷ xs) zero x = refl
-map-set {Y = Y} g (y ∷ xs) (suc i) x = ap (λ (zs : List Y). g y ∷ zs) (map-set g xs i x)
 
 module _ (t : Telling) (m : List ℕ) (count : ℕ) (ys : List Row) where
   abbrev left : State t m count ys → ℕ
