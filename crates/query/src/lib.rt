@@ -8,3 +8,4 @@ pub use calls::band;
 pub use calls::chosen;
 pub use calls::on_k;
 pub use calls::rank;
+pub use ranked::dominated;
