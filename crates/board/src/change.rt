@@ -2,9 +2,9 @@
 use crate::make::carry_out;
 use crate::plan::Plan;
 use crate::plan::answer_of;
-use crate::plan::plan_enter;
-use crate::plan::plan_recost;
-use crate::plan::plan_withdraw;
+use crate::planned::plan_enter;
+use crate::planned::plan_recost;
+use crate::planned::plan_withdraw;
 use promises::Answer;
 use upkeep::ROW;
 use upkeep::told_next;

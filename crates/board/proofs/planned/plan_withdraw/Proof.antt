@@ -1,4 +1,4 @@
--- `plan::plan_withdraw` meets its contract. Assumes nothing.
+-- `planned::plan_withdraw` meets its contract. Assumes nothing.
 use native.Mathlib.Omega.{arith}
 use borrow.Author.Needs.{needs}
 use borrow.Author.Tests.{not-true}
@@ -9,8 +9,8 @@ use Rattle.listing.specs.Laws.Promise.{decided, decided-at, sound-head, sound-r
 use Rattle.board.specs.Laws.Calls.{judged-passes}
 use Rattle.board.specs.Laws.Accepted.{withdraw-ready, withdraw-call}
 use Rattle.board.specs.Laws.Plan.{plan-unsound}
-use Rattle.board.proofs.plan.plan_withdraw.Statement.{statement}
-use Rattle.board.proofs.plan.plan_withdraw.Tie as tie
+use Rattle.board.proofs.planned.plan_withdraw.Statement.{statement}
+use Rattle.board.proofs.planned.plan_withdraw.Tie as tie
 
 is-sound-requires : tie.Need-is-sound-requires
 is-sound-requires c κs = search needs

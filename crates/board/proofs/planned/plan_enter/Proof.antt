@@ -1,4 +1,4 @@
--- `plan::plan_enter` meets its contract. Assumes nothing.
+-- `planned::plan_enter` meets its contract. Assumes nothing.
 use mathlib.Core.Path.{refl}
 use native.Mathlib.Omega.{arith}
 use borrow.Author.Needs.{needs}
@@ -10,8 +10,8 @@ use Rattle.listing.specs.Laws.Promise.{decided, decided-at, sound-head}
 use Rattle.board.specs.Laws.Calls.{judged-passes, call-enter}
 use Rattle.board.specs.Laws.Accepted.{enter-ready}
 use Rattle.board.specs.Laws.Plan.{plan-unsound}
-use Rattle.board.proofs.plan.plan_enter.Statement.{statement}
-use Rattle.board.proofs.plan.plan_enter.Tie as tie
+use Rattle.board.proofs.planned.plan_enter.Statement.{statement}
+use Rattle.board.proofs.planned.plan_enter.Tie as tie
 
 is-sound-requires : tie.Need-is-sound-requires
 is-sound-requires c κs = search needs
