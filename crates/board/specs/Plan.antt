@@ -1,4 +1,4 @@
--- What a plan of a change says, what carrying it out asks and leaves.
+-- What a plan of a change says, and what telling it and carrying it out ask and leave.
 use Prim.Native.Nat.{ℕ, _<_, _≤_}
 use mathlib.Core.Bool.{Bool, true, false, cond, _&&_}
 use mathlib.Core.Path.{_≡_}
@@ -53,6 +53,7 @@ changeIn p = record { goes = p .goes; comes = p .comes; coming = p .telling .com
 abbrev pub callIn : Plan → List ℕ → calls.Change
 callIn p m = callOf (p .telling .size) (p .telling .count) (changeIn p) m
 
+-- The telling has what the change does to the list; one that comes for one that goes has other costs.
 pub record Prepared (t : Telling) (k : Change) (m : List ℕ) : Type 0 where
   pub ready : Ready (t .size) (t .dimension) (t .count) k m
   pub other : Other (t .size) (t .dimension) (t .count) k m
@@ -67,8 +68,8 @@ pub record CarriedOut (p : Plan) (m m' : List ℕ) : Type 0 where
 
 -- ---- the plan of a call
 
--- The answer of a call with so many lent rows; its telling has the rows counted, which are the notice where it is accepted.
--- Only an accepted change is made; where none is, the memory is as the change would leave it.
+-- The answer of the call with so many lent rows. Its telling has as many rows as are counted; of an accepted call they are
+-- the notice. Only an accepted call makes a change, its own; one that makes none leaves the memory as it should.
 pub record Planned (x : calls.Change) (m : List ℕ) (lent : ℕ) (p : Plan) : Type 0 where
   pub answers : Sound m → answerOf (p .verdict) ≡ changeAnswer (boardIn m) x lent
   pub unsound : (Sound m → ⊥) → p .verdict ≡ Unsound
@@ -82,6 +83,7 @@ pub record Planned (x : calls.Change) (m : List ℕ) (lent : ℕ) (p : Plan) : T
   pub idle : p .makes ≡ false → numberOf (p .verdict) ≡ 0 → Made x m m
   pub able : Able p m
 
+-- Nothing told, nothing made.
 pub record Nothing (v : Verdict) (p : Plan) : Type 0 where
   pub verdict : p .verdict ≡ v
   pub count : p .count ≡ 0

@@ -26,7 +26,7 @@ use Rattle.upkeep.specs.declared.change.Change.{Change}
 use Rattle.upkeep.specs.declared.change.Upkeep.{Upkeep}
 use Rattle.board.specs.Change.{Judges, Other, ComingPlace, neededRows, Made}
 use Rattle.board.specs.Plan.{callOf, alike, Ready, Planned, Nothing, PlanAsked, PlanOf}
-use Rattle.board.specs.Laws.Notify.{sound-rows, told-rows, rows-needed, notice-needs}
+use Rattle.board.specs.Laws.Notice.{sound-rows, told-rows, rows-needed, notice-needs}
 use Rattle.board.specs.Laws.Calls.{judged-passes, refused-answer, few-answer, accepted-answer, call-recost, call-notice}
 use Rattle.board.specs.Laws.Accepted.{recost-on}
 use Rattle.board.specs.Laws.Unchanged.{no-notice, same-made}

@@ -3,7 +3,7 @@ use mathlib.Core.Path.{sym, _∙_}
 use native.Mathlib.Omega.{arith}
 use borrow.Author.Needs.{needs}
 use Rattle.promises.specs.Run.{Bytes}
-use Rattle.board.specs.Laws.Notify.{sound-rows, notify-counted}
+use Rattle.board.specs.Laws.Notice.{sound-rows, upkeep-counted}
 use Rattle.board.specs.Laws.Plan.{plan-refused, plan-idle, plan-few, plan-full}
 use Rattle.board.proofs.Keys.{key-refuses, key-number}
 use Rattle.board.proofs.plan.plan_of.Statement.{statement}
@@ -48,7 +48,7 @@ needed-requires : tie.Need-needed-requires
 needed-requires c κs =
     let found = c .before .before .before .before in
     let start = found .before .before in
-    notify-counted (start .pre .ready (key-number (start .args .verdict) (found .match .keys1)) .asked) (c .upkeep-of .ensures)
+    upkeep-counted (start .pre .ready (key-number (start .args .verdict) (found .match .keys1)) .asked) (c .upkeep-of .ensures)
 
 nothing-requires-3 : tie.Need-nothing-requires-3
 nothing-requires-3 c κs = search needs

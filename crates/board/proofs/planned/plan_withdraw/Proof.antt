@@ -5,7 +5,8 @@ use borrow.Author.Tests.{not-true}
 use lib.ListN.{replicate}
 use Rattle.promises.specs.Run.{Bytes}
 use Rattle.dominance.specs.declared.Move.{Move}
-use Rattle.listing.specs.Laws.Promise.{decided, decided-at, sound-head, sound-room}
+use Rattle.listing.specs.Laws.Promise.{decided, decided-at, sound-head}
+use Rattle.board.specs.Laws.Notice.{sound-rows}
 use Rattle.board.specs.Laws.Calls.{judged-passes}
 use Rattle.board.specs.Laws.Accepted.{withdraw-ready, withdraw-call}
 use Rattle.board.specs.Laws.Plan.{plan-unsound}
@@ -50,7 +51,7 @@ place-of-requires c κs =
     let counted = c .before in
     let passed = counted .before .before .before in
     let s = decided-at (passed .before .is-sound .ensures) (passed .if1 .left) (counted .before .before .size .ensures .0) (counted .before .dimension .ensures .0) (counted .count .ensures .0) in
-    let rows = sound-room s in
+    let rows = sound-rows s in
     record { room = rows .0; rows = rows .1 }
 
 plan-of-requires : tie.Need-plan-of-requires

@@ -42,8 +42,8 @@ module _ {c d n : ℕ} {k : Change} {m : List ℕ} (a : Asked c d n k m) where
   few-counted : (p : ℕ → Bool) (i : ℕ) → i ≡ count p (numbersFrom 0 n) → i ≤ 4096
   few-counted p i e = omega (arith, e, count-le p n, held-few c d n m (a .sound), held-room c d n m (a .sound) .1)
 
-  pub notify-counted : {u : Upkeep} → Upkept c d n k m u → Counted u
-  notify-counted {u} v = record { left = few-counted _ (u .left) (v .left); entered = few-counted _ (u .entered) (v .entered) }
+  pub upkeep-counted : {u : Upkeep} → Upkept c d n k m u → Counted u
+  upkeep-counted {u} v = record { left = few-counted _ (u .left) (v .left); entered = few-counted _ (u .entered) (v .entered) }
 
   some-place : ComingPlace c d n k m (placeFor d (asMove (k .coming)) (lineFrom c d n m))
   some-place =
