@@ -10,7 +10,8 @@ use Rattle.model.specs.Loading.{loadTree}
 use Rattle.model.specs.Entering.{enterTree}
 use Rattle.model.specs.Withdrawing.{enterAll, withdrawTree, recostTree}
 use Rattle.model.specs.Nodes.{nodesOpened}
-use Rattle.model.specs.Calls.{Board, withdraw, recost}
+use Rattle.model.specs.Lists.{rank}
+use Rattle.model.specs.Calls.{Board, withdraw, recost, chosenQuery, queryRows}
 use Rattle.model.specs.Computing.{computing}
 use Rattle.model.specs.Cases.{move, marks, notices}
 
@@ -114,3 +115,19 @@ chain-notices : map (λ c. notices chain (c ∷ [])) (withdraw 0 ∷ recost 0 (1
     ≡ ((1 ∷ 0 ∷ 2 ∷ 1 ∷ []) ∷ []) ∷ ([] ∷ []) ∷ ((1 ∷ 0 ∷ 2 ∷ 1 ∷ []) ∷ []) ∷ []
 unfolding showing chain
 chain-notices = refl
+
+-- ---- the other lists
+
+-- Move 1 is dominated, and yet no move is less than it on the first cost: chosen costs are held against all moves, and told of
+-- all moves.
+tied : Board
+tied = record { size = 16; dimension = 2; moves = inZOrder 2 (move 0 1 1 ∷ move 1 1 2 ∷ []) }
+
+chosen-of-all : marks (queryRows tied (chosenQuery 1)) ≡ 0 ∷ 0 ∷ 0 ∷ 1 ∷ []
+unfolding showing tied
+chosen-of-all = refl
+
+-- Neither dominates a move; (0,3) stands before (3,0) in Z-order, whatever their numbers.
+rank-tie : marks (rank 2 2 (inZOrder 2 (move 0 3 0 ∷ move 1 0 3 ∷ []))) ≡ 0 ∷ 1 ∷ 0 ∷ 0 ∷ []
+unfolding showing
+rank-tie = refl

@@ -1,6 +1,6 @@
 -- Entries picked by places.
 use Prim.Native.Nat.{ℕ, zero, suc, _+_, _≤_, _<_}
-use mathlib.Core.Bool.{Bool, true, false}
+use mathlib.Core.Bool.{Bool, true, false, cond}
 use mathlib.Core.List.{List, [], _∷_, _++_, map, map-append, append-nil}
 use mathlib.Core.Logic.{⊎-elim}
 use mathlib.Core.Path.{_≡_, refl, sym, ap, ap₂, _∙_}
@@ -8,9 +8,10 @@ use native.Mathlib.Nat.{eq-or-lt-of-le, le-of-suc-le-suc}
 use native.Mathlib.Numerals.{add-one}
 use native.Mathlib.Omega.{arith}
 use lib.ListN.{length, length-append}
-use Rattle.model.specs.Basics.{consIf, select, count}
+use Rattle.model.specs.Basics.{consIf, select, count, numbersFrom}
 use Rattle.model.specs.Laws.Basics.{select-append}
 use Rattle.promises.specs.Layout.{tab}
+use Rattle.upkeep.specs.Laws.Places.{count-more}
 use Rattle.query.specs.Kept.{pick}
 
 module _ {A : Type 0} (p : ℕ → Bool) (f : ℕ → A) where
@@ -79,14 +80,15 @@ module _ {A : Type 0} (q : A → Bool) (f : ℕ → A) where
   unfolding count
   count-tab n = ap length (select-tab n)
 
-pub length-pick : {A B : Type 0} (p : ℕ → Bool) (f : ℕ → A) (g : ℕ → B) (n : ℕ) → length (pick p f n) ≡ length (pick p g n)
-unfolding pick
-length-pick p f g zero = refl
-length-pick p f g (suc n) =
+pub pick-count : {A : Type 0} (p : ℕ → Bool) (f : ℕ → A) (n : ℕ) → length (pick p f n) ≡ count p (numbersFrom 0 n)
+unfolding pick count select numbersFrom
+pick-count p f zero = refl
+pick-count p f (suc n) =
     length-append (pick p f n) (consIf (p n) (f n) [])
-    ∙ ap₂ (λ (k j : ℕ). k + j) (length-pick p f g n) (one (p n))
-    ∙ sym (length-append (pick p g n) (consIf (p n) (g n) []))
+    ∙ ap₂ (λ (k j : ℕ). k + j) (pick-count p f n) (one (p n))
+    ∙ sym (count-more p n)
+    ∙ ap (λ (k : ℕ). count p (numbersFrom 0 k)) (add-one n)
   where
-    one : (b : Bool) → length (consIf b (f n) []) ≡ length (consIf b (g n) [])
+    one : (b : Bool) → length (consIf b (f n) []) ≡ cond b 1 0
     one true = refl
     one false = refl
