@@ -1,10 +1,10 @@
--- What a plan of a change says, and what telling it and carrying it out ask and leave.
+-- What a plan of a change says, and what carrying it out asks and leaves.
 use Prim.Native.Nat.{ℕ, _<_, _≤_}
 use mathlib.Core.Bool.{Bool, true, false, cond, _&&_}
 use mathlib.Core.Path.{_≡_}
-use mathlib.Core.List.{List, [], _++_, map}
+use mathlib.Core.List.{List, map}
 use lib.Dec.{ltb}
-use lib.ListN.{length, drop}
+use lib.ListN.{length}
 use Rattle.model.specs.Basics.{equal}
 use Rattle.model.specs.Calls as calls
 use Rattle.model.specs.Calls.{changeAnswer, changeNotice}
@@ -17,6 +17,7 @@ use Rattle.promises.specs.declared.Verdict.the-variants.{Unsound}
 use Rattle.memory.specs.Held.{SoundAt}
 use Rattle.upkeep.specs.Change.{Asked, Upkept}
 use Rattle.upkeep.specs.Telling.{TellingAsked, toldRows}
+use Rattle.upkeep.specs.Planned.{TellsNothing}
 use Rattle.upkeep.specs.declared.change.Change.{Change}
 use Rattle.upkeep.specs.declared.telling.Telling.{Telling}
 use Rattle.board.specs.Change.{Judges, Other, Made}
@@ -88,7 +89,7 @@ pub record Nothing (v : Verdict) (p : Plan) : Type 0 where
   pub verdict : p .verdict ≡ v
   pub count : p .count ≡ 0
   pub makes : p .makes ≡ false
-  pub rows : (m : List ℕ) → toldRows (p .telling) m ≡ []
+  pub telling : TellsNothing (p .telling)
 
 pub record PlanAsked (c d n : ℕ) (v : Verdict) (k : Change) (m : List ℕ) : Type 0 where
   pub sound : SoundAt c d n m
@@ -100,13 +101,3 @@ pub record PlanOf (c n : ℕ) (v : Verdict) (k : Change) (m : List ℕ) (lent : 
 
 abbrev pub answerIn : Plan → Answer
 answerIn p = record { verdict = p .verdict; count = p .count }
-
--- ---- telling a plan
-
-pub record TellAsked (p : Plan) (m : List ℕ) (rows : List (List ℕ)) : Type 0 where
-  pub asked : 0 < p .count → TellingAsked (p .telling) m
-  pub count : length (toldRows (p .telling) m) ≡ p .count
-  pub enough : p .count ≤ length rows
-
-pub record Tells (p : Plan) (m : List ℕ) (rows rows' : List (List ℕ)) : Type 0 where
-  pub tells : rows' ≡ toldRows (p .telling) m ++ drop (p .count) rows

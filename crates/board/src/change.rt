@@ -7,28 +7,22 @@ use crate::planned::plan_recost;
 use crate::planned::plan_withdraw;
 use promises::Answer;
 use upkeep::ROW;
-use upkeep::told_next;
+use upkeep::tell_planned;
 use zorder::COSTS;
-ghost use mathlib.Core.List.{map};
+ghost use mathlib.Core.List.{_++_, map};
+ghost use mathlib.Core.Path.{_≡_};
+ghost use lib.ListN.{drop};
 ghost use Rattle.model.specs.Calls as calls;
 ghost use Rattle.promises.specs.Answers.{resultRow};
 ghost use Rattle.promises.specs.Promise.{ChangePromise};
-ghost use Rattle.board.specs.Plan.{TellAsked, Tells};
+ghost use Rattle.upkeep.specs.Telling.{toldRows, PlannedAsked};
 
 fn tell_plan(m: &[u8], p: Plan, rows: &mut [[u16; ROW]])
-    requires { ⌜ TellAsked p (now m) (now rows) ⌝ }
-    ensures { λ _. ⌜ Tells p (now (m .entry)) (now (rows .entry)) (now (rows .exit)) ⌝ }
+    requires { ⌜ PlannedAsked (p .telling) (p .count) (now m) (now rows) ⌝ }
+    ensures { λ _. ⌜ now (rows .exit) ≡ toldRows (p .telling) (now (m .entry)) ++ drop (p .count) (now (rows .entry)) ⌝ }
 {
-    let t = p.telling;
-    let mut at = 0;
-    let mut k = 0;
-    while k < p.count {
-        let s = told_next(m, t, at);
-        let row = s.row;
-        rows[k] = row;
-        at = s.next;
-        k += 1;
-    }
+    let telling = p.telling;
+    tell_planned(m, telling, p.count, rows);
 }
 
 pub fn enter(m: &mut [u8], number: u16, costs: [u16; COSTS], rows: &mut [[u16; ROW]]) -> Answer

@@ -2,15 +2,12 @@
 use crate::told::alike;
 use crate::told::coming_place;
 use crate::told::needed;
-use dominance::Move;
-use numbers::empty;
 use promises::Answer;
 use promises::Verdict;
 use upkeep::Change;
 use upkeep::Telling;
-use upkeep::Upkeep;
+use upkeep::telling_none;
 use upkeep::upkeep_of;
-use zorder::COSTS;
 ghost use mathlib.Core.Path.{_≡_};
 ghost use Rattle.board.specs.Plan as spec;
 
@@ -39,31 +36,13 @@ pub fn answer_of(p: Plan) -> Answer
 pub fn nothing(verdict: Verdict) -> Plan
     ensures { λ r. ⌜ spec.Nothing verdict r ⌝ }
 {
-    let none = empty();
     Plan {
         verdict,
         count: 0,
         makes: false,
         goes: 0,
         comes: false,
-        telling: Telling {
-            size: 0,
-            dimension: 0,
-            count: 0,
-            place: 0,
-            mark: 1,
-            coming: Move {
-                number: 0,
-                costs: [0u16; COSTS],
-            },
-            upkeep: Upkeep {
-                leaving: none,
-                entering: none,
-                left: 0,
-                entered: 0,
-                listed: false,
-            },
-        },
+        telling: telling_none(),
     }
 }
 

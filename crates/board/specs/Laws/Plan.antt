@@ -52,8 +52,8 @@ module _ {x : calls.Change} {m : List ℕ} {lent : ℕ} {v : Verdict} {p : Plan}
         unsound = λ bad. v-is ∙ unsound bad;
         counts = e .count ∙ counts ∙ ap (λ (v : Verdict). counted (numberOf v) (length (changeNotice (boardIn m) x))) (sym v-is);
         enough = omega (arith, e .count);
-        rows = ap length (e .rows m) ∙ sym (e .count);
-        notice = λ a. ap (map resultRow) (e .rows m) ∙ notice (sym (ap numberOf v-is) ∙ a);
+        rows = ap length (e .telling .rows m) ∙ sym (e .count);
+        notice = λ a. ap (map resultRow) (e .telling .rows m) ∙ notice (sym (ap numberOf v-is) ∙ a);
         asked = λ l. absurd (omega (arith, e .count));
         accepted = λ f. both-ways f (e .makes);
         makes = λ f. both-ways f (e .makes);

@@ -1,7 +1,7 @@
 -- A plan that is told and carried out keeps the promise of its call.
 use Prim.Native.Nat.{ℕ, zero, suc}
 use mathlib.Core.Bool.{Bool, true, false}
-use mathlib.Core.List.{List, [], _++_, map, map-append}
+use mathlib.Core.List.{List, [], _++_, map}
 use mathlib.Core.Path.{_≡_, refl, sym, ap, ap₂, _∙_, subst}
 use native.Mathlib.Omega.{arith}
 use lib.ListN.{length, drop, length-map}
@@ -16,10 +16,10 @@ use Rattle.promises.specs.Answers.{answerOf, numberOf, detailOf, counted, told,
 use Rattle.promises.specs.Promise.{Left, ChangePromise}
 use Rattle.promises.specs.declared.Answer.{Answer}
 use Rattle.upkeep.specs.Telling.{toldRows}
-use Rattle.listing.specs.Laws.Promise.{map-drop}
+use Rattle.upkeep.specs.Laws.Telling.{length-none}
+use Rattle.upkeep.specs.Laws.Planned.{put-results}
 use Rattle.board.specs.Change.{Made}
-use Rattle.board.specs.Plan.{CarriedOut, Planned, Tells, answerIn}
-use Rattle.board.specs.Laws.Told.{no-rows}
+use Rattle.board.specs.Plan.{CarriedOut, Planned, answerIn}
 use Rattle.board.specs.declared.plan.Plan.{Plan}
 
 module _ {x : calls.Change} {m m' : List ℕ} {lent : ℕ} {p : Plan} (plan : Planned x m lent p) (out : CarriedOut p m m') where
@@ -44,7 +44,7 @@ module _ {x : calls.Change} {m m' : List ℕ} {lent : ℕ} {p : Plan} (plan : Pl
         let zero-count : p .count ≡ 0 = plan .counts ∙ ap (λ (i : ℕ). counted i (length (changeNotice (boardIn m) x))) e in
         tells
         ∙ ap₂ (λ (new : List (List ℕ)) (i : ℕ). map resultRow new ++ drop i rows)
-        (no-rows (toldRows (p .telling) m) (plan .rows ∙ zero-count)) zero-count
+        (length-none (toldRows (p .telling) m) (plan .rows ∙ zero-count)) zero-count
 
     plan-tells : (k : ℕ) → numberOf (p .verdict) ≡ k → rows' ≡ told k (changeNotice (boardIn m) x) rows
     unfolding told counted
@@ -81,16 +81,15 @@ pub plan-kept :
     {m m' : List ℕ}
     {p : Plan}
     {r : Answer}
-    {rows rows' : List (List ℕ)}
+    (rows : List (List ℕ))
+    {rows' : List (List ℕ)}
     → Planned x m (length rows) p
-    → Tells p m rows rows'
+    → rows' ≡ toldRows (p .telling) m ++ drop (p .count) rows
     → CarriedOut p m m'
     → r ≡ answerIn p
     → ChangePromise x m (map resultRow rows) r m' (map resultRow rows')
-plan-kept {x} {m} {m'} {p} {r} {rows} {rows'} plan tells out e =
+plan-kept {x} {m} {m'} {p} {r} rows {rows'} plan tells out e =
     subst (λ (r : Answer). ChangePromise x m (map resultRow rows) r m' (map resultRow rows')) (sym e)
     (plan-promise plan out (map resultRow rows) (map resultRow rows')
-    (ap (map resultRow) (tells .tells)
-    ∙ map-append resultRow (toldRows (p .telling) m) (drop (p .count) rows)
-    ∙ ap (λ (old : List Row). map resultRow (toldRows (p .telling) m) ++ old) (map-drop resultRow (p .count) rows))
+    (ap (map resultRow) tells ∙ put-results (toldRows (p .telling) m) rows (p .count))
     (sym (length-map rows resultRow)))

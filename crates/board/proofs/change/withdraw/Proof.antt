@@ -27,7 +27,7 @@ returns c =
     let carried = c .before .before .before in
     let told = carried .before .before .before in
     let planned = told .before .before .before in
-    plan-kept (planned .plan-withdraw .ensures) (told .tell-plan .ensures) (carried .carry-out .ensures) (c .answer-of .ensures)
+    plan-kept (planned .before .before .before .args .rows .now) (planned .plan-withdraw .ensures) (told .tell-plan .ensures) (carried .carry-out .ensures) (c .answer-of .ensures)
 
 pub withdraw-spec : {M : Type 1} → statement M
 withdraw-spec =
