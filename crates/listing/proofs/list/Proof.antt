@@ -1,7 +1,7 @@
 -- `list` meets its contract. Assumes nothing.
 use borrow.Author.Needs.{needs}
 use mathlib.Core.Path.{refl}
-use Rattle.listing.specs.Laws.Plan.{list-numbers}
+use Rattle.listing.specs.Laws.Promise.{list-numbers}
 use Rattle.listing.proofs.list.Statement.{statement}
 use Rattle.listing.proofs.list.Tie as tie
 

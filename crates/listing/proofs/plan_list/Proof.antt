@@ -1,9 +1,9 @@
 -- `plan_list` meets its contract. Assumes nothing.
 use borrow.Author.Needs.{needs}
 use borrow.Author.Tests.{not-true}
+use native.Mathlib.Omega.{arith}
 use Rattle.memory.specs.Held.{SoundAt}
-use Rattle.memory.specs.Laws.Held.{held-room, held-few, held-numbers}
-use Rattle.listing.specs.Laws.Plan.{decided-at, decided-long, list-unsound, list-few, list-all}
+use Rattle.listing.specs.Laws.Promise.{decided, decided-at, sound-head, sound-room, list-unsound, list-few, list-all}
 use Rattle.listing.proofs.plan_list.Statement.{statement}
 use Rattle.listing.proofs.plan_list.Tie as tie
 
@@ -25,18 +25,17 @@ returns c =
     list-unsound (a .m .now) (a .lent) (c .refused .result) (c .refused .ensures) (s .ensures .unsound (not-true (s .result) (c .before .if1 .taken)))
 
 size-requires : tie.Need-size-requires
-size-requires c κs = decided-long (c .before .is-sound .ensures) (c .if1 .left)
+size-requires c κs = let h = sound-head (c .before .before .before .args .m .now) (decided (c .before .is-sound .ensures) (c .if1 .left)) in omega arith
 
 dimension-requires : tie.Need-dimension-requires
-dimension-requires c κs = decided-long (c .before .before .is-sound .ensures) (c .before .if1 .left)
+dimension-requires c κs = let h = sound-head (c .before .before .before .before .args .m .now) (decided (c .before .before .is-sound .ensures) (c .before .if1 .left)) in omega arith
 
 count-requires : tie.Need-count-requires
-count-requires c κs = decided-long (c .before .before .before .is-sound .ensures) (c .before .before .if1 .left)
+count-requires c κs = let h = sound-head (c .before .before .before .before .before .args .m .now) (decided (c .before .before .before .is-sound .ensures) (c .before .before .if1 .left)) in omega arith
 
 find-listed-requires : tie.Need-find-listed-requires
 find-listed-requires c κs =
-    let s = sound-at c in
-    (held-room _ _ _ _ s, held-few _ _ _ _ s, held-numbers _ _ _ _ s)
+    sound-room (sound-at c)
 
 refused-requires-2 : tie.Need-refused-requires-2
 refused-requires-2 c κs = search needs

@@ -15,10 +15,6 @@ use Rattle.upkeep.specs.Laws.Places.{count-more}
 use Rattle.query.specs.Kept.{pick}
 
 module _ {A : Type 0} (p : ℕ → Bool) (f : ℕ → A) where
-  pub pick-none : pick p f 0 ≡ []
-  unfolding pick
-  pick-none = refl
-
   pub pick-more : (n : ℕ) → pick p f (n + 1) ≡ pick p f n ++ consIf (p n) (f n) []
   unfolding pick
   pick-more n = ap (pick p f) (add-one n)
@@ -32,15 +28,6 @@ module _ {A : Type 0} (p : ℕ → Bool) (f : ℕ → A) where
   pub length-takes : (n : ℕ) → p n ≡ true → length (pick p f (n + 1)) ≡ length (pick p f n) + 1
   length-takes n e = ap length (pick-takes n e) ∙ length-append (pick p f n) (f n ∷ [])
 
-  pub length-pick-le : (n : ℕ) → length (pick p f n) ≤ n
-  unfolding pick
-  length-pick-le zero = omega arith
-  length-pick-le (suc n) = omega (arith, length-append (pick p f n) (consIf (p n) (f n) []), length-pick-le n, small (p n))
-    where
-      small : (b : Bool) → length (consIf b (f n) []) ≤ 1
-      small true = omega arith
-      small false = omega arith
-
   length-grows : (n i : ℕ) → i ≤ n → length (pick p f i) ≤ length (pick p f n)
   unfolding pick
   length-grows zero i h = let e : i ≡ 0 = omega arith in omega (arith, ap (λ (j : ℕ). length (pick p f j)) e)
@@ -52,12 +39,6 @@ module _ {A : Type 0} (p : ℕ → Bool) (f : ℕ → A) where
 
   pub length-lt : (n i : ℕ) → i < n → p i ≡ true → length (pick p f i) + 1 ≤ length (pick p f n)
   length-lt n i h e = omega (arith, length-grows n (i + 1) (omega arith), length-takes i e)
-
-  pub pick-ext : (q : ℕ → Bool) (n : ℕ) → ((i : ℕ) → i < n → p i ≡ q i) → pick p f n ≡ pick q f n
-  unfolding pick
-  pick-ext q zero h = refl
-  pick-ext q (suc n) h =
-      ap₂ (λ (l : List A) (b : Bool). l ++ consIf b (f n) []) (pick-ext q n (λ i k. h i (omega arith))) (h n (omega arith))
 
   pub map-pick : {B : Type 0} (g : A → B) (n : ℕ) → map g (pick p f n) ≡ pick p (λ i. g (f i)) n
   unfolding pick

@@ -9,10 +9,8 @@ use Rattle.model.specs.Moves.{Move}
 use Rattle.model.specs.Lists.{listedRows}
 use Rattle.model.specs.Calls.{Query, queryRefusal, queryRows}
 use Rattle.model.specs.Laws.Basics.{select-ext, each-map}
-use Rattle.line.specs.Line.{movesIn}
-use Rattle.promises.specs.Layout.{sizeIn, dimensionIn, countIn, costsIn, moveIn, lineFrom, lineIn, boardIn}
+use Rattle.promises.specs.Layout.{sizeIn, dimensionIn, countIn, moveIn, lineIn, boardIn}
 use Rattle.promises.specs.Sound.{Sound}
-use Rattle.promises.specs.Answers.{resultRow}
 use Rattle.promises.specs.declared.Verdict.the-variants.{Accepted, Unsound, BadArgument, FewRows}
 use Rattle.memory.specs.Held.{SoundAt}
 use Rattle.memory.specs.Laws.Held.{held-dimension, held-room, held-few, held-numbers}

@@ -12,7 +12,7 @@ use Rattle.model.specs.Calls.{Query, accepted, refusedWith, orElse, rowsAnswer,
 use Rattle.promises.specs.Layout.{boardIn}
 use Rattle.promises.specs.Sound.{Sound}
 use Rattle.promises.specs.Answers.{answerOf, numberOf, detailOf, counted, told, resultRow}
-use Rattle.promises.specs.Promise.{Said, QueryPromise}
+use Rattle.promises.specs.Promise.{QueryPromise}
 use Rattle.promises.specs.declared.Verdict.{Verdict}
 use Rattle.promises.specs.declared.Verdict.the-variants.{Accepted, Unsound, BadArgument, FewRows}
 use Rattle.upkeep.specs.Telling.{TellingAsked, toldRows, PlannedAsked}

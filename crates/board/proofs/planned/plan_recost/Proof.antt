@@ -5,7 +5,7 @@ use borrow.Author.Tests.{not-true}
 use Rattle.zorder.proofs.Row.{row-costs}
 use Rattle.promises.specs.Run.{Bytes}
 use Rattle.dominance.specs.declared.Move.{Move}
-use Rattle.listing.specs.Laws.Plan.{decided-at, decided-long}
+use Rattle.listing.specs.Laws.Promise.{decided, decided-at, sound-head}
 use Rattle.board.specs.Laws.Notice.{sound-rows}
 use Rattle.board.specs.Laws.Calls.{judged-passes}
 use Rattle.board.specs.Laws.Accepted.{recost-ready, recost-call}
@@ -25,17 +25,21 @@ returns c =
     plan-unsound (checked .ensures .unsound (not-true (checked .result) (c .before .if1 .taken))) (c .nothing .ensures)
 
 size-requires : tie.Need-size-requires
-size-requires c κs = decided-long (c .before .is-sound .ensures) (c .if1 .left)
+size-requires c κs =
+    let h = sound-head (c .before .before .before .args .m .now) (decided (c .before .is-sound .ensures) (c .if1 .left)) in
+    omega arith
 
 dimension-requires : tie.Need-dimension-requires
 dimension-requires c κs =
     let passed = c .before in
-    decided-long (passed .before .is-sound .ensures) (passed .if1 .left)
+    let h = sound-head (passed .before .before .before .args .m .now) (decided (passed .before .is-sound .ensures) (passed .if1 .left)) in
+    omega arith
 
 count-requires : tie.Need-count-requires
 count-requires c κs =
     let passed = c .before .before in
-    decided-long (passed .before .is-sound .ensures) (passed .if1 .left)
+    let h = sound-head (passed .before .before .before .args .m .now) (decided (passed .before .is-sound .ensures) (passed .if1 .left)) in
+    omega arith
 
 recost-verdict-requires : tie.Need-recost-verdict-requires
 recost-verdict-requires c κs =

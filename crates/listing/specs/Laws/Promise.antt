@@ -1,40 +1,52 @@
--- A list call's plan, for each of its answers; and that its promise follows.
+-- What sound memory has; a list call's plan, for each of its answers; and that its promise follows.
 use Prim.Native.Nat.{ℕ, _≤_, _<_}
 use mathlib.Core.Bool.{Bool, false, not}
 use mathlib.Core.List.{List, _++_, map}
 use mathlib.Core.Path.{_≡_, refl, sym, ap, _∙_, subst}
-use native.Mathlib.Omega.{arith}
 use borrow.Author.Tests.{not-false}
 use lib.ListN.{length, drop, length-map}
 use Rattle.model.specs.Moves.{Row}
 use Rattle.model.specs.Lists.{skyline, listedRows}
-use Rattle.model.specs.Tree.{Tree}
 use Rattle.model.specs.Nodes.{nodesOpened}
 use Rattle.model.specs.Calls.{list, listOf, queryRefusal, queryRows}
 use Rattle.promises.specs.Layout.{sizeIn, dimensionIn, countIn, boardIn, keptFrom}
-use Rattle.promises.specs.Sound.{Stands, Sound}
+use Rattle.promises.specs.Sound.{Sound}
 use Rattle.promises.specs.Answers.{numberOf, counted, resultRow}
 use Rattle.promises.specs.Promise.{ListPromise}
 use Rattle.promises.specs.declared.Verdict.{Verdict}
 use Rattle.promises.specs.declared.Verdict.the-variants.{Accepted, Unsound, FewRows}
+use Rattle.memory.specs.Room.{Room, Numbers}
 use Rattle.memory.specs.Held.{SoundAt}
 use Rattle.memory.specs.Tests.{Decides}
-use Rattle.memory.specs.Laws.Held.{held-room, held-kept}
+use Rattle.memory.specs.Laws.Head.{HeadNumbers, head-numbers}
+use Rattle.memory.specs.Laws.Decide as decide
+use Rattle.memory.specs.Laws.Held.{held-dimension, held-room, held-few, held-numbers, held-kept}
 use Rattle.tree.specs.Search.{Opened}
 use Rattle.upkeep.specs.Telling.{toldRows}
 use Rattle.upkeep.specs.Planned.{isMarked, Finds, TellsNumbers}
 use Rattle.upkeep.specs.Laws.Found.{foundMoves, found-count, found-rows, board-line, numbers-asked}
 use Rattle.upkeep.specs.Laws.Planned.{told-unsound, told-few, told-all, told-at, told-promise, put-results}
+pub use Rattle.upkeep.specs.Laws.Planned.{map-drop}
 use Rattle.upkeep.specs.declared.found.Found.{Found}
 use Rattle.upkeep.specs.declared.telling.Telling.{Telling}
 use Rattle.listing.specs.Plan.{ListTold, Refused}
 use Rattle.listing.specs.declared.ListPlan.{ListPlan}
 
-pub decided-at : {r : Bool} {m : List ℕ} → Decides r m → not r ≡ false → {c d n : ℕ} → c ≡ sizeIn m → d ≡ dimensionIn m → n ≡ countIn m → SoundAt c d n m
-decided-at {r} t e f g h = record { size = f; dimension = g; count = h; sound = t .sound (not-false r e) }
+pub decided : {r : Bool} {m : List ℕ} → Decides r m → not r ≡ false → Sound m
+decided {r} t e = t .sound (not-false r e)
 
-pub decided-long : {r : Bool} {m : List ℕ} → Decides r m → not r ≡ false → 16 ≤ length m
-decided-long {m = m} t e = omega (arith, held-room (sizeIn m) (dimensionIn m) (countIn m) m (decided-at t e refl refl refl) .0)
+pub decided-at : {r : Bool} {m : List ℕ} → Decides r m → not r ≡ false → {c d n : ℕ} → c ≡ sizeIn m → d ≡ dimensionIn m → n ≡ countIn m → SoundAt c d n m
+decided-at t e f g h = record { size = f; dimension = g; count = h; sound = decided t e }
+
+pub sound-head : (m : List ℕ) → Sound m → HeadNumbers m
+sound-head m s = head-numbers m (decide.sound-head m s)
+
+module _ {c d n : ℕ} {m : List ℕ} (s : SoundAt c d n m) where
+  pub sound-room : Room c m × (n ≤ c) × Numbers c n m
+  sound-room = (held-room c d n m s, held-few c d n m s, held-numbers c d n m s)
+
+  pub sound-dimension : d ≤ 4
+  sound-dimension = held-dimension c d n m s
 
 abbrev Planned : List ℕ → ℕ → ListPlan → Type 0
 Planned m lent r = ListTold m lent (r .verdict) (r .count) (r .opened) (r .telling)
