@@ -7,7 +7,10 @@ pub mod Steps
 pub mod Enter
 pub mod Withdraw
 pub mod Recost
-pub mod Notify
+pub mod Notice
 pub mod Calls
 pub mod Accepted
 pub mod Unchanged
+pub mod Plan
+pub mod Promise
+pub mod CarryOut

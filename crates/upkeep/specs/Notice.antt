@@ -1,14 +1,12 @@
 -- What writing the notice and setting the marks leave.
-use Prim.Native.Nat.{ℕ, _-_, _<_, _≤_}
+use Prim.Native.Nat.{ℕ, _-_, _<_}
 use mathlib.Core.Bool.{Bool, true, false, cond}
 use mathlib.Core.Path.{_≡_}
 use mathlib.Core.List.{List, [], _∷_, _++_, map}
 use lib.Dec.{eqb}
-use lib.ListN.{length, drop}
 use Rattle.model.specs.Basics.{select, numbersFrom}
 use Rattle.model.specs.Moves.{Move, left, entered}
 use Rattle.promises.specs.Layout.{numberIn, markIn, moveIn}
-use Rattle.memory.specs.Room.{Room, Numbers}
 use Rattle.memory.specs.Frame.{MarksOnly}
 use Rattle.numbers.specs.Set.{inSet}
 use Rattle.upkeep.specs.declared.change.Upkeep.{Upkeep}
@@ -34,18 +32,6 @@ rowsTold c d n p mark x u m =
 -- The whole notice: left, then entered.
 unfoldable pub noticeRows : ℕ → ℕ → ℕ → ℕ → Move → Upkeep → List ℕ → List (List ℕ)
 noticeRows c d n p x u m = rowsTold c d n p left x u m
-
-pub record TellAsked (c d n p : ℕ) (u : Upkeep) (m : List ℕ) (rows : List (List ℕ)) : Type 0 where
-  pub room : Room c m
-  pub places : n ≤ c
-  pub place : p ≤ n
-  pub numbers : Numbers c n m
-  pub dimension : d ≤ 4
-  pub enough : (x : Move) → length (noticeRows c d n p x u m) ≤ length rows
-
-pub record Tells (c d n p : ℕ) (x : Move) (u : Upkeep) (m : List ℕ) (rows rows' : List (List ℕ)) (r : ℕ) : Type 0 where
-  pub tells : rows' ≡ noticeRows c d n p x u m ++ drop (length (noticeRows c d n p x u m)) rows
-  pub count : r ≡ length (noticeRows c d n p x u m)
 
 -- Whether the move at place i is listed once its mark is set.
 unfoldable pub listedThen : ℕ → List ℕ → List ℕ → List ℕ → ℕ → Bool

@@ -16,7 +16,6 @@ pub use mark::mark_all;
 pub use notice::ROW;
 pub use notice::row_of;
 pub use notice::set_marks;
-pub use notice::tell;
 pub use telling::Step;
 pub use telling::Telling;
 pub use telling::tell_all;

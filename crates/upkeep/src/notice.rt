@@ -1,7 +1,5 @@
 // The notice written, and the marks made right.
 use crate::change::Upkeep;
-use crate::telling::Telling;
-use crate::telling::tell_all;
 use dominance::Move;
 use memory::number_at;
 use memory::set_listed;
@@ -23,35 +21,6 @@ pub fn row_of(x: Move, mark: u16) -> [u16; ROW]
 {
     let p = x.costs;
     [mark, x.number, p[0], p[1], p[2], p[3]]
-}
-
-// The rows marked left, then those marked entered, the coming move at its place p among the others.
-pub fn tell(
-    m: &[u8],
-    c: usize,
-    d: usize,
-    n: usize,
-    p: usize,
-    x: Move,
-    u: Upkeep,
-    rows: &mut [[u16; ROW]],
-) -> usize
-    requires { ⌜ spec.TellAsked c d n p u (now m) (now rows) ⌝ }
-    ensures { λ r. ⌜ spec.Tells c d n p (asMove x) u (now (m .entry)) (now (rows .entry)) (now (rows .exit)) r ⌝ }
-{
-    tell_all(
-        m,
-        Telling {
-            size: c,
-            dimension: d,
-            count: n,
-            place: p,
-            mark: 1,
-            coming: x,
-            upkeep: u,
-        },
-        rows,
-    )
 }
 
 // The mark of the move at place i, after the change.
