@@ -2,7 +2,7 @@
 -- Assumes nothing.
 use Prim.Native.Nat.{ℕ, zero, suc, _<_}
 use mathlib.Core.List.{[], _∷_}
-use mathlib.Core.Path.{_≡_, refl, subst}
+use mathlib.Core.Path.{_≡_, refl, sym, _∙_, subst}
 use native.Mathlib.Omega.{arith}
 use denote.Enum.Declared.{tagOf}
 use types.Run.{OneOf, miss}
@@ -27,16 +27,12 @@ above-zero : (n : ℕ) → OneOf (1 ∷ 2 ∷ 3 ∷ 4 ∷ 5 ∷ 6 ∷ 7 ∷ 8 �
 above-zero zero h = absurd (miss (1 ∷ 2 ∷ 3 ∷ 4 ∷ 5 ∷ 6 ∷ 7 ∷ 8 ∷ []) 0 tt h)
 above-zero (suc n) h = omega arith
 
+only-zero : (n : ℕ) → OneOf (0 ∷ []) n → n ≡ 0
+only-zero zero h = refl
+only-zero (suc n) h = absurd (omega arith)
+
 pub key-refuses : (v : Verdict) → OneOf (1 ∷ 2 ∷ 3 ∷ 4 ∷ 5 ∷ 6 ∷ 7 ∷ 8 ∷ []) (tagOf the-type v) → 0 < numberOf v
 key-refuses v h = subst (λ (n : ℕ). 0 < n) (tag-number v) (above-zero (tagOf the-type v) h)
 
-pub key-accepts : (v : Verdict) → OneOf (0 ∷ []) (tagOf the-type v) → v ≡ Accepted
-key-accepts Accepted h = refl
-key-accepts ShortMemory h = absurd (omega arith)
-key-accepts OutOfRange h = absurd (omega arith)
-key-accepts Unsound h = absurd (omega arith)
-key-accepts (NumberTooLarge place) h = absurd (omega arith)
-key-accepts (NumberTwice place) h = absurd (omega arith)
-key-accepts NumberAbsent h = absurd (omega arith)
-key-accepts (BadArgument place) h = absurd (omega arith)
-key-accepts (FewRows need) h = absurd (omega arith)
+pub key-number : (v : Verdict) → OneOf (0 ∷ []) (tagOf the-type v) → numberOf v ≡ 0
+key-number v h = sym (tag-number v) ∙ only-zero (tagOf the-type v) h

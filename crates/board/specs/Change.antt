@@ -1,11 +1,8 @@
 -- What the parts of the three changes say and leave.
 use Prim.Native.Nat.{ℕ, _+_, _<_, _≤_}
-use mathlib.Core.Bool.{Bool, true, false, cond, not}
+use mathlib.Core.Bool.{true, false, cond}
 use mathlib.Core.Path.{_≡_}
-use mathlib.Core.List.{List, [], _∷_, _++_}
-use lib.Dec.{leb}
-use lib.ListN.{length, drop}
-use Rattle.model.specs.Basics.{equal}
+use mathlib.Core.List.{List}
 use Rattle.model.specs.Moves as model
 use Rattle.model.specs.Moves.{Row}
 use Rattle.model.specs.Lists.{skyline}
@@ -14,7 +11,6 @@ use Rattle.model.specs.Tree.{Tree}
 use Rattle.model.specs.Calls as calls
 use Rattle.model.specs.Calls.{changeRefusal, refusedWith, changed}
 use Rattle.model.specs.Changing.{changeTree}
-use Rattle.model.specs.Sound.{Fit}
 use Rattle.line.specs.Line.{movesIn}
 use Rattle.line.specs.Enter.{placeFor}
 use Rattle.promises.specs.Layout.{dimensionIn, numberIn, costsIn, boardIn, lineFrom}
@@ -22,18 +18,11 @@ use Rattle.promises.specs.Sound.{Stands}
 use Rattle.promises.specs.Answers.{answerOf}
 use Rattle.promises.specs.Promise.{Kept}
 use Rattle.promises.specs.declared.Verdict.{Verdict}
-use Rattle.promises.specs.declared.Answer.{Answer}
 use Rattle.dominance.specs.Move.{asMove}
 use Rattle.dominance.specs.declared.Move.{Move}
-use Rattle.memory.specs.Held.{SoundAt}
 use Rattle.upkeep.specs.Change.{Asked, Upkept, changedMoves}
 use Rattle.upkeep.specs.declared.change.Change.{Change}
 use Rattle.upkeep.specs.declared.change.Upkeep.{Upkeep}
-use Rattle.board.specs.declared.told.Told.{Told}
-
-pub record Refused (v : Verdict) (r : Answer) : Type 0 where
-  pub verdict : r .verdict ≡ v
-  pub count : r .count ≡ 0
 
 -- The refusal of a change, 3 and 8 apart.
 pub record Judges (x : calls.Change) (m : List ℕ) (r : Verdict) : Type 0 where
@@ -60,12 +49,6 @@ unfoldable pub noticeBy : ℕ → ℕ → ℕ → Change → List ℕ → List R
 noticeBy c d n k m =
     let ms = movesIn (lineFrom c d n m) in
     noticeOf (skyline d ms) (skyline d (changedMoves d k ms))
-
-pub record Notified (c d n : ℕ) (k : Change) (m : List ℕ) (lent : List Row) (r : Told) (lent' : List Row) : Type 0 where
-  pub upkept : Upkept c d n k m (r .upkeep)
-  pub need : r .need ≡ length (noticeBy c d n k m)
-  pub enough : r .enough ≡ leb (r .need) (length lent)
-  pub tells : lent' ≡ cond (r .enough) (noticeBy c d n k m ++ drop (length (noticeBy c d n k m)) lent) lent
 
 -- What each change leaves of sound memory.
 pub record Made (x : calls.Change) (m m' : List ℕ) : Type 0 where

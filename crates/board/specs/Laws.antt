@@ -11,3 +11,7 @@ pub mod Notify
 pub mod Calls
 pub mod Accepted
 pub mod Unchanged
+pub mod Plan
+pub mod Told
+pub mod Promise
+pub mod CarryOut

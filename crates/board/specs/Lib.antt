@@ -1,3 +1,4 @@
 -- What the parts of the three changes say and leave, and what holds of it.
 pub mod Change
+pub mod Plan
 pub mod Laws

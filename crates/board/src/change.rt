@@ -1,157 +1,59 @@
-// Enter, withdraw and re-cost: judged, then what the change does to the list, then 8; only then is the memory written.
-use crate::judge::enter_verdict;
-use crate::judge::recost_verdict;
-use crate::judge::withdraw_verdict;
-use crate::make::make_enter;
-use crate::make::make_recost;
-use crate::make::make_withdraw;
-use crate::told::notify;
-use dominance::Move;
-use memory::costs_of;
-use memory::count;
-use memory::dimension;
-use memory::is_sound;
-use memory::size;
+// Enter, withdraw and re-cost: planned, then told; only then is the memory written.
+use crate::make::carry_out;
+use crate::plan::Plan;
+use crate::plan::answer_of;
+use crate::planned::plan_enter;
+use crate::planned::plan_recost;
+use crate::planned::plan_withdraw;
 use promises::Answer;
-use promises::Verdict;
-use tree::place_of;
-use upkeep::Change;
 use upkeep::ROW;
+use upkeep::told_next;
 use zorder::COSTS;
 ghost use mathlib.Core.List.{map};
-ghost use mathlib.Core.Path.{_≡_};
 ghost use Rattle.model.specs.Calls as calls;
 ghost use Rattle.promises.specs.Answers.{resultRow};
 ghost use Rattle.promises.specs.Promise.{ChangePromise};
-ghost use Rattle.board.specs.Change.{Refused};
+ghost use Rattle.board.specs.Plan.{TellAsked, Tells};
 
-fn refused(verdict: Verdict) -> Answer
-    ensures { λ r. ⌜ Refused verdict r ⌝ }
+fn tell_plan(m: &[u8], p: Plan, rows: &mut [[u16; ROW]])
+    requires { ⌜ TellAsked p (now m) (now rows) ⌝ }
+    ensures { λ _. ⌜ Tells p (now (m .entry)) (now (rows .entry)) (now (rows .exit)) ⌝ }
 {
-    Answer { verdict, count: 0 }
+    let t = p.telling;
+    let mut at = 0;
+    let mut k = 0;
+    while k < p.count {
+        let s = told_next(m, t, at);
+        let row = s.row;
+        rows[k] = row;
+        at = s.next;
+        k += 1;
+    }
 }
 
 pub fn enter(m: &mut [u8], number: u16, costs: [u16; COSTS], rows: &mut [[u16; ROW]]) -> Answer
     ensures { λ r. ⌜ ChangePromise (calls.enter number costs) (now (m .entry)) (map resultRow (now (rows .entry))) r (now (m .exit)) (map resultRow (now (rows .exit))) ⌝ }
 {
-    if !is_sound(m) {
-        return refused(Verdict::Unsound);
-    }
-    let c = size(m);
-    let d = dimension(m);
-    let n = count(m);
-    let verdict = enter_verdict(m, c, d, n, number, costs);
-    let Verdict::Accepted = verdict else {
-        return refused(verdict);
-    };
-    let x = Move { number, costs };
-    let t = notify(
-        m,
-        c,
-        d,
-        n,
-        Change {
-            goes: n,
-            comes: true,
-            coming: x,
-        },
-        rows,
-    );
-    let need = t.need;
-    if !t.enough {
-        return refused(Verdict::FewRows(need));
-    }
-    let u = t.upkeep;
-    make_enter(m, c, d, n, x, u);
-    Answer {
-        verdict: Verdict::Accepted,
-        count: need,
-    }
+    let p = plan_enter(m, number, costs, rows.len());
+    tell_plan(m, p, rows);
+    carry_out(m, p);
+    answer_of(p)
 }
 
 pub fn withdraw(m: &mut [u8], number: u16, rows: &mut [[u16; ROW]]) -> Answer
     ensures { λ r. ⌜ ChangePromise (calls.withdraw number) (now (m .entry)) (map resultRow (now (rows .entry))) r (now (m .exit)) (map resultRow (now (rows .exit))) ⌝ }
 {
-    if !is_sound(m) {
-        return refused(Verdict::Unsound);
-    }
-    let c = size(m);
-    let d = dimension(m);
-    let n = count(m);
-    let verdict = withdraw_verdict(m, c, d, n, number);
-    let Verdict::Accepted = verdict else {
-        return refused(verdict);
-    };
-    let p = place_of(m, c, n, number);
-    let none = Move {
-        number,
-        costs: [0u16; COSTS],
-    };
-    let t = notify(
-        m,
-        c,
-        d,
-        n,
-        Change {
-            goes: p,
-            comes: false,
-            coming: none,
-        },
-        rows,
-    );
-    let need = t.need;
-    if !t.enough {
-        return refused(Verdict::FewRows(need));
-    }
-    let u = t.upkeep;
-    make_withdraw(m, c, d, n, p, u);
-    Answer {
-        verdict: Verdict::Accepted,
-        count: need,
-    }
+    let p = plan_withdraw(m, number, rows.len());
+    tell_plan(m, p, rows);
+    carry_out(m, p);
+    answer_of(p)
 }
 
 pub fn recost(m: &mut [u8], number: u16, costs: [u16; COSTS], rows: &mut [[u16; ROW]]) -> Answer
     ensures { λ r. ⌜ ChangePromise (calls.recost number costs) (now (m .entry)) (map resultRow (now (rows .entry))) r (now (m .exit)) (map resultRow (now (rows .exit))) ⌝ }
 {
-    if !is_sound(m) {
-        return refused(Verdict::Unsound);
-    }
-    let c = size(m);
-    let d = dimension(m);
-    let n = count(m);
-    let verdict = recost_verdict(m, c, d, n, number, costs);
-    let Verdict::Accepted = verdict else {
-        return refused(verdict);
-    };
-    if crate::judge::same(costs, costs_of(m, c, d, number)) {
-        return Answer {
-            verdict: Verdict::Accepted,
-            count: 0,
-        };
-    }
-    let p = place_of(m, c, n, number);
-    let x = Move { number, costs };
-    let t = notify(
-        m,
-        c,
-        d,
-        n,
-        Change {
-            goes: p,
-            comes: true,
-            coming: x,
-        },
-        rows,
-    );
-    let need = t.need;
-    if !t.enough {
-        return refused(Verdict::FewRows(need));
-    }
-    let u = t.upkeep;
-    make_recost(m, c, d, n, p, x, u);
-    Answer {
-        verdict: Verdict::Accepted,
-        count: need,
-    }
+    let p = plan_recost(m, number, costs, rows.len());
+    tell_plan(m, p, rows);
+    carry_out(m, p);
+    answer_of(p)
 }

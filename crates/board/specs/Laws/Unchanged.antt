@@ -2,14 +2,10 @@
 use Prim.Native.Nat.{ℕ}
 use mathlib.Core.Bool.{Bool, true, false, cond, not}
 use mathlib.Core.List.{List, [], _++_, map}
-use mathlib.Core.Path.{_≡_, refl, sym, ap, ap₂, _∙_, subst}
-use native.Mathlib.Omega.{arith}
-use lib.ListN.{length, drop}
-use Rattle.zorder.specs.Address.{rowCosts}
-use Rattle.zorder.specs.Laws.Address.{Costs}
+use mathlib.Core.Path.{_≡_, refl, sym, ap, _∙_, subst}
 use Rattle.model.specs.Basics.{Each, distinct, equal}
 use Rattle.model.specs.Moves as model
-use Rattle.model.specs.Moves.{Row, rowOf, insert, left, entered}
+use Rattle.model.specs.Moves.{rowOf, insert, left, entered}
 use Rattle.model.specs.Notice.{noticeOf}
 use Rattle.model.specs.Tree.{Tree, movesOf}
 use Rattle.model.specs.Entering.{enterTree}
@@ -18,25 +14,20 @@ use Rattle.model.specs.Calls as calls
 use Rattle.model.specs.Calls.{onBoard, listOf, changeNotice, changed}
 use Rattle.model.specs.Changing.{changeTree}
 use Rattle.model.specs.Sound.{Fit}
-use Rattle.model.specs.Laws.Bool.{not-flip}
 use Rattle.model.specs.Laws.Basics.{mem-each, select-none}
 use Rattle.model.specs.Laws.Order.{move-order}
 use Rattle.model.specs.Laws.Notice.{among, gone, mem-among, notice-rows}
 use Rattle.model.specs.Laws.Recosting.{recost-moves}
 use Rattle.promises.specs.Layout.{sizeIn, dimensionIn, costsIn, boardIn}
 use Rattle.promises.specs.Sound.{Stands}
-use Rattle.promises.specs.Promise.{ChangePromise}
 use Rattle.promises.specs.Run.{Bytes}
 use Rattle.promises.specs.Laws.Stands.{stands-dimension, stands-moves, stands-fit, stands-once}
-use Rattle.promises.specs.declared.Verdict.the-variants.{Accepted}
 use Rattle.dominance.specs.Move.{asMove}
 use Rattle.dominance.specs.declared.Move.{Move}
 use Rattle.memory.specs.Held.{SoundAt}
-use Rattle.board.specs.Change.{Judges, Made}
+use Rattle.board.specs.Change.{Made}
 use Rattle.board.specs.Laws.Judge.{board-moves}
 use Rattle.board.specs.Laws.Recost.{costs-board}
-use Rattle.board.specs.Laws.Calls.{change-accepted}
-use Rattle.board.specs.Laws.Accepted.{recost-fit, recost-on}
 
 gone-none : (ms : List model.Move) → gone ms ms ≡ []
 unfolding gone
@@ -48,7 +39,7 @@ notice-none : (ms : List model.Move) → noticeOf ms ms ≡ []
 notice-none ms =
     notice-rows ms ms ∙ ap (λ (ns : List model.Move). map (rowOf left) ns ++ map (rowOf entered) ns) (gone-none ms)
 
-module _ {c d n : ℕ} {m : List ℕ} (s : SoundAt c d n m) (b : Bytes m) (x : Move) (w : Costs rowCosts (x .costs)) (j : Judges (calls.recost (x .number) (x .costs)) m Accepted)
+module _ {c d n : ℕ} {m : List ℕ} (s : SoundAt c d n m) (b : Bytes m) (x : Move) (fit : Fit c d (asMove x)) (on : onBoard (x .number) (boardIn m .moves) ≡ true)
     (r : equal (x .costs) (costsIn c d m (x .number)) ≡ true) where
   abbrev change : calls.Change
   change = calls.recost (x .number) (x .costs)
@@ -62,7 +53,7 @@ module _ {c d n : ℕ} {m : List ℕ} (s : SoundAt c d n m) (b : Bytes m) (x : M
     same-costs =
         let own = board-moves c d n m s in
         ap (equal (x .costs))
-        (ap (costsOn (x .number)) (moves ∙ own) ∙ costs-board c d n m (x .number) (ap (onBoard (x .number)) (sym own) ∙ recost-on s b x w j))
+        (ap (costsOn (x .number)) (moves ∙ own) ∙ costs-board c d n m (x .number) (ap (onBoard (x .number)) (sym own) ∙ on))
         ∙ r
 
     same-tree : recostTree (dimensionIn m) (asMove x) t ≡ t
@@ -73,12 +64,12 @@ module _ {c d n : ℕ} {m : List ℕ} (s : SoundAt c d n m) (b : Bytes m) (x : M
     same-moves : insert (dimensionIn m) (asMove x) (without (x .number) (boardIn m .moves)) ≡ boardIn m .moves
     same-moves =
         let P = Fit (sizeIn m) (dimensionIn m) in
-        let fit = subst (λ (k : ℕ). Fit k (dimensionIn m) (asMove x)) (s .size) (subst (λ (k : ℕ). Fit c k (asMove x)) (s .dimension) (recost-fit s b x w j)) in
+        let own = subst (λ (k : ℕ). Fit k (dimensionIn m) (asMove x)) (s .size) (subst (λ (k : ℕ). Fit c k (asMove x)) (s .dimension) fit) in
         ap (λ (ns : List model.Move). insert (dimensionIn m) (asMove x) (without (x .number) ns)) (sym moves)
         ∙ sym
-        (recost-moves (dimensionIn m) P (move-order (dimensionIn m) (sizeIn m) (stands-dimension m t stands)) (asMove x) fit t (stands .rules)
+        (recost-moves (dimensionIn m) P (move-order (dimensionIn m) (sizeIn m) (stands-dimension m t stands)) (asMove x) own t (stands .rules)
         (subst (Each P) (sym moves) (stands-fit m t stands b))
-        (ap (onBoard (x .number)) moves ∙ recost-on s b x w j)
+        (ap (onBoard (x .number)) moves ∙ on)
         (ap (λ (ns : List model.Move). distinct (map (λ y. y .number) ns)) moves ∙ stands-once m t stands b))
         ∙ ap movesOf same-tree
         ∙ moves
@@ -88,11 +79,11 @@ module _ {c d n : ℕ} {m : List ℕ} (s : SoundAt c d n m) (b : Bytes m) (x : M
   same-board =
       λ i. record { size = boardIn m .size; dimension = boardIn m .dimension; moves = same-moves (s .sound .tree) (s .sound .stands) i }
 
-  no-notice : changeNotice (boardIn m) change ≡ []
+  pub no-notice : changeNotice (boardIn m) change ≡ []
   unfolding changeNotice
   no-notice = ap (λ (k : calls.Board). noticeOf (listOf (boardIn m)) (listOf k)) same-board ∙ notice-none (listOf (boardIn m))
 
-  same-made : Made change m m
+  pub same-made : Made change m m
   unfolding changeTree
   same-made =
       record {
@@ -103,8 +94,3 @@ module _ {c d n : ℕ} {m : List ℕ} (s : SoundAt c d n m) (b : Bytes m) (x : M
               past = refl;
             };
       }
-
-  pub change-unchanged : {lent : List Row} → ChangePromise change m lent (record { verdict = Accepted; count = 0 }) m lent
-  change-unchanged {lent} =
-      change-accepted 0 (s .sound) j (ap length (sym no-notice)) (omega arith)
-      (ap (λ (rows : List Row). rows ++ drop (length rows) lent) (sym no-notice)) same-made

@@ -1,164 +1,35 @@
 -- `change::withdraw` meets its contract. Assumes nothing.
-use mathlib.Core.Path.{_≡_, sym, _∙_, subst}
-use native.Mathlib.Omega.{arith}
 use borrow.Author.Needs.{needs}
-use borrow.Author.Tests.{not-true}
-use lib.ListN.{replicate}
-use Rattle.promises.specs.Run.{Bytes}
-use Rattle.dominance.specs.declared.Move.{Move}
-use Rattle.listing.specs.Laws.Promise.{decided, decided-at, sound-head, sound-room}
-use Rattle.board.specs.Change.{Judges}
-use Rattle.board.specs.Laws.Calls.{change-unsound, change-refused, change-few, change-made}
-use Rattle.board.specs.Laws.Accepted.{withdraw-asked, withdraw-other, withdraw-same, withdraw-make, withdraw-done}
-use Rattle.board.proofs.Keys.{key-refuses, key-accepts}
+use Rattle.board.specs.Laws.Promise.{plan-kept}
 use Rattle.board.proofs.change.withdraw.Statement.{statement}
 use Rattle.board.proofs.change.withdraw.Tie as tie
 
-is-sound-requires : tie.Need-is-sound-requires
-is-sound-requires c κs = search needs
+plan-withdraw-requires : tie.Need-plan-withdraw-requires
+plan-withdraw-requires c κs = search needs
 
-refused-requires : tie.Need-refused-requires
-refused-requires c κs = search needs
+tell-plan-requires : tie.Need-tell-plan-requires
+tell-plan-requires c κs = search needs
+
+carry-out-requires : tie.Need-carry-out-requires
+carry-out-requires c κs = search needs
+
+answer-of-requires : tie.Need-answer-of-requires
+answer-of-requires c κs = search needs
 
 same-length : tie.Need-same-length
 same-length c = search needs
 
-returns : tie.Need-returns
-returns c =
-    let checked = c .before .before .is-sound in
-    change-unsound (checked .ensures .unsound (not-true (checked .result) (c .before .if1 .taken))) (c .refused .ensures)
-
-size-requires : tie.Need-size-requires
-size-requires c κs =
-    let h = sound-head (c .before .before .before .before .before .args .m .now) (decided (c .before .before .is-sound .ensures) (c .before .if1 .left)) in
-    omega arith
-
-dimension-requires : tie.Need-dimension-requires
-dimension-requires c κs =
-    let h = sound-head (c .before .before .before .before .before .before .before .args .m .now) (decided (c .before .before .before .before .is-sound .ensures) (c .before .before .before .if1 .left)) in
-    omega arith
-
-count-requires : tie.Need-count-requires
-count-requires c κs =
-    let h = sound-head (c .before .before .before .before .before .before .before .before .before .args .m .now) (decided (c .before .before .before .before .before .before .is-sound .ensures) (c .before .before .before .before .before .if1 .left)) in
-    omega arith
-
-withdraw-verdict-requires : tie.Need-withdraw-verdict-requires
-withdraw-verdict-requires c κs =
-    decided-at (c .before .before .before .before .before .before .before .before .is-sound .ensures) (c .before .before .before .before .before .before .before .if1 .left) (c .before .before .before .before .before .size .ensures .0) (c .before .before .before .dimension .ensures .0) (c .before .count .ensures .0)
-
-enum-told : tie.Need-enum-told
-enum-told c = search needs
-
-refused-requires-2 : tie.Need-refused-requires-2
-refused-requires-2 c κs = search needs
-
 same-length-2 : tie.Need-same-length-2
 same-length-2 c = search needs
 
-returns-2 : tie.Need-returns-2
-returns-2 c =
-    let judged = c .before .before .withdraw-verdict in
-    change-refused (decided (c .before .before .before .before .before .before .before .before .before .before .before .is-sound .ensures) (c .before .before .before .before .before .before .before .before .before .before .if1 .left)) (judged .ensures) (key-refuses (judged .result) (c .before .match .keys2)) (c .refused2 .ensures)
-
-place-of-requires : tie.Need-place-of-requires
-place-of-requires c κs =
-    let start = c .before .before .before .before .before .before .before .before .before .before .before .before .before .before .before in
-    let checked = c .before .before .before .before .before .before .before .before .before .before .before .before .is-sound in
-    let s = decided-at (checked .ensures) (c .before .before .before .before .before .before .before .before .before .before .before .if1 .left) (c .before .before .before .before .before .before .before .before .before .size .ensures .0) (c .before .before .before .before .before .before .before .dimension .ensures .0) (c .before .before .before .before .before .count .ensures .0) in
-    let rows = sound-room s in
-    record { room = rows .0; rows = rows .1 }
-
-notify-requires : tie.Need-notify-requires
-unfolding Bytes
-notify-requires c κs =
-    let start = c .before .before .before .before .before .before .before .before .before .before .before .before .before .before .before .before .before .before in
-    let checked = c .before .before .before .before .before .before .before .before .before .before .before .before .before .before .before .is-sound in
-    let s = decided-at (checked .ensures) (c .before .before .before .before .before .before .before .before .before .before .before .before .before .before .if1 .left) (c .before .before .before .before .before .before .before .before .before .before .before .before .size .ensures .0) (c .before .before .before .before .before .before .before .before .before .before .dimension .ensures .0) (c .before .before .before .before .before .before .before .before .count .ensures .0) in
-    let judged = c .before .before .before .before .before .before .withdraw-verdict in
-    let j = subst (Judges _ (start .args .m .now)) (key-accepts (judged .result) (c .before .before .before .before .before .match .keys1)) (judged .ensures) in
-    let bytes : Bytes (start .args .m .now) = λ i. omega (arith, c .before .before .before .before .before .before .before .before .before .before .before .before .before .before .before .before .before .slice-known .given i) in
-    let e = c .before .before .place-of .ensures in
-    let none : Move = record { number = start .args .number; costs = replicate 4 0 } in
-    (withdraw-asked s bytes none e j, withdraw-other s bytes none e j)
-
-refused-requires-3 : tie.Need-refused-requires-3
-refused-requires-3 c κs = search needs
-
-same-length-3 : tie.Need-same-length-3
-same-length-3 c = search needs
-
-same-length-4 : tie.Need-same-length-4
-same-length-4 c = search needs
-
-returns-3 : tie.Need-returns-3
-unfolding Bytes
-returns-3 c =
-    let start = c .before .before .before .before .before .before .before .before .before .before .before .before .before .before .before .before .before .before .before .before .before .before .before in
-    let checked = c .before .before .before .before .before .before .before .before .before .before .before .before .before .before .before .before .before .before .before .before .is-sound in
-    let s = decided-at (checked .ensures) (c .before .before .before .before .before .before .before .before .before .before .before .before .before .before .before .before .before .before .before .if1 .left) (c .before .before .before .before .before .before .before .before .before .before .before .before .before .before .before .before .before .size .ensures .0) (c .before .before .before .before .before .before .before .before .before .before .before .before .before .before .before .dimension .ensures .0) (c .before .before .before .before .before .before .before .before .before .before .before .before .before .count .ensures .0) in
-    let judged = c .before .before .before .before .before .before .before .before .before .before .before .withdraw-verdict in
-    let j = subst (Judges _ (start .args .m .now)) (key-accepts (judged .result) (c .before .before .before .before .before .before .before .before .before .before .match .keys1)) (judged .ensures) in
-    let bytes : Bytes (start .args .m .now) = λ i. omega (arith, c .before .before .before .before .before .before .before .before .before .before .before .before .before .before .before .before .before .before .before .before .before .before .slice-known .given i) in
-    let e = c .before .before .before .before .before .before .before .place-of .ensures in
-    let none : Move = record { number = start .args .number; costs = replicate 4 0 } in
-    change-few s j (withdraw-same s bytes none e j) (c .before .before .before .before .notify .ensures) (c .before .if2 .taken) (c .refused3 .ensures)
-
-make-withdraw-requires : tie.Need-make-withdraw-requires
-unfolding Bytes
-make-withdraw-requires c κs =
-    let start = c .before .before .before .before .before .before .before .before .before .before .before .before .before .before .before .before .before .before .before .before .before .before .before .before in
-    let checked = c .before .before .before .before .before .before .before .before .before .before .before .before .before .before .before .before .before .before .before .before .before .is-sound in
-    let s = decided-at (checked .ensures) (c .before .before .before .before .before .before .before .before .before .before .before .before .before .before .before .before .before .before .before .before .if1 .left) (c .before .before .before .before .before .before .before .before .before .before .before .before .before .before .before .before .before .before .size .ensures .0) (c .before .before .before .before .before .before .before .before .before .before .before .before .before .before .before .before .dimension .ensures .0) (c .before .before .before .before .before .before .before .before .before .before .before .before .before .before .count .ensures .0) in
-    let judged = c .before .before .before .before .before .before .before .before .before .before .before .before .withdraw-verdict in
-    let j = subst (Judges _ (start .args .m .now)) (key-accepts (judged .result) (c .before .before .before .before .before .before .before .before .before .before .before .match .keys1)) (judged .ensures) in
-    let bytes : Bytes (start .args .m .now) = λ i. omega (arith, c .before .before .before .before .before .before .before .before .before .before .before .before .before .before .before .before .before .before .before .before .before .before .before .slice-known .given i) in
-    let e = c .before .before .before .before .before .before .before .before .place-of .ensures in
-    let none : Move = record { number = start .args .number; costs = replicate 4 0 } in
-    withdraw-make s bytes none e j (c .before .before .before .before .before .notify .ensures .upkept)
-
-same-length-5 : tie.Need-same-length-5
-same-length-5 c = search needs
-
-same-length-6 : tie.Need-same-length-6
-same-length-6 c = search needs
-
-returns-4 : tie.Need-returns-4
-unfolding Bytes
-returns-4 c =
-    let start = c .before .before .before .before .before .before .before .before .before .before .before .before .before .before .before .before .before .before .before .before .before .before .before .before .before .before .before in
-    let checked = c .before .before .before .before .before .before .before .before .before .before .before .before .before .before .before .before .before .before .before .before .before .before .before .before .is-sound in
-    let s = decided-at (checked .ensures) (c .before .before .before .before .before .before .before .before .before .before .before .before .before .before .before .before .before .before .before .before .before .before .before .if1 .left) (c .before .before .before .before .before .before .before .before .before .before .before .before .before .before .before .before .before .before .before .before .before .size .ensures .0) (c .before .before .before .before .before .before .before .before .before .before .before .before .before .before .before .before .before .before .before .dimension .ensures .0) (c .before .before .before .before .before .before .before .before .before .before .before .before .before .before .before .before .before .count .ensures .0) in
-    let judged = c .before .before .before .before .before .before .before .before .before .before .before .before .before .before .before .withdraw-verdict in
-    let j = subst (Judges _ (start .args .m .now)) (key-accepts (judged .result) (c .before .before .before .before .before .before .before .before .before .before .before .before .before .before .match .keys1)) (judged .ensures) in
-    let bytes : Bytes (start .args .m .now) = λ i. omega (arith, c .before .before .before .before .before .before .before .before .before .before .before .before .before .before .before .before .before .before .before .before .before .before .before .before .before .before .slice-known .given i) in
-    let e = c .before .before .before .before .before .before .before .before .before .before .before .place-of .ensures in
-    let none : Move = record { number = start .args .number; costs = replicate 4 0 } in
-    change-made s j (withdraw-same s bytes none e j) (c .before .before .before .before .before .before .before .before .notify .ensures) (c .before .before .before .before .before .if2 .left) (withdraw-done s bytes none e j (c .before .before .make-withdraw .ensures))
+returns : tie.Need-returns
+returns c =
+    let carried = c .before .before .before in
+    let told = carried .before .before .before in
+    let planned = told .before .before .before in
+    plan-kept (planned .plan-withdraw .ensures) (told .tell-plan .ensures) (carried .carry-out .ensures) (c .answer-of .ensures)
 
 pub withdraw-spec : {M : Type 1} → statement M
 withdraw-spec =
     tie.close
-    (tie.spec
-    is-sound-requires
-    refused-requires
-    same-length
-    returns
-    size-requires
-    dimension-requires
-    count-requires
-    withdraw-verdict-requires
-    enum-told
-    refused-requires-2
-    same-length-2
-    returns-2
-    place-of-requires
-    notify-requires
-    refused-requires-3
-    same-length-3
-    same-length-4
-    returns-3
-    make-withdraw-requires
-    same-length-5
-    same-length-6
-    returns-4)
+    (tie.spec plan-withdraw-requires tell-plan-requires carry-out-requires answer-of-requires same-length same-length-2 returns)
