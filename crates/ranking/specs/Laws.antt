@@ -1,0 +1,2 @@
+-- Laws of the ranked rows.
+pub mod Placing
