@@ -13,7 +13,7 @@ ghost use Rattle.model.specs.Calls as calls;
 ghost use Rattle.board_c.specs.Exported.{ChangeExported, DoneAsked, Done};
 
 // A plan told and carried out.
-fn done(memory: &mut [u8], p: Plan, rows: &mut [Row]) -> Answer
+pub fn done(memory: &mut [u8], p: Plan, rows: &mut [Row]) -> Answer
     requires { ⌜ DoneAsked p (now memory) (now rows) ⌝ }
     ensures { λ r. ⌜ Done p (now (memory .entry)) (now (rows .entry)) r (now (memory .exit)) (now (rows .exit)) ⌝ }
 {
