@@ -1,3 +1,2 @@
--- What holds of the listed places, and that a list call's promise follows.
-pub mod Listed
+-- A list call's plan, for each of its answers; and that its promise follows.
 pub mod Promise

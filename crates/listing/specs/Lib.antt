@@ -1,3 +1,3 @@
--- What the parts of a list call say, and its laws.
-pub mod Listed
+-- What a list call will say and tell, and its laws.
+pub mod Plan
 pub mod Laws

@@ -2,9 +2,8 @@
 pub mod Rule
 pub mod Places
 pub mod Counting
-pub mod Found
 pub mod Put
-pub mod Told
+pub mod Plan
 pub mod Calls
 pub mod Insert
 pub mod Ranked

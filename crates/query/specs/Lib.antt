@@ -1,5 +1,6 @@
 -- What the lists besides Definition 2's compute; then their laws.
 pub mod Rule
 pub mod Kept
+pub mod Plan
 pub mod Rank
 pub mod Laws

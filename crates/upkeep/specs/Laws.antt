@@ -1,9 +1,11 @@
 -- That the steps of a change compute what the definition says.
 pub mod Places
 pub mod Change
-pub mod Rows
 pub mod Marks
 pub mod Place
 pub mod Notified
 pub mod Told
 pub mod Telling
+pub mod Tell
+pub mod Found
+pub mod Planned

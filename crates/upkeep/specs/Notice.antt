@@ -1,12 +1,11 @@
 -- What writing the notice and setting the marks leave.
-use Prim.Native.Nat.{ℕ, _+_, _-_, _<_, _≤_}
+use Prim.Native.Nat.{ℕ, _-_, _<_, _≤_}
 use mathlib.Core.Bool.{Bool, true, false, cond}
 use mathlib.Core.Path.{_≡_}
 use mathlib.Core.List.{List, [], _∷_, _++_, map}
 use lib.Dec.{eqb}
 use lib.ListN.{length, drop}
-use lib.Seq.{sets}
-use Rattle.model.specs.Basics.{select, numbersFrom, consIf}
+use Rattle.model.specs.Basics.{select, numbersFrom}
 use Rattle.model.specs.Moves.{Move, left, entered}
 use Rattle.promises.specs.Layout.{numberIn, markIn, moveIn}
 use Rattle.memory.specs.Room.{Room, Numbers}
@@ -24,18 +23,6 @@ chosen c from to set m = select (λ i. inSet set (numberIn c m i)) (numbersFrom 
 
 unfoldable pub rowsOf : ℕ → ℕ → ℕ → List ℕ → List ℕ → List (List ℕ)
 rowsOf c d mark places m = map (λ i. rowNumbers mark (moveIn c d m i)) places
-
-pub record PutAsked (c d from to : ℕ) (m : List ℕ) : Type 0 where
-  pub room : Room c m
-  pub order : from ≤ to
-  pub rows : to ≤ c
-  pub numbers : Numbers c to m
-  pub dimension : d ≤ 4
-
--- The rows of the chosen places, put from row k on, the others as they were; then the next row.
-pub record PutSet (c d from to : ℕ) (set : List ℕ) (mark k : ℕ) (m : List ℕ) (rows rows' : List (List ℕ)) (r : ℕ) : Type 0 where
-  pub tells : rows' ≡ sets rows k (rowsOf c d mark (chosen c from to set m) m)
-  pub next : r ≡ k + length (chosen c from to set m)
 
 -- The rows that leave, with a mark, then those that enter, the coming move at its place.
 abbrev pub rowsTold : ℕ → ℕ → ℕ → ℕ → ℕ → Move → Upkeep → List ℕ → List (List ℕ)

@@ -1,9 +1,10 @@
 -- The rows of a telling, one by one.
-use Prim.Native.Nat.{ℕ, zero, suc, _+_, _*_, _-_, _≤_}
+use Prim.Native.Nat.{ℕ, zero, suc, _+_, _*_, _-_, _≤_, _<_}
 use mathlib.Core.Bool.{Bool, cond}
-use mathlib.Core.List.{List, map}
+use mathlib.Core.List.{List, _++_, map}
+use mathlib.Core.Path.{_≡_}
 use lib.Dec.{eqb, ltb}
-use lib.ListN.{set, replicate}
+use lib.ListN.{length, drop, set, replicate}
 use Rattle.model.specs.Basics.{select, numbersFrom, firstOr}
 use Rattle.model.specs.Moves.{entered}
 use Rattle.promises.specs.Layout.{numberIn, moveIn}
@@ -64,3 +65,14 @@ position t m (suc k) = nextAt t m (position t m k)
 unfoldable pub filledRows : Telling → List ℕ → ℕ → List (List ℕ) → List (List ℕ)
 filledRows t m zero rows = rows
 filledRows t m (suc k) rows = set (filledRows t m k rows) k (nextRow t m (position t m k))
+
+-- All told rows put first, the others as they were; and how many they are.
+pub record TellsAll (t : Telling) (m : List ℕ) (rows rows' : List (List ℕ)) (r : ℕ) : Type 0 where
+  pub tells : rows' ≡ toldRows t m ++ drop (length (toldRows t m)) rows
+  pub count : r ≡ length (toldRows t m)
+
+-- So many rows are told, and lent; the memory is read where there are any.
+pub record PlannedAsked (t : Telling) (count : ℕ) (m : List ℕ) (rows : List (List ℕ)) : Type 0 where
+  pub told : length (toldRows t m) ≡ count
+  pub enough : count ≤ length rows
+  pub asked : 0 < count → TellingAsked t m

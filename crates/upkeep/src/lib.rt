@@ -1,5 +1,6 @@
 // The kept list: marked anew after a load, kept up by what a change does.
 mod change;
+mod found;
 mod mark;
 mod notice;
 mod telling;
@@ -7,6 +8,10 @@ mod telling;
 pub use change::Change;
 pub use change::Upkeep;
 pub use change::upkeep_of;
+pub use found::Found;
+pub use found::find_listed;
+pub use found::telling_none;
+pub use found::telling_of;
 pub use mark::mark_all;
 pub use notice::ROW;
 pub use notice::row_of;
@@ -14,4 +19,6 @@ pub use notice::set_marks;
 pub use notice::tell;
 pub use telling::Step;
 pub use telling::Telling;
+pub use telling::tell_all;
+pub use telling::tell_planned;
 pub use telling::told_next;

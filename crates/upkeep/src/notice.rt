@@ -1,14 +1,14 @@
 // The notice written, and the marks made right.
 use crate::change::Upkeep;
+use crate::telling::Telling;
+use crate::telling::tell_all;
 use dominance::Move;
-use memory::move_at;
 use memory::number_at;
 use memory::set_listed;
 use numbers::WORDS;
 use numbers::has;
 ghost use mathlib.Core.Path.{_≡_};
-ghost use Prim.Native.Nat.{_+_, _≤_, _<_};
-ghost use lib.ListN.{length};
+ghost use Prim.Native.Nat.{_≤_, _<_};
 ghost use Rattle.dominance.specs.Move.{asMove};
 ghost use Rattle.promises.specs.Layout.{numberIn};
 ghost use Rattle.memory.specs.Room.{Room, Numbers};
@@ -25,34 +25,6 @@ pub fn row_of(x: Move, mark: u16) -> [u16; ROW]
     [mark, x.number, p[0], p[1], p[2], p[3]]
 }
 
-// The rows of the moves of a set, among places from `from` up to `to`, with a mark, put from row k on; the next row.
-fn put_set(
-    m: &[u8],
-    c: usize,
-    d: usize,
-    from: usize,
-    to: usize,
-    set: [u64; WORDS],
-    mark: u16,
-    rows: &mut [[u16; ROW]],
-    k: usize,
-) -> usize
-    requires { ⌜ spec.PutAsked c d from to (now m) ⌝ }
-    requires { ⌜ k + length (spec.chosen c from to set (now m)) ≤ length (now rows) ⌝ }
-    ensures { λ r. ⌜ spec.PutSet c d from to set mark k (now (m .entry)) (now (rows .entry)) (now (rows .exit)) r ⌝ }
-{
-    let mut next = k;
-    let mut i = from;
-    while i < to {
-        if has(set, number_at(m, c, i)) {
-            rows[next] = row_of(move_at(m, c, d, i), mark);
-            next += 1;
-        }
-        i += 1;
-    }
-    next
-}
-
 // The rows marked left, then those marked entered, the coming move at its place p among the others.
 pub fn tell(
     m: &[u8],
@@ -67,15 +39,19 @@ pub fn tell(
     requires { ⌜ spec.TellAsked c d n p u (now m) (now rows) ⌝ }
     ensures { λ r. ⌜ spec.Tells c d n p (asMove x) u (now (m .entry)) (now (rows .entry)) (now (rows .exit)) r ⌝ }
 {
-    let leaving = u.leaving;
-    let entering = u.entering;
-    let left = put_set(m, c, d, 0, n, leaving, 1, rows, 0);
-    let mut k = put_set(m, c, d, 0, p, entering, 2, rows, left);
-    if u.listed {
-        rows[k] = row_of(x, 2);
-        k += 1;
-    }
-    put_set(m, c, d, p, n, entering, 2, rows, k)
+    tell_all(
+        m,
+        Telling {
+            size: c,
+            dimension: d,
+            count: n,
+            place: p,
+            mark: 1,
+            coming: x,
+            upkeep: u,
+        },
+        rows,
+    )
 }
 
 // The mark of the move at place i, after the change.

@@ -1,69 +1,25 @@
--- The promises of the calls, from their refusals and from what is told.
+-- What turns the calls down, and which rows they have.
 use Prim.Native.Nat.{ℕ, _^_, _≤_, _<_}
 use mathlib.Core.Bool.{Bool, true, false, cond, not, _&&_, and-false}
 use mathlib.Core.List.{List, [], _∷_}
-use mathlib.Core.Path.{_≡_, refl, sym, ap, _∙_, subst, fun-ext}
+use mathlib.Core.Path.{_≡_, refl, sym, ap, _∙_, fun-ext}
 use mathlib.Core.Logic.{_⊎_, ⊎-elim}
 use native.Mathlib.Omega.{arith}
 use lib.Dec.{leb, eqb}
-use lib.ListN.{length}
 use borrow.Author.Tests.{le-leb, lt-leb, eq-eqb, ne-eqb}
 use Rattle.zorder.specs.Refusal.{refusal}
 use Rattle.model.specs.Basics.{select, any, within}
-use Rattle.model.specs.Moves.{Move, Row}
+use Rattle.model.specs.Moves.{Move}
 use Rattle.model.specs.Lists.{dominators, band, onK, chosen, listedRows}
-use Rattle.model.specs.Calls.{Query, bandQuery, rankQuery, onKQuery, chosenQuery, queryRefusal, queryRows, queryAnswer, rowsAnswer, refusedWith, orElse}
+use Rattle.model.specs.Calls.{bandQuery, rankQuery, onKQuery, chosenQuery, queryRefusal, queryRows}
 use Rattle.model.specs.Laws.Bool.{or-left, or-right, or-false-both}
 use Rattle.model.specs.Laws.Queries.{count-zero}
 use Rattle.model.specs.Laws.Tree.{within-true}
 use Rattle.promises.specs.Layout.{dimensionIn, boardIn}
-use Rattle.promises.specs.Answers.{answerOf, numberOf, detailOf, counted, told}
-use Rattle.promises.specs.Promise.{Said, QueryPromise}
-use Rattle.promises.specs.declared.Answer.{Answer}
-use Rattle.promises.specs.declared.Verdict.the-variants.{Unsound, BadArgument}
-use Rattle.memory.specs.Tests.{Decides}
 use Rattle.query.specs.Rule.{beats}
 use Rattle.query.specs.Kept.{stays, kept, keptRows}
-use Rattle.query.specs.Rank.{rankRows}
 use Rattle.query.specs.declared.rule.Rule.{Rule}
 use Rattle.query.specs.declared.rule.Rule.the-variants.{All, OnK, Chosen}
-
--- ---- 3, 7, and what is told
-
-module _ (q : Query) (m : List ℕ) (lent : List Row) (b : Bool) (decides : Decides b m) where
-  pub promise-unsound : b ≡ false → QueryPromise q m lent (record { verdict = Unsound; count = 0 }) lent
-  unfolding answerOf numberOf detailOf refusedWith counted told
-  promise-unsound e =
-      record {
-        sound = λ t s. absurd (decides .unsound e (record { tree = t; stands = s }));
-        unsound = λ _. record { answers = refl; counts = refl; tells = refl };
-      }
-
-  module _ (e : b ≡ true) where
-    pub promise-bad : queryRefusal (boardIn m) q ≡ 7 → QueryPromise q m lent (record { verdict = BadArgument 0; count = 0 }) lent
-    unfolding answerOf numberOf detailOf refusedWith counted told queryAnswer orElse
-    promise-bad f =
-        record {
-          sound = λ t s. record {
-            answers = ap (λ (n : ℕ). orElse (refusedWith n) (rowsAnswer (length (queryRows (boardIn m) q)) (length lent))) (sym f);
-            counts = refl;
-            tells = refl;
-          };
-          unsound = λ n. absurd (n (decides .sound e));
-        }
-
-    pub promise-told : (a : Answer) (lent' rows : List Row) → queryRefusal (boardIn m) q ≡ 0 → queryRows (boardIn m) q ≡ rows
-        → Said (rowsAnswer (length rows) (length lent)) rows lent (a .verdict) (a .count) lent' → QueryPromise q m lent a lent'
-    unfolding queryAnswer orElse refusedWith
-    promise-told a lent' rows f g s =
-        record {
-          sound = λ t st.
-              subst
-              (λ (n : ℕ). Said (orElse (refusedWith n) (rowsAnswer (length (queryRows (boardIn m) q)) (length lent))) (queryRows (boardIn m) q) lent (a .verdict) (a .count) lent')
-              (sym f)
-              (subst (λ (l : List Row). Said (rowsAnswer (length l) (length lent)) l lent (a .verdict) (a .count) lent') (sym g) s);
-          unsound = λ n. absurd (n (decides .sound e));
-        }
 
 -- ---- the refusals
 
@@ -136,7 +92,3 @@ module _ (m : List ℕ) where
   pub chosen-rows : (set : ℕ) → queryRows (boardIn m) (chosenQuery set) ≡ keptRows (Chosen set) 0 m
   unfolding queryRows keptRows boardIn beats chosen
   chosen-rows set = ap listedRows (sym (unbeaten (Chosen set) (boardIn m .moves)))
-
-  pub rank-rows : (t : ℕ) → queryRows (boardIn m) (rankQuery t) ≡ rankRows t m
-  unfolding queryRows rankRows boardIn
-  rank-rows t = refl

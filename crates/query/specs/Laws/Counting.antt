@@ -11,7 +11,7 @@ use Rattle.model.specs.Moves.{Move}
 use Rattle.promises.specs.Layout.{tab, moveIn}
 use Rattle.query.specs.Rule.{beats}
 use Rattle.query.specs.Kept.{pick, movesTo, stays}
-use Rattle.query.specs.Laws.Places.{pick-passes, length-takes, length-pick-le, length-lt, count-tab}
+use Rattle.query.specs.Laws.Places.{pick-passes, length-takes, length-lt, count-tab}
 use Rattle.query.specs.declared.rule.Rule.{Rule}
 
 module _ (c d : ℕ) (m : List ℕ) (t : Move → Bool) where
@@ -27,9 +27,6 @@ module _ (c d : ℕ) (m : List ℕ) (t : Move → Bool) where
   count-more n true e =
       picked (n + 1) ∙ length-takes (λ i. t (moveIn c d m i)) (moveIn c d m) n e ∙ ap (λ (k : ℕ). k + 1) (sym (picked n))
   count-more n false e = picked (n + 1) ∙ ap length (pick-passes (λ i. t (moveIn c d m i)) (moveIn c d m) n e) ∙ sym (picked n)
-
-  pub count-few : (n : ℕ) → count t (movesTo c d n m) ≤ n
-  count-few n = omega (arith, picked n, length-pick-le (λ i. t (moveIn c d m i)) (moveIn c d m) n)
 
   pub count-lt : (n i : ℕ) → i < n → t (moveIn c d m i) ≡ true → count t (movesTo c d i m) + 1 ≤ count t (movesTo c d n m)
   count-lt n i h e = omega (arith, picked n, picked i, length-lt (λ i. t (moveIn c d m i)) (moveIn c d m) n i h e)

@@ -1,6 +1,6 @@
 -- Entries picked by places.
 use Prim.Native.Nat.{ℕ, zero, suc, _+_, _≤_, _<_}
-use mathlib.Core.Bool.{Bool, true, false}
+use mathlib.Core.Bool.{Bool, true, false, cond}
 use mathlib.Core.List.{List, [], _∷_, _++_, map, map-append, append-nil}
 use mathlib.Core.Logic.{⊎-elim}
 use mathlib.Core.Path.{_≡_, refl, sym, ap, ap₂, _∙_}
@@ -8,16 +8,13 @@ use native.Mathlib.Nat.{eq-or-lt-of-le, le-of-suc-le-suc}
 use native.Mathlib.Numerals.{add-one}
 use native.Mathlib.Omega.{arith}
 use lib.ListN.{length, length-append}
-use Rattle.model.specs.Basics.{consIf, select, count}
+use Rattle.model.specs.Basics.{consIf, select, count, numbersFrom}
 use Rattle.model.specs.Laws.Basics.{select-append}
 use Rattle.promises.specs.Layout.{tab}
+use Rattle.upkeep.specs.Laws.Places.{count-more}
 use Rattle.query.specs.Kept.{pick}
 
 module _ {A : Type 0} (p : ℕ → Bool) (f : ℕ → A) where
-  pub pick-none : pick p f 0 ≡ []
-  unfolding pick
-  pick-none = refl
-
   pub pick-more : (n : ℕ) → pick p f (n + 1) ≡ pick p f n ++ consIf (p n) (f n) []
   unfolding pick
   pick-more n = ap (pick p f) (add-one n)
@@ -31,15 +28,6 @@ module _ {A : Type 0} (p : ℕ → Bool) (f : ℕ → A) where
   pub length-takes : (n : ℕ) → p n ≡ true → length (pick p f (n + 1)) ≡ length (pick p f n) + 1
   length-takes n e = ap length (pick-takes n e) ∙ length-append (pick p f n) (f n ∷ [])
 
-  pub length-pick-le : (n : ℕ) → length (pick p f n) ≤ n
-  unfolding pick
-  length-pick-le zero = omega arith
-  length-pick-le (suc n) = omega (arith, length-append (pick p f n) (consIf (p n) (f n) []), length-pick-le n, small (p n))
-    where
-      small : (b : Bool) → length (consIf b (f n) []) ≤ 1
-      small true = omega arith
-      small false = omega arith
-
   length-grows : (n i : ℕ) → i ≤ n → length (pick p f i) ≤ length (pick p f n)
   unfolding pick
   length-grows zero i h = let e : i ≡ 0 = omega arith in omega (arith, ap (λ (j : ℕ). length (pick p f j)) e)
@@ -51,12 +39,6 @@ module _ {A : Type 0} (p : ℕ → Bool) (f : ℕ → A) where
 
   pub length-lt : (n i : ℕ) → i < n → p i ≡ true → length (pick p f i) + 1 ≤ length (pick p f n)
   length-lt n i h e = omega (arith, length-grows n (i + 1) (omega arith), length-takes i e)
-
-  pub pick-ext : (q : ℕ → Bool) (n : ℕ) → ((i : ℕ) → i < n → p i ≡ q i) → pick p f n ≡ pick q f n
-  unfolding pick
-  pick-ext q zero h = refl
-  pick-ext q (suc n) h =
-      ap₂ (λ (l : List A) (b : Bool). l ++ consIf b (f n) []) (pick-ext q n (λ i k. h i (omega arith))) (h n (omega arith))
 
   pub map-pick : {B : Type 0} (g : A → B) (n : ℕ) → map g (pick p f n) ≡ pick p (λ i. g (f i)) n
   unfolding pick
@@ -79,14 +61,15 @@ module _ {A : Type 0} (q : A → Bool) (f : ℕ → A) where
   unfolding count
   count-tab n = ap length (select-tab n)
 
-pub length-pick : {A B : Type 0} (p : ℕ → Bool) (f : ℕ → A) (g : ℕ → B) (n : ℕ) → length (pick p f n) ≡ length (pick p g n)
-unfolding pick
-length-pick p f g zero = refl
-length-pick p f g (suc n) =
+pub pick-count : {A : Type 0} (p : ℕ → Bool) (f : ℕ → A) (n : ℕ) → length (pick p f n) ≡ count p (numbersFrom 0 n)
+unfolding pick count select numbersFrom
+pick-count p f zero = refl
+pick-count p f (suc n) =
     length-append (pick p f n) (consIf (p n) (f n) [])
-    ∙ ap₂ (λ (k j : ℕ). k + j) (length-pick p f g n) (one (p n))
-    ∙ sym (length-append (pick p g n) (consIf (p n) (g n) []))
+    ∙ ap₂ (λ (k j : ℕ). k + j) (pick-count p f n) (one (p n))
+    ∙ sym (count-more p n)
+    ∙ ap (λ (k : ℕ). count p (numbersFrom 0 k)) (add-one n)
   where
-    one : (b : Bool) → length (consIf b (f n) []) ≡ length (consIf b (g n) [])
+    one : (b : Bool) → length (consIf b (f n) []) ≡ cond b 1 0
     one true = refl
     one false = refl

@@ -7,8 +7,8 @@ use native.Mathlib.Nat.{add-suc, zero-add}
 use native.Mathlib.Numerals.{add-one}
 use native.Mathlib.Omega.{arith}
 use borrow.Author.Tests.{ltb-true, ltb-false, lt-ltb, le-ltb, eq-eqb, ne-eqb}
-use lib.Dec.{eqb, ltb}
-use lib.ListN.{length, getD, set, take, drop, replicate}
+use lib.Dec.{ltb}
+use lib.ListN.{length, getD, set, drop, replicate}
 use lib.Seq.{paste, paste-zero, paste-suc, drop-drop, take-length}
 use Rattle.model.specs.Basics.{consIf, select, numbersFrom, firstOr}
 use Rattle.model.specs.Moves.{left, entered}
@@ -123,6 +123,10 @@ first-drop f z zero (x ∷ l) = refl
 first-drop f z (suc k) [] = refl
 first-drop f z (suc k) (x ∷ l) = first-drop f z k l
 
+pub length-none : {A : Type 0} (l : List A) → length l ≡ 0 → l ≡ []
+length-none [] e = refl
+length-none (x ∷ l) e = absurd (omega arith)
+
 -- ---- the told positions give the told rows
 
 module _ {A : Type 0} (f g : ℕ → A) where
@@ -156,7 +160,7 @@ module _ {A : Type 0} (f : ℕ → A) (q : ℕ → Bool) where
       ∙ testCases (λ (c : Bool). map f (consIf c a []) ≡ cond c (x ∷ []) []) b (λ _. ap (λ (y : A). y ∷ []) g) (λ _. refl)
 
 module _ (t : Telling) (m : List ℕ) where
-  abbrev told : List (List ℕ)
+  abbrev pub told : List (List ℕ)
   told = map (rowAt t m) (toldFrom t m 0)
 
   part : (mark : ℕ) (ws : List ℕ) (s from to : ℕ)
@@ -170,7 +174,7 @@ module _ (t : Telling) (m : List ℕ) where
       → (toldAt t m j ≡ inSet (cond first (t .upkeep .leaving) (t .upkeep .entering)) (numberIn (t .size) m i)) × (rowAt t m j ≡ rowNumbers (cond first (t .mark) entered) (moveIn (t .size) (t .dimension) m i))
   shown j i other at e = (place-told t m j other i at e, place-row t m j other i at e)
 
-  told-all : t .place ≤ t .count → told ≡ toldRows t m
+  pub told-all : t .place ≤ t .count → told ≡ toldRows t m
   unfolding toldRows toldFrom
   told-all f =
       let n = t .count in
@@ -219,6 +223,14 @@ module _ (t : Telling) (m : List ℕ) where
       subst (λ (new : List (List ℕ)). length new ≤ length rows → filledRows t m (length new) rows ≡ new ++ drop (length new) rows) (told-all (a .place))
       (λ l. filled-some rows (length told) (omega arith) l
       ∙ (λ j. take-length told j ++ drop (zero-add (length told) j) rows)) h
+
+  -- So many rows as are told, whatever the memory where there are none.
+  pub filled-all : (rows : List (List ℕ)) (count : ℕ) → (0 < count → TellingAsked t m) → length (toldRows t m) ≡ count → count ≤ length rows
+      → filledRows t m count rows ≡ toldRows t m ++ drop count rows
+  unfolding filledRows
+  filled-all rows zero asked e h = ap (λ (new : List (List ℕ)). new ++ rows) (sym (length-none (toldRows t m) e))
+  filled-all rows (suc k) asked e h =
+      subst (λ (n : ℕ). filledRows t m n rows ≡ toldRows t m ++ drop n rows) e (filled-told rows (asked (omega arith)) (omega arith))
 
   -- ---- the telling of one part, and the notice
 

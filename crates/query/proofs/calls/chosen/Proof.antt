@@ -1,89 +1,21 @@
--- `calls::chosen` meets its contract: each refusal, and what is told. Assumes nothing.
-use Prim.Native.Nat.{ℕ, _*_, _%_, _^_, _≤_}
-use mathlib.Core.List.{List, map}
-use mathlib.Core.Logic.{inl, inr, ⊎-elim}
-use mathlib.Core.Path.{_≡_, ap, _∙_}
-use native.Mathlib.Nat.{one-mul}
-use lib.Pow.{shl-exact}
-use borrow.Author.Tests.{not-true, not-false, leb-true, leb-false}
+-- `calls::chosen` meets its contract. Assumes nothing.
 use borrow.Author.Needs.{needs}
-use native.Mathlib.Omega.{arith}
 use Rattle.model.specs.Calls.{chosenQuery}
-use Rattle.promises.specs.Layout.{dimensionIn}
-use Rattle.promises.specs.Sound.{Sound}
-use Rattle.promises.specs.Answers.{resultRow}
-use Rattle.query.specs.Rule.{Fair}
-use Rattle.query.specs.Laws.Told.{sound-readable}
-use Rattle.query.specs.Laws.Calls.{promise-unsound, promise-bad, promise-told, chosen-bad, chosen-right, chosen-rows}
+use Rattle.upkeep.specs.Laws.Planned.{told-asked}
 use Rattle.query.proofs.calls.chosen.Statement.{statement}
 use Rattle.query.proofs.calls.chosen.Tie as tie
 
--- `1 << d`, for the d of sound memory.
-module _ (m : List ℕ) (sound : Sound m) (d : ℕ) (e : d ≡ dimensionIn m) where
-  small : d ≤ 4
-  small = omega (arith, sound-readable m sound .3)
+plan-chosen-requires : tie.Need-plan-chosen-requires
+plan-chosen-requires c κs = search needs
 
-  power : (1 * 2 ^ d) % 2 ^ 64 ≡ 2 ^ dimensionIn m
-  power = shl-exact {a = 1} 1 d 64 (omega arith) (omega (arith, small)) ∙ one-mul (2 ^ d) ∙ ap (λ (n : ℕ). 2 ^ n) e
-
-is-sound-requires : tie.Need-is-sound-requires
-is-sound-requires c κs = search needs
-
-returns : tie.Need-returns
-returns c =
-    let a = c .before .before .before .args in
-    let s = c .before .is-sound in
-    promise-unsound (chosenQuery (a .set)) (a .m .now) (map resultRow (a .rows .now)) (s .result) (s .ensures) (not-true (s .result) (c .if1 .taken))
-
-dimension-requires : tie.Need-dimension-requires
-dimension-requires c κs =
-    let s = c .before .before .is-sound in
-    omega (arith, sound-readable (c .before .before .before .before .args .m .now) (s .ensures .sound (not-false (s .result) (c .before .if1 .left))) .0 .0)
-
-shl-if3 : tie.Need-shl-if3
-shl-if3 c =
-    let s = c .before .before .before .is-sound in
-    omega (arith, small (c .before .before .before .before .before .args .m .now) (s .ensures .sound (not-false (s .result) (c .before .before .if1 .left))) (c .dimension .result) (c .dimension .ensures .0))
-
-returns-2 : tie.Need-returns-2
-returns-2 c =
-    let a = c .before .before .before .before .args in
-    let s = c .before .before .is-sound in
-    let sound = not-false (s .result) (c .before .if1 .left) in
-    promise-bad (chosenQuery (a .set)) (a .m .now) (map resultRow (a .rows .now)) (s .result) (s .ensures) sound
-    (chosen-bad (a .m .now) (a .set)
-    (⊎-elim (λ w. inl (w .taken))
-    (λ w. inr (omega (arith, leb-true ((1 * 2 ^ w .1 .result) % 2 ^ 64) (a .set) (w .2 .taken), power (a .m .now) (s .ensures .sound sound) (w .1 .result) (w .1 .ensures .0))))
-    (c .if2 .came)))
-
-tell-kept-requires : tie.Need-tell-kept-requires
-unfolding Fair
-tell-kept-requires c κs = let s = c .before .before .before .before .before .is-sound in (s .ensures .sound (not-false (s .result) (c .before .before .before .before .if1 .left)), tt)
+tell-plan-requires : tie.Need-tell-plan-requires
+tell-plan-requires c κs = told-asked (c .before .before .before .args .rows .now) (c .before .plan-chosen .ensures)
 
 same-length : tie.Need-same-length
 same-length c = search needs
 
-returns-3 : tie.Need-returns-3
-returns-3 c =
-    let a = c .before .before .before .before .before .before .before .before .before .args in
-    let s = c .before .before .before .before .before .before .before .is-sound in
-    let sound = not-false (s .result) (c .before .before .before .before .before .before .if1 .left) in
-    let d = c .before .before .before .before .dimension in
-    let told = c .before .tell-kept in
-    promise-told (chosenQuery (a .set)) (a .m .now) (map resultRow (a .rows .now)) (s .result) (s .ensures) sound (told .result) _ _
-    (chosen-right (a .m .now) (a .set) (c .before .before .before .before .before .if2 .left)
-    (omega (arith, leb-false ((1 * 2 ^ d .result) % 2 ^ 64) (a .set) (c .before .before .before .if3 .left), power (a .m .now) (s .ensures .sound sound) (d .result) (d .ensures .0))))
-    (chosen-rows (a .m .now) (a .set)) (told .ensures .said)
+returns : tie.Need-returns
+returns c = c .before .tell-plan .ensures .keeps (chosenQuery (c .before .before .before .before .before .args .set)) (c .before .before .before .plan-chosen .ensures)
 
 pub chosen-spec : {M : Type 1} → statement M
-chosen-spec =
-    tie.close
-    (tie.spec
-    is-sound-requires
-    returns
-    dimension-requires
-    shl-if3
-    returns-2
-    tell-kept-requires
-    same-length
-    returns-3)
+chosen-spec = tie.close (tie.spec plan-chosen-requires tell-plan-requires same-length returns)
