@@ -12,6 +12,5 @@ pub mod Calls
 pub mod Accepted
 pub mod Unchanged
 pub mod Plan
-pub mod Told
 pub mod Promise
 pub mod CarryOut

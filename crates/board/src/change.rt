@@ -7,7 +7,7 @@ use crate::planned::plan_recost;
 use crate::planned::plan_withdraw;
 use promises::Answer;
 use upkeep::ROW;
-use upkeep::told_next;
+use upkeep::tell_planned;
 use zorder::COSTS;
 ghost use mathlib.Core.List.{map};
 ghost use Rattle.model.specs.Calls as calls;
@@ -19,16 +19,8 @@ fn tell_plan(m: &[u8], p: Plan, rows: &mut [[u16; ROW]])
     requires { ⌜ TellAsked p (now m) (now rows) ⌝ }
     ensures { λ _. ⌜ Tells p (now (m .entry)) (now (rows .entry)) (now (rows .exit)) ⌝ }
 {
-    let t = p.telling;
-    let mut at = 0;
-    let mut k = 0;
-    while k < p.count {
-        let s = told_next(m, t, at);
-        let row = s.row;
-        rows[k] = row;
-        at = s.next;
-        k += 1;
-    }
+    let telling = p.telling;
+    tell_planned(m, telling, p.count, rows);
 }
 
 pub fn enter(m: &mut [u8], number: u16, costs: [u16; COSTS], rows: &mut [[u16; ROW]]) -> Answer

@@ -1,3 +1,5 @@
 -- What the walks share.
 pub mod Shared
+pub mod Filled
 pub mod Passed
+pub mod Asked

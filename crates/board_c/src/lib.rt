@@ -2,6 +2,7 @@
 // None has a `requires`: they refuse. Whatever has a reference to rows is proved by a walk of its MIR, by hand.
 mod answer;
 mod change;
+mod lists;
 mod load;
 
 pub use answer::Answer;
@@ -9,4 +10,8 @@ pub use answer::Costs;
 pub use change::dolzhev_enter;
 pub use change::dolzhev_recost;
 pub use change::dolzhev_withdraw;
+pub use lists::dolzhev_band;
+pub use lists::dolzhev_chosen;
+pub use lists::dolzhev_list;
+pub use lists::dolzhev_on_k;
 pub use load::dolzhev_load;

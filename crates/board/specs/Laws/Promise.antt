@@ -16,10 +16,10 @@ use Rattle.promises.specs.Answers.{answerOf, numberOf, detailOf, counted, told,
 use Rattle.promises.specs.Promise.{Left, ChangePromise}
 use Rattle.promises.specs.declared.Answer.{Answer}
 use Rattle.upkeep.specs.Telling.{toldRows}
+use Rattle.upkeep.specs.Laws.Telling.{length-none}
 use Rattle.listing.specs.Laws.Promise.{map-drop}
 use Rattle.board.specs.Change.{Made}
 use Rattle.board.specs.Plan.{CarriedOut, Planned, Tells, answerIn}
-use Rattle.board.specs.Laws.Told.{no-rows}
 use Rattle.board.specs.declared.plan.Plan.{Plan}
 
 module _ {x : calls.Change} {m m' : List ℕ} {lent : ℕ} {p : Plan} (plan : Planned x m lent p) (out : CarriedOut p m m') where
@@ -44,7 +44,7 @@ module _ {x : calls.Change} {m m' : List ℕ} {lent : ℕ} {p : Plan} (plan : Pl
         let zero-count : p .count ≡ 0 = plan .counts ∙ ap (λ (i : ℕ). counted i (length (changeNotice (boardIn m) x))) e in
         tells
         ∙ ap₂ (λ (new : List (List ℕ)) (i : ℕ). map resultRow new ++ drop i rows)
-        (no-rows (toldRows (p .telling) m) (plan .rows ∙ zero-count)) zero-count
+        (length-none (toldRows (p .telling) m) (plan .rows ∙ zero-count)) zero-count
 
     plan-tells : (k : ℕ) → numberOf (p .verdict) ≡ k → rows' ≡ told k (changeNotice (boardIn m) x) rows
     unfolding told counted
