@@ -29,7 +29,6 @@ use denote.Ref.{RefT}
 use denote.Slice.{sliceVal, slice-vals, mut-slice-tells, MutSlice, ShrSlice, Room, finally}
 use denote.Steps.{owned, nothing}
 use denote.Struct.Laws as LL
-use denote.Enum.Laws as EL
 use denote.Signature.{plain}
 use denote.Triple.Entry.{onEntry}
 use denote.Triple.Spec.{Meets, tripleOf}
@@ -38,11 +37,6 @@ use denote.Triple.Call.{calls-at}
 use denote.Triple.Table.{entered, cited}
 use denote.Triple.Walked.{says, needs, Stays, stay-none, gave-slice, walkOf, goes-none, goes-gave-slice, Walks, ends-at, walked, walk-meets}
 use denote.Exit.{yes}
-use Rattle.promises.proofs.Verdict as Vd
-use Rattle.promises.proofs.Verdict.Laws as Vd′
-use Rattle.upkeep.specs.Telling.{TellingAsked, filledRows}
-use Rattle.upkeep.proofs.telling.Telling as Y
-use Rattle.upkeep.proofs.telling.Telling.Laws as Y′
 use Rattle.board.specs.Plan.{CarriedOut}
 use Rattle.board.specs.declared.plan.Plan.{Plan}
 use Rattle.board.proofs.plan.Plan as P
@@ -52,11 +46,9 @@ use Rattle.board.proofs.carry_out.Symbol as carry-out-def
 use Rattle.board.proofs.carry_out.Symbol.{name as #board·carry-out}
 use Rattle.board.proofs.carry_out.Met as carry-out-thm
 use Rattle.rows.specs.declared.Row.{Row}
-use Rattle.rows.specs.Rows.{rowNumbers}
 use Rattle.rows.proofs.Walk.{envOf, free-all, returned}
 use Rattle.rows.proofs.Lent.{at-rows}
 use Rattle.rows.proofs.Row as T
-use Rattle.rows.proofs.fill as fill
 use Rattle.rows.proofs.fill.Symbol as fill-def
 use Rattle.rows.proofs.fill.Symbol.{name as #rows·fill}
 use Rattle.rows.proofs.fill.Met as fill-thm
@@ -64,8 +56,8 @@ use Rattle.board_c.specs.Exported.{Handed, DoneAsked, Done}
 use Rattle.board_c.specs.declared.answer.Answer.{Answer}
 use Rattle.board_c.proofs.answer.Answer as N
 use Rattle.board_c.proofs.answer.Answer.Laws as N′
-use Rattle.board_c.proofs.Shared.{at-list, LentShared, shares-out, shares-back, ended, last-list}
-use Rattle.board_c.proofs.answer.handed as handed
+use Rattle.board_c.proofs.Shared.{at-list, shares-out, shares-back, ended, last-list}
+use Rattle.board_c.proofs.Filled.{FillC, HandC, calls-fill, calls-handed}
 use Rattle.board_c.proofs.answer.handed.Symbol as handed-def
 use Rattle.board_c.proofs.answer.handed.Symbol.{name as #board-c·answer·handed}
 use Rattle.board_c.proofs.answer.handed.Met as handed-thm
@@ -77,16 +69,9 @@ use Rattle.board_c.proofs.change.done.Code as code
 abbrev stayed : Stays (f.ended .signature .params) (f.ended .kept)
 stayed = (gave-slice (0 ∷ []) tt (plain (λ _. u8)), (stay-none (λ _. P.the-row) yes, (gave-slice (1 ∷ []) tt (plain (λ _. T.the-row)), tt)))
 
--- the contracts that the proof cites
-module _ {M : Type 1} (𝓤 : URA M) (H : Heap 𝓤) (A : Atoms 𝓤) (mem : Memory → SProp 𝓤) (run : Routine → Fun 𝓤) where
-  abbrev Fill : Contract 𝓤
-  Fill = tripleOf 𝓤 H A fill.signature (fill.spec 𝓤 H A mem run)
-
-  abbrev CarryOut : Contract 𝓤
-  CarryOut = tripleOf 𝓤 H A carry-out.signature (carry-out.spec 𝓤 H A mem run)
-
-  abbrev HandOn : Contract 𝓤
-  HandOn = tripleOf 𝓤 H A handed.signature (handed.spec 𝓤 H A mem run)
+-- the contract of `carry_out`
+abbrev CarryOut : {M : Type 1} (𝓤 : URA M) (H : Heap 𝓤) (A : Atoms 𝓤) (mem : Memory → SProp 𝓤) (run : Routine → Fun 𝓤) → Contract 𝓤
+CarryOut 𝓤 H A mem run = tripleOf 𝓤 H A carry-out.signature (carry-out.spec 𝓤 H A mem run)
 
 module _ {M : Type 1} (𝓤 : URA M) (H : Heap 𝓤) (A : Atoms 𝓤) (W : Given 𝓤 H A) (mem : Memory → SProp 𝓤) (run : Routine → Fun 𝓤) (κ κr : Lft) (q qr : Share) (b o br or : ℕ) (γ γr : GName) (m : List ℕ) (p : Plan) (ys : List Row) where
   abbrev s : Val
@@ -119,19 +104,7 @@ module _ {M : Type 1} (𝓤 : URA M) (H : Heap 𝓤) (A : Atoms 𝓤) (W : Given
       nothing ! $ move ! (2 ∷ 0 ∷ []) $ fjoin ! $ owned ! P.the-row (Is P.the-row) (LL.makes P.the-type P′.the-plain 𝓤 H A) p _ p-is $ fjoin ! $ move ! (1 ∷ 0 ∷ []) $ fjoin ! $
       owned ! N.the-row (Is N.the-row) (LL.makes N.the-type N′.the-plain 𝓤 H A) r _ is $ move ! (1 ∷ 0 ∷ []) $ done !
 
-  -- what the callees' triples bind outside, and that the caller has what they ask
-  abbrev to-fill : ℕ → GName → Fill 𝓤 H A mem run .Ghost
-  to-fill ν δ = (((κr, (ν ∷ [], tt)), (qr, (fullShare, tt)), tt, (at-rows br or γr ys, (at-list u8 b o δ m, (p .telling, (p .count, tt)))), (sr ∷ [], (s ∷ [], (LL.val Y.the-type Y′.the-laws (p .telling) ∷ [], (vint w64 (p .count) ∷ [], tt))))), tt)
-
-  goes-fill : (ν : ℕ) (δ : GName) → DoneAsked p m ys → Is P.the-row p (planned ∷ [])
-      → ent 𝓤 (⋆ 𝓤 H A (‵ (flft κr qr) ∷ ‵ (flft (ν ∷ []) fullShare) ∷ ‵ (ShrSlice (named 1) (ν ∷ []) u8 .own (at-list u8 b o δ m) (s ∷ [])) ∷ ‵ (MutSlice (named 1) κr T.the-row .own (at-rows br or γr ys) (sr ∷ [])) ∷ [])) (Fill 𝓤 H A mem run .pre (to-fill ν δ))
-  goes-fill ν δ asked p-is =
-      let fields = LL.owed P.the-type P′.the-laws p _ p-is in
-      qed W (‵ (flft κr qr) ∷ ‵ (flft (ν ∷ []) fullShare) ∷ ‵ (ShrSlice (named 1) (ν ∷ []) u8 .own (at-list u8 b o δ m) (s ∷ [])) ∷ ‵ (MutSlice (named 1) κr T.the-row .own (at-rows br or γr ys) (sr ∷ [])) ∷ []) ∵
-      says ! (asked .asked, asked .enough) $ nothing ! $ move ! (2 ∷ 0 ∷ []) $ join ! $ move ! (1 ∷ 0 ∷ []) $ join ! $ frame ! $
-      nothing ! $ owned ! usize (Is usize) (uint-makes 𝓤 H A W w64) (p .count) _ (fields .1 .0) $ fjoin ! $ owned ! Y.the-row (Is Y.the-row) (LL.makes Y.the-type Y′.the-plain 𝓤 H A) (p .telling) _ (fields .1 .1 .1 .1 .1 .0) $ fjoin ! $
-      move ! (1 ∷ 0 ∷ []) $ fjoin ! $ move ! (1 ∷ 0 ∷ []) $ fjoin ! $ done !
-
+  -- what its triple binds outside, and that the caller has what it asks
   abbrev to-carry : CarryOut 𝓤 H A mem run .Ghost
   to-carry = (((κ, tt), (q, tt), tt, (at-list u8 b o γ m, (p, tt)), (s ∷ [], (planned ∷ [], tt))), tt)
 
@@ -140,16 +113,7 @@ module _ {M : Type 1} (𝓤 : URA M) (H : Heap 𝓤) (A : Atoms 𝓤) (W : Given
       qed W (‵ (flft κ q) ∷ ‵ (MutSlice (named 0) κ u8 .own (at-list u8 b o γ m) (s ∷ [])) ∷ []) ∵ says ! (asked .able) $ nothing ! $ move ! (1 ∷ 0 ∷ []) $ join ! $ frame ! $
       nothing ! $ owned ! P.the-row (Is P.the-row) (LL.makes P.the-type P′.the-plain 𝓤 H A) p _ p-is $ fjoin ! $ move ! (1 ∷ 0 ∷ []) $ fjoin ! $ done !
 
-  abbrev to-hand : HandOn 𝓤 H A mem run .Ghost
-  to-hand = ((tt, tt, tt, (p .verdict, (p .count, (0, tt))), (EL.val Vd.the-type Vd′.the-laws (p .verdict) ∷ [], (vint w64 (p .count) ∷ [], (vint w64 0 ∷ [], tt)))), tt)
-
-  goes-hand : Is P.the-row p (planned ∷ []) → ent 𝓤 (emp 𝓤) (HandOn 𝓤 H A mem run .pre to-hand)
-  goes-hand p-is =
-      let fields = LL.owed P.the-type P′.the-laws p _ p-is in
-      qed W [] ∵ nothing ! $ nothing ! $ owned ! usize (Is usize) (uint-makes 𝓤 H A W w64) 0 _ (refl, lit< tt) $ fjoin ! $ owned ! usize (Is usize) (uint-makes 𝓤 H A W w64) (p .count) _ (fields .1 .0) $ fjoin ! $
-      owned ! Vd.the-row (Is Vd.the-row) (EL.makes Vd.the-type Vd′.the-plain 𝓤 H A) (p .verdict) _ (fields .0) $ fjoin ! $ nothing ! $ join ! $ done !
-
-  module _ (𝓣 : Tables 𝓤 H) (fm : FmC 𝓤 H (W .laws) (𝓣 .C)) (known-fill : Triple 𝓤 (𝓣 .C #rows·fill) (Fill 𝓤 H A mem run)) (known-carry : Triple 𝓤 (𝓣 .C #board·carry-out) (CarryOut 𝓤 H A mem run)) (known-handed : Triple 𝓤 (𝓣 .C #board-c·answer·handed) (HandOn 𝓤 H A mem run)) where
+  module _ (𝓣 : Tables 𝓤 H) (fm : FmC 𝓤 H (W .laws) (𝓣 .C)) (known-fill : Triple 𝓤 (𝓣 .C #rows·fill) (FillC 𝓤 H A mem run)) (known-carry : Triple 𝓤 (𝓣 .C #board·carry-out) (CarryOut 𝓤 H A mem run)) (known-handed : Triple 𝓤 (𝓣 .C #board-c·answer·handed) (HandC 𝓤 H A mem run)) where
     walk : Room u8 (length m) → Room T.the-row (length ys) → Is P.the-row p (planned ∷ []) → DoneAsked p m ys
         → ent 𝓤 (onEntry 𝓤 H A f.signature (κ, (κr, tt)) (q, (qr, tt)) a vals) (WpFn 𝓤 H (𝓣 .C) (𝓣 .Λ) code.function (s ∷ planned ∷ sr ∷ []) Post)
     walk room r-room p-is asked =
@@ -166,34 +130,29 @@ module _ {M : Type 1} (𝓤 : URA M) (H : Heap 𝓤) (A : Atoms 𝓤) (W : Given
         move ! (24 ∷ []) $ split ! $ move ! (1 ∷ []) $ split ! $ move ! (1 ∷ []) $ drop ! $ move ! (3 ∷ 1 ∷ []) $
         shares-out u8 κ q b o γ m (named 0) (named 1) (s ∷ []) ! tt room (λ ν δ.
         -- `fill`
-        move ! (3 ∷ 0 ∷ 1 ∷ 4 ∷ []) $ group ! 4 $ use1 W (raw (Fill 𝓤 H A mem run .pre (to-fill ν δ))) (goes-fill ν δ asked p-is) $
+        move ! (3 ∷ 0 ∷ 1 ∷ 4 ∷ []) $ calls-fill 𝓤 H A mem run (ν ∷ []) κr fullShare qr b o br or δ γr m ys (p .telling) (p .count) ! fm known-fill (asked .asked) (asked .enough) (LL.owed P.the-type P′.the-laws p _ p-is .1 .1 .1 .1 .1 .0) (LL.owed P.the-type P′.the-laws p _ p-is .1 .0 .1)
         -- [what it asks; the lender's part; _10; …]
-        calls-at ! fm (Fill 𝓤 H A mem run) known-fill (to-fill ν δ)
-        (and-then ! (load ! (from ! (stop !)) (look ! 10 refl)) (and-then ! (load ! (from ! (stop !)) (look ! 6 refl)) (and-then ! (load ! (from ! (fld ! refl (stop !))) (look-in ! 18 (sub ! 5 refl (whole !)))) (and-then ! (load ! (from ! (fld ! refl (stop !))) (look-in ! 18 (sub ! 1 refl (whole !)))) (no-more !))))) (λ w.
-        ended fill.ended (fill.clauses 𝓤 H A mem run) ! tt (to-fill ν δ) w (λ r ws. map rowNumbers (ws .0) ≡ filledRows (p .telling) m (p .count) (map rowNumbers ys)) (λ r ws. id⊢ 𝓤 _) (λ r ws e is.
-        last-list ! T.the-row γr ys (ws .0) _ (λ lr. land ! (from ! (stop !)) (init ! 16 refl (nothing-lawful 𝓤 H A W .typed tt _ is .0)) $ move ! (1 ∷ []) $ drop ! $
-        move ! (1 ∷ []) $ use1 W (‵ (flft κr qr) ⊛ (‵ (flft (ν ∷ []) fullShare) ⊛ ‵ ftrue)) (id⊢ 𝓤 _) $ split ! $ move ! (1 ∷ []) $ split ! $ move ! (0 ∷ 4 ∷ []) $ shares-back u8 κ q b o γ m (named 0) (named 1) [] ! tt ν room $
-        -- [what the memory owns; its token; true; the rows' token; the rows' last list; _10; …]
-        assigns ! (addr ! (from ! (fld ! refl (hop ! (look-in ! 23 (sub ! 0 refl (whole !))) (stop !))))) (from ! (stop !)) (init ! 7 refl (tt, tt)) $
-        assigns ! (agg ! (and-then ! (load ! (from ! (stop !)) (look ! 7 refl)) (and-then ! (load ! (from ! (fld ! refl (stop !))) (look-in ! 23 (sub ! 1 refl (whole !)))) (no-more !)))) (from ! (stop !)) (init ! 5 refl (tt, (tt, (record { fits = room .0 }, tt)))) $
+        (and-then ! (load ! (from ! (stop !)) (look ! 10 refl)) (and-then ! (load ! (from ! (stop !)) (look ! 6 refl)) (and-then ! (load ! (from ! (fld ! refl (stop !))) (look-in ! 18 (sub ! 5 refl (whole !)))) (and-then ! (load ! (from ! (fld ! refl (stop !))) (look-in ! 18 (sub ! 1 refl (whole !)))) (no-more !))))) (λ w zs e lr unit.
+        -- [the rows' token; the other; the rows' last list; the lender's part; _10; …]
+        land ! (from ! (stop !)) (init ! 16 refl unit) $ move ! (1 ∷ 3 ∷ []) $ shares-back u8 κ q b o γ m (named 0) (named 1) [] ! tt ν room $
+        -- [what the memory owns; its token; the rows' token; their last list; _10; …]
+        assigns ! (addr ! (from ! (fld ! refl (hop ! (look-in ! 22 (sub ! 0 refl (whole !))) (stop !))))) (from ! (stop !)) (init ! 6 refl (tt, tt)) $
+        assigns ! (agg ! (and-then ! (load ! (from ! (stop !)) (look ! 6 refl)) (and-then ! (load ! (from ! (fld ! refl (stop !))) (look-in ! 22 (sub ! 1 refl (whole !)))) (no-more !)))) (from ! (stop !)) (init ! 4 refl (tt, (tt, (record { fits = room .0 }, tt)))) $
         -- `carry_out`
         move ! (1 ∷ 0 ∷ []) $ use2 W (raw (CarryOut 𝓤 H A mem run .pre to-carry)) (goes-carry asked p-is) $
-        calls-at ! fm (CarryOut 𝓤 H A mem run) known-carry to-carry (and-then ! (load ! (from ! (stop !)) (look ! 4 refl)) (and-then ! (load ! (from ! (stop !)) (look ! 20 refl)) (no-more !))) (λ w₁.
-        ended carry-out.ended (carry-out.clauses 𝓤 H A mem run) ! tt to-carry w₁ (λ r ws. CarriedOut p m (ws .0)) (λ r ws. id⊢ 𝓤 _) (λ r₁ ws₁ e₁ is₁.
-        last-list ! u8 γ m (ws₁ .0) _ (λ l. land ! (from ! (stop !)) (store ! 18 refl (nothing-lawful 𝓤 H A W .typed tt _ is₁ .0)) $
-        -- `handed`
-        use0 W (raw (HandOn 𝓤 H A mem run .pre to-hand)) (goes-hand p-is) $
-        calls-at ! fm (HandOn 𝓤 H A mem run) known-handed to-hand (and-then ! (load ! (from ! (fld ! refl (stop !))) (look-in ! 23 (sub ! 0 refl (whole !)))) (and-then ! (load ! (from ! (fld ! refl (stop !))) (look-in ! 23 (sub ! 1 refl (whole !)))) (and-then ! (lit ! tt) (no-more !)))) (λ w₂.
-        returned handed.ended (handed.clauses 𝓤 H A mem run) ! tt to-hand w₂ (λ r. Handed (p .verdict) (p .count) 0 r) (λ r e. id⊢ 𝓤 _) (λ r₂ e₂ is₂.
-        land ! (from ! (stop !)) (init ! 27 refl (LL.lawful N.the-type N′.the-laws 𝓤 H A W .typed r₂ _ is₂ .0)) $
-        move ! (0 ∷ 2 ∷ 4 ∷ []) $ drop ! $ drop ! $ drop ! $
-        -- [the memory's last list; its token; the rows' token; their last list; _10; …]
+        calls-at ! fm (CarryOut 𝓤 H A mem run) known-carry to-carry (and-then ! (load ! (from ! (stop !)) (look ! 3 refl)) (and-then ! (load ! (from ! (stop !)) (look ! 19 refl)) (no-more !))) (λ w₁.
+        ended carry-out.ended (carry-out.clauses 𝓤 H A mem run) ! tt to-carry w₁ (λ r ws. CarriedOut p m (ws .0)) (λ r ws. id⊢ 𝓤 _) (λ r₁ ws e₁ is₁.
+        last-list ! u8 γ m (ws .0) _ (λ l. land ! (from ! (stop !)) (store ! 17 refl (nothing-lawful 𝓤 H A W .typed tt _ is₁ .0)) $ move ! (1 ∷ []) $ drop ! $
+        -- [the memory's last list; its token; the rows' token; their last list; _10; …]: `handed`
+        calls-handed 𝓤 H A mem run (p .verdict) (p .count) 0 ! fm known-handed (LL.owed P.the-type P′.the-laws p _ p-is .0) (LL.owed P.the-type P′.the-laws p _ p-is .1 .0 .1) (lit< tt)
+        (and-then ! (load ! (from ! (fld ! refl (stop !))) (look-in ! 21 (sub ! 0 refl (whole !)))) (and-then ! (load ! (from ! (fld ! refl (stop !))) (look-in ! 21 (sub ! 1 refl (whole !)))) (and-then ! (lit ! tt) (no-more !)))) (λ w₂ r₂ e₂ is₂.
+        land ! (from ! (stop !)) (init ! 24 refl (LL.lawful N.the-type N′.the-laws 𝓤 H A W .typed r₂ _ is₂ .0)) $
         returns ! (look ! 24 refl) $ forget ! 4 refl $ forget ! 6 refl $ forget ! 8 refl $ forget ! 10 refl $ forget ! 12 refl $ forget ! 14 refl $ forget ! 16 refl $ forget ! 18 refl $ forget ! 20 refl $ forget ! 22 refl $ forget ! 24 refl $
         move ! (24 ∷ 25 ∷ 22 ∷ 23 ∷ 20 ∷ 21 ∷ 18 ∷ 19 ∷ 16 ∷ 17 ∷ 14 ∷ 15 ∷ 12 ∷ 13 ∷ 10 ∷ 11 ∷ 8 ∷ 9 ∷ 6 ∷ 7 ∷ 4 ∷ 5 ∷ []) $ free-all ! (envOf 𝓤 H (code.function .locals) (l₀ ∷ l₁ ∷ l₂ ∷ l₃ ∷ l₄ ∷ l₅ ∷ l₆ ∷ l₇ ∷ l₈ ∷ l₉ ∷ l₁₀ ∷ [])) $
         move ! (1 ∷ []) $ use1 W (‵ (flft κ q) ⊛ ‵ ftrue) (id⊢ 𝓤 _) $ split ! $ keep ! (0 ∷ 3 ∷ 2 ∷ 4 ∷ []) $
-        by ! (exits r₂ w₂ (ws₁ .0) (ws .0) (record { tells = e; out = e₁; handed = e₂ }) l lr p-is is₂)))))))))))))))))))))
+        by ! (exits r₂ w₂ (ws .0) zs (record { tells = e; out = e₁; handed = e₂ }) l lr p-is is₂))))))))))))))))))
 
-module _ {M : Type 1} (𝓤 : URA M) (H : Heap 𝓤) (A : Atoms 𝓤) (W : Given 𝓤 H A) (mem : Memory → SProp 𝓤) (run : Routine → Fun 𝓤) (𝓣 : Tables 𝓤 H) (known-fill : Triple 𝓤 (𝓣 .C #rows·fill) (Fill 𝓤 H A mem run)) (known-carry : Triple 𝓤 (𝓣 .C #board·carry-out) (CarryOut 𝓤 H A mem run)) (known-handed : Triple 𝓤 (𝓣 .C #board-c·answer·handed) (HandOn 𝓤 H A mem run)) where
+module _ {M : Type 1} (𝓤 : URA M) (H : Heap 𝓤) (A : Atoms 𝓤) (W : Given 𝓤 H A) (mem : Memory → SProp 𝓤) (run : Routine → Fun 𝓤) (𝓣 : Tables 𝓤 H) (known-fill : Triple 𝓤 (𝓣 .C #rows·fill) (FillC 𝓤 H A mem run)) (known-carry : Triple 𝓤 (𝓣 .C #board·carry-out) (CarryOut 𝓤 H A mem run)) (known-handed : Triple 𝓤 (𝓣 .C #board-c·answer·handed) (HandC 𝓤 H A mem run)) where
   done-walks : Walks 𝓤 H A f.ended stayed (WpFn 𝓤 H (𝓣 .C) (𝓣 .Λ) code.function) (f.clauses 𝓤 H A mem run)
   done-walks = walked 𝓤 H A f.ended stayed (f.clauses 𝓤 H A mem run) (WpFn 𝓤 H (𝓣 .C) (𝓣 .Λ) code.function)
       (λ κs. (slice-vals, (LL.vals P.the-type P′.the-laws, (slice-vals, tt)))) (λ κs. (mut-slice-tells (named 0) (κs .0) u8, (LL.tells P.the-type P′.the-laws, (mut-slice-tells (named 1) (κs .1 .0) T.the-row, tt))))
@@ -212,6 +171,6 @@ done-spec 𝓤 H 𝓜 𝓖 𝓡 =
     entered 𝓤 H (tripleOf 𝓤 H (𝓖 .A) f.signature (f.spec 𝓤 H (𝓖 .A) (𝓜 .mem) (𝓡 .run)))
     (tables 𝓤 H 𝓜 𝓡 code.env .C) (tables 𝓤 H 𝓜 𝓡 code.env .Λ) #board-c·change·done code.function (code.unfolded 𝓤 H 𝓜 𝓡)
     (done-meets 𝓤 H (𝓖 .A) (givenOf 𝓤 H 𝓜 𝓖) (𝓜 .mem) (𝓡 .run) (tablesOf 𝓤 H 𝓜 (tables 𝓤 H 𝓜 𝓡 code.env))
-    (cited 𝓤 H (Fill 𝓤 H (𝓖 .A) (𝓜 .mem) (𝓡 .run)) 𝓜 𝓡 code.env #rows·fill fill-def.routine code.calls-rows·fill (fill-thm.met 𝓤 H 𝓜 𝓖 𝓡))
+    (cited 𝓤 H (FillC 𝓤 H (𝓖 .A) (𝓜 .mem) (𝓡 .run)) 𝓜 𝓡 code.env #rows·fill fill-def.routine code.calls-rows·fill (fill-thm.met 𝓤 H 𝓜 𝓖 𝓡))
     (cited 𝓤 H (CarryOut 𝓤 H (𝓖 .A) (𝓜 .mem) (𝓡 .run)) 𝓜 𝓡 code.env #board·carry-out carry-out-def.routine code.calls-board·carry-out (carry-out-thm.met 𝓤 H 𝓜 𝓖 𝓡))
-    (cited 𝓤 H (HandOn 𝓤 H (𝓖 .A) (𝓜 .mem) (𝓡 .run)) 𝓜 𝓡 code.env #board-c·answer·handed handed-def.routine code.calls-board-c·answer·handed (handed-thm.met 𝓤 H 𝓜 𝓖 𝓡)))
+    (cited 𝓤 H (HandC 𝓤 H (𝓖 .A) (𝓜 .mem) (𝓡 .run)) 𝓜 𝓡 code.env #board-c·answer·handed handed-def.routine code.calls-board-c·answer·handed (handed-thm.met 𝓤 H 𝓜 𝓖 𝓡)))
