@@ -3,7 +3,7 @@
 --     clausesOf, PlanOf    what they ensure, and the plan's contract, by the list that is asked for
 --     asked-meets          the MIR meets the contract
 -- Assumes `Given`.
-use mathlib.Core.Path.{_≡_, refl, ap, subst}
+use mathlib.Core.Path.{_≡_, refl, ap}
 use Prim.Native.Nat.{ℕ, _<_, _^_}
 use mathlib.Core.List.{[], _∷_, List}
 use lib.Dec.{lit<}
@@ -42,7 +42,6 @@ use denote.Triple.Walked.{says, Stays, stay-none, stay-none-slice, gave-slice, w
 use denote.Exit.{yes}
 use Rattle.model.specs.Calls.{Query}
 use Rattle.upkeep.specs.Planned.{QueryTold}
-use Rattle.query.specs.declared.plan.QueryPlan.{QueryPlan}
 use Rattle.query.proofs.plan.QueryPlan as Q
 use Rattle.query.proofs.plan.QueryPlan.Laws as Q′
 use Rattle.query.proofs.plan_band as plan

@@ -2,4 +2,5 @@
 pub mod Shared
 pub mod Filled
 pub mod Passed
+pub mod Costed
 pub mod Asked

@@ -38,7 +38,6 @@ use denote.Triple.Walked.{says, Stays, stay-none, gave-slice, walkOf, goes-none,
 use denote.Exit.{yes}
 use Rattle.model.specs.Calls as calls
 use Rattle.board.specs.Plan.{Planned}
-use Rattle.board.specs.declared.plan.Plan.{Plan}
 use Rattle.board.proofs.plan.Plan as P
 use Rattle.board.proofs.plan.Plan.Laws as P′
 use Rattle.board.proofs.plan_withdraw as plan
@@ -55,7 +54,7 @@ use Rattle.board_c.specs.declared.answer.Answer.{Answer}
 use Rattle.board_c.proofs.answer.Answer as N
 use Rattle.board_c.proofs.answer.Answer.Laws as N′
 use Rattle.board_c.proofs.Shared.{at-list, shares-out, shares-back}
-use Rattle.board_c.proofs.Passed.{planVal, DoneC, to-done, calls-done}
+use Rattle.board_c.proofs.Passed.{DoneC, calls-done}
 use Rattle.board_c.proofs.change.done.Symbol as done-def
 use Rattle.board_c.proofs.change.done.Symbol.{name as #board-c·change·done}
 use Rattle.board_c.proofs.change.done.Met as done-thm
