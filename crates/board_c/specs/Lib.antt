@@ -1,0 +1,3 @@
+-- What the exported calls promise; then laws.
+pub mod Exported
+pub mod Laws

@@ -1,0 +1,17 @@
+// The public calls for C and Rust: rows are structs, costs come in a struct, and an answer is document 01's number and detail.
+// None has a `requires`: they refuse. Whatever has a reference to rows is proved by a walk of its MIR, by hand.
+mod answer;
+mod change;
+mod lists;
+mod load;
+
+pub use answer::Answer;
+pub use answer::Costs;
+pub use change::dolzhev_enter;
+pub use change::dolzhev_recost;
+pub use change::dolzhev_withdraw;
+pub use lists::dolzhev_band;
+pub use lists::dolzhev_chosen;
+pub use lists::dolzhev_list;
+pub use lists::dolzhev_on_k;
+pub use load::dolzhev_load;
