@@ -1,2 +1,3 @@
 -- Laws of the ranked rows.
 pub mod Placing
+pub mod Ranked

@@ -1,3 +1,4 @@
--- A row carried to its place; then that it is the row put in.
+-- A row carried to its place, and what is put in for a move; then the laws.
 pub mod Placing
+pub mod Ranked
 pub mod Laws

@@ -1,7 +1,7 @@
 -- `fill` meets its contract: a walk of its MIR, by hand. The borrow of the rows is opened once, before the loop, and closed once, after it. In a turn a row is had from `told_next` and `row_from`, and stored.
 -- Assumes nothing.
 use mathlib.Core.Path.{_≡_, refl, sym, _∙_, ap, subst}
-use Prim.Native.Nat.{ℕ, zero, suc, _+_, _-_, _*_, _<_, _≤_, _^_}
+use Prim.Native.Nat.{ℕ, suc, _+_, _-_, _*_, _<_, _≤_, _^_}
 use native.Mathlib.Omega.{arith}
 use mathlib.Core.Bool.{Bool}
 use mathlib.Core.List.{[], _∷_, List, map, map-id}
