@@ -6,7 +6,7 @@ use lib.ListN.{length}
 use Rattle.model.specs.Moves as model
 use Rattle.model.specs.Calls as calls
 use Rattle.promises.specs.Answers.{numberOf, detailOf, resultRow}
-use Rattle.promises.specs.Promise.{LoadPromise, ChangePromise}
+use Rattle.promises.specs.Promise.{LoadPromise, ChangePromise, QueryPromise}
 use Rattle.promises.specs.declared.Verdict.{Verdict}
 use Rattle.upkeep.specs.Telling.{TellingAsked, filledRows}
 use Rattle.rows.specs.Rows.{rowNumbers}
@@ -37,6 +37,11 @@ pub record ChangeExported (x : calls.Change) (m : List ℕ) (lent : List Row) (r
   pub verdict : Verdict
   pub handed : Handed verdict (r .count) 0 r
   pub promise : ChangePromise x m (rowsOf lent) (record { verdict = verdict; count = r .count }) m' (rowsOf lent')
+
+pub record QueryExported (q : calls.Query) (m : List ℕ) (lent : List Row) (r : Answer) (lent' : List Row) : Type 0 where
+  pub verdict : Verdict
+  pub handed : Handed verdict (r .count) 0 r
+  pub promise : QueryPromise q m (rowsOf lent) (record { verdict = verdict; count = r .count }) (rowsOf lent')
 
 -- ---- a plan told and carried out
 

@@ -3,6 +3,7 @@
 mod answer;
 mod change;
 mod load;
+mod ranked;
 
 pub use answer::Answer;
 pub use answer::Costs;
@@ -10,3 +11,4 @@ pub use change::dolzhev_enter;
 pub use change::dolzhev_recost;
 pub use change::dolzhev_withdraw;
 pub use load::dolzhev_load;
+pub use ranked::dolzhev_rank;
