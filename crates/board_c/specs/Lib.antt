@@ -1,3 +1,4 @@
 -- What the exported calls promise; then laws.
 pub mod Exported
+pub mod Ranked
 pub mod Laws

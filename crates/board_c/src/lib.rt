@@ -4,6 +4,7 @@ mod answer;
 mod change;
 mod lists;
 mod load;
+mod ranked;
 
 pub use answer::Answer;
 pub use answer::Costs;
@@ -15,3 +16,4 @@ pub use lists::dolzhev_chosen;
 pub use lists::dolzhev_list;
 pub use lists::dolzhev_on_k;
 pub use load::dolzhev_load;
+pub use ranked::dolzhev_rank;
