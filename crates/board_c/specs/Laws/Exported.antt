@@ -36,8 +36,8 @@ module _ {x : calls.Change} {m : List ℕ} {lent : List Row} {p : Plan} (plan : 
         verdict = p .verdict;
         handed = record { number = d .handed .number; detail = d .handed .detail; count = refl; opened = d .handed .opened };
         promise =
-            plan-kept (subst (λ (n : ℕ). Planned x m n p) (sym long) plan)
-            (record { tells = d .tells ∙ filled-count (p .telling) m (map rowNumbers lent) (p .count) (plan .asked) (plan .rows) enough })
+            plan-kept (map rowNumbers lent) (subst (λ (n : ℕ). Planned x m n p) (sym long) plan)
+            (d .tells ∙ filled-count (p .telling) m (map rowNumbers lent) (p .count) (plan .asked) (plan .rows) enough)
             (d .out)
             (ap (λ (n : ℕ). record { verdict = p .verdict; count = n }) (d .handed .count));
       }
