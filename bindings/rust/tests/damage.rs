@@ -1,0 +1,227 @@
+//! Memory that nobody loaded and memory that somebody damaged: every call returns, answers 3 exactly where the independent
+//! check of the bytes says so, answers as on the board that stands there where they are sound after all, and writes nothing
+//! that it may not.
+use dolzhev::reference::against::{Against, Ask};
+use dolzhev::reference::draw::Draw;
+use dolzhev::reference::random::{Random, Shape};
+use dolzhev::reference::{layout, plain};
+use dolzhev::{calls, Call};
+use std::ops::Range;
+
+/// How many memories were sound and how many were not.
+#[derive(Default)]
+struct Seen {
+    sound: usize,
+    unsound: usize,
+}
+
+fn draw(seed: u64) -> Draw {
+    Draw { random: Random::new(seed), shape: Shape::Uniform, span: 8, growth: 50 }
+}
+
+/// One call of each kind, as good as blind.
+fn each_call(random: &mut Random) -> Vec<Call> {
+    let number = random.below(20) as u16;
+    let costs = std::array::from_fn(|i| if i < 2 { random.below(8) as u16 } else { 0 });
+    vec![
+        Call::Enter { number, costs },
+        Call::Withdraw { number },
+        Call::Recost { number, costs },
+        Call::List,
+        Call::Band(random.below(4)),
+        Call::Rank(1 + random.below(8)),
+        Call::OnK(1 + random.below(3)),
+        Call::Chosen(1 + random.below(6)),
+    ]
+}
+
+/// Every call on a copy of the bytes, and then load, which takes any.
+fn try_all(ask: Ask, bytes: &[u8], random: &mut Random, seen: &mut Seen) {
+    let sound = layout::sound(bytes).is_some();
+    for call in each_call(random) {
+        let mut against = Against::over(ask, bytes);
+        let lent = random.one_of(&[0, 3, 17, 40]);
+        let answer = against.check(&call, lent).answer;
+        assert_eq!(answer.number == 3, !sound, "{call:?}");
+        assert!(answer.number != 0 || against.is_sound(), "{call:?} left memory that is not sound");
+    }
+    let rows = vec![];
+    let mut against = Against::over(ask, bytes);
+    assert_eq!(against.check(&Call::Load { c: 17, d: 2, rows }, 0).answer.number == 0, bytes.len() >= 2112);
+    if sound {
+        seen.sound += 1;
+    } else {
+        seen.unsound += 1;
+    }
+}
+
+/// Nothing but random bytes, of any length.
+#[test]
+fn random_bytes() {
+    let mut random = Random::new(11);
+    let mut seen = Seen::default();
+    let lengths = [0, 1, 2, 3, 5, 6, 15, 16, 17, 100, 2047, 2048, 2049, 2112, 4000];
+    for round in 0..600 {
+        let mut bytes = vec![0; lengths[round % lengths.len()]];
+        random.fill(&mut bytes);
+        try_all(calls::ask, &bytes, &mut random, &mut seen);
+    }
+    assert!(seen.unsound > 500);
+}
+
+/// Random bytes with fields that are nearly right, so that every step of the decision is reached.
+fn nearly(random: &mut Random) -> Vec<u8> {
+    let c = random.one_of(&[16, 16, 16, 17, 15]);
+    let mut bytes = vec![0; 64 * c + 1024];
+    random.fill(&mut bytes);
+    let n = random.below(5);
+    bytes[..2].copy_from_slice(&(c as u16).to_le_bytes());
+    bytes[2] = random.one_of(&[2, 2, 2, 3, 4, 5]);
+    bytes[4..6].copy_from_slice(&(n as u16).to_le_bytes());
+    for (place, number) in random.numbers(c, n).into_iter().enumerate() {
+        bytes[16 + 2 * place..][..2].copy_from_slice(&number.to_le_bytes());
+        bytes[16 + 2 * c + place] = if place == 0 { 1 } else { random.one_of(&[0, 0, 0, 0, 0, 0, 1]) };
+        bytes[16 + 3 * c + usize::from(number)] = random.one_of(&[0, 1, 1, 2]);
+        let costs = &mut bytes[16 + 5 * c + 16 * usize::from(number)..][..8];
+        for (i, byte) in costs.iter_mut().enumerate() {
+            *byte = if i % 2 == 0 { (place + random.below(3)) as u8 } else { 0 };
+        }
+    }
+    bytes
+}
+
+#[test]
+fn nearly_right_bytes() {
+    let mut random = Random::new(12);
+    let mut seen = Seen::default();
+    for _ in 0..6000 {
+        let bytes = nearly(&mut random);
+        try_all(calls::ask, &bytes, &mut random, &mut seen);
+    }
+    assert!(seen.sound > 500 && seen.unsound > 500, "{} sound, {} not", seen.sound, seen.unsound);
+}
+
+/// A board that has seen changes, in memory that was garbage.
+fn used_board(c: usize, d: usize, n: usize, seed: u64) -> Vec<u8> {
+    let mut draw = draw(seed);
+    let mut bytes = vec![0; 64 * c + 1024 + 40];
+    draw.random.fill(&mut bytes);
+    let mut against = Against::over(calls::ask, &bytes);
+    against.check(&draw.load(c, d, n), 0);
+    for _ in 0..30 {
+        let board = against.model().board.clone().unwrap();
+        against.check(&draw.change(&board), c + 1);
+    }
+    against.memory().to_vec()
+}
+
+fn flipped(bytes: &[u8], at: usize, random: &mut Random) -> Vec<u8> {
+    let mut damaged = bytes.to_vec();
+    damaged[at] = match random.below(3) {
+        0 => damaged[at] ^ 1 << random.below(8),
+        1 => random.one_of(&[0, 1, 2, 3, 255]),
+        _ => random.word() as u8,
+    };
+    damaged
+}
+
+/// The bytes of a board of size c that may decide: head, numbers, heights, marks, costs.
+fn fields(c: usize) -> Vec<usize> {
+    (0..16 + 4 * c).chain(16 + 5 * c..16 + 21 * c).collect()
+}
+
+/// The bytes that the layout names as not in use whatever the board holds.
+fn unused(c: usize) -> Vec<usize> {
+    let blocks: [Range<usize>; 5] =
+        [3..4, 6..16, 16 + 4 * c..16 + 5 * c, 16 + 21 * c..16 + 23 * c, 16 + 23 * c..64 * c + 1064];
+    blocks.into_iter().flatten().collect()
+}
+
+fn damage_fields(ask: Ask, seed: u64) -> Seen {
+    let mut random = Random::new(seed);
+    let mut seen = Seen::default();
+    for (c, d, n) in [(16, 2, 12), (16, 3, 14), (17, 4, 13), (40, 2, 36)] {
+        let bytes = used_board(c, d, n, seed + d as u64);
+        for at in fields(c) {
+            try_all(ask, &flipped(&bytes, at, &mut random), &mut random, &mut seen);
+        }
+    }
+    seen
+}
+
+#[test]
+fn damaged_fields() {
+    let seen = damage_fields(calls::ask, 13);
+    assert!(seen.sound > 300 && seen.unsound > 300, "{} sound, {} not", seen.sound, seen.unsound);
+}
+
+#[test]
+fn damaged_fields_of_the_plain_board() {
+    let seen = damage_fields(plain::ask, 14);
+    assert!(seen.sound > 300 && seen.unsound > 300, "{} sound, {} not", seen.sound, seen.unsound);
+}
+
+/// Bytes not in use decide nothing.
+#[test]
+fn damaged_unused_bytes() {
+    let mut random = Random::new(15);
+    let mut seen = Seen::default();
+    for (c, d) in [(16, 2), (16, 4)] {
+        let bytes = used_board(c, d, 13, d as u64);
+        for at in unused(c) {
+            try_all(calls::ask, &flipped(&bytes, at, &mut random), &mut random, &mut seen);
+        }
+        assert_eq!(seen.unsound, 0, "a byte not in use made memory unsound");
+    }
+}
+
+/// Several bytes at once, and a whole field copied over another.
+#[test]
+fn much_damage() {
+    let mut random = Random::new(16);
+    let mut seen = Seen::default();
+    let bytes = used_board(16, 3, 14, 5);
+    let places = fields(16);
+    for _ in 0..1500 {
+        let mut damaged = bytes.clone();
+        for _ in 0..1 + random.below(4) {
+            damaged = flipped(&damaged, random.one_of(&places), &mut random);
+        }
+        let (from, to) = (16 + 2 * random.below(14), 16 + 2 * random.below(14));
+        if random.percent(30) {
+            damaged.copy_within(from..from + 2, to);
+        }
+        try_all(calls::ask, &damaged, &mut random, &mut seen);
+    }
+    assert!(seen.sound > 100 && seen.unsound > 100, "{} sound, {} not", seen.sound, seen.unsound);
+}
+
+/// A board in memory one byte too short is none; one with bytes to spare is as good.
+#[test]
+fn cut_and_longer_memory() {
+    let mut random = Random::new(17);
+    let mut seen = Seen::default();
+    let bytes = used_board(16, 2, 10, 6);
+    for length in [0, 16, 2000, 2047] {
+        try_all(calls::ask, &bytes[..length], &mut random, &mut seen);
+    }
+    assert_eq!((seen.sound, seen.unsound), (0, 4));
+    for length in [2048, 2049, 2088] {
+        try_all(calls::ask, &bytes[..length], &mut random, &mut seen);
+    }
+    assert_eq!((seen.sound, seen.unsound), (3, 4));
+}
+
+/// On a large board too: damage is found, and a call on what is sound answers right.
+#[test]
+fn damaged_large_board() {
+    let mut random = Random::new(18);
+    let mut seen = Seen::default();
+    let bytes = used_board(600, 3, 590, 7);
+    let places = fields(600);
+    for _ in 0..60 {
+        let damaged = flipped(&bytes, random.one_of(&places), &mut random);
+        try_all(calls::ask, &damaged, &mut random, &mut seen);
+    }
+    assert!(seen.sound > 5 && seen.unsound > 5, "{} sound, {} not", seen.sound, seen.unsound);
+}
