@@ -1,9 +1,9 @@
-//! Links the archives. `DOLZHEV_LIBS` names their folder; without it they stand in the repository's `target/staticlib`.
-//! `DOLZHEV_ARCHIVES` names them, where they are called otherwise.
+//! Links the archives that the file bindings/archives names. `DOLZHEV_LIBS` is their folder; without it, the repository's
+//! `target/staticlib`.
 use std::env;
 use std::path::PathBuf;
 
-const ARCHIVES: &str = "board_c zorder_c";
+const ARCHIVES: &str = include_str!("../archives");
 
 fn folder() -> PathBuf {
     match env::var_os("DOLZHEV_LIBS") {
@@ -13,12 +13,10 @@ fn folder() -> PathBuf {
 }
 
 fn main() {
-    println!("cargo::rerun-if-env-changed=DOLZHEV_LIBS");
-    println!("cargo::rerun-if-env-changed=DOLZHEV_ARCHIVES");
     let folder = folder();
+    println!("cargo::rerun-if-env-changed=DOLZHEV_LIBS");
     println!("cargo::rustc-link-search=native={}", folder.display());
-    let names = env::var("DOLZHEV_ARCHIVES").unwrap_or(ARCHIVES.to_string());
-    for name in names.split_whitespace() {
+    for name in ARCHIVES.split_whitespace() {
         let archive = folder.join(format!("lib{name}.a"));
         if !archive.is_file() {
             println!("cargo::error={} is missing: bindings/run builds it", archive.display());

@@ -15,10 +15,6 @@ struct Seen {
     unsound: usize,
 }
 
-fn draw(seed: u64) -> Draw {
-    Draw { random: Random::new(seed), shape: Shape::Uniform, span: 8, growth: 50 }
-}
-
 /// One call of each kind, as good as blind.
 fn each_call(random: &mut Random) -> Vec<Call> {
     let number = random.below(20) as u16;
@@ -103,7 +99,7 @@ fn nearly_right_bytes() {
 
 /// A board that has seen changes, in memory that was garbage.
 fn used_board(c: usize, d: usize, n: usize, seed: u64) -> Vec<u8> {
-    let mut draw = draw(seed);
+    let mut draw = Draw::new(seed, Shape::Uniform, 8, c);
     let mut bytes = vec![0; 64 * c + 1024 + 40];
     draw.random.fill(&mut bytes);
     let mut against = Against::over(calls::ask, &bytes);

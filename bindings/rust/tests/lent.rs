@@ -4,11 +4,11 @@ use dolzhev::reference::against::Against;
 use dolzhev::reference::draw::Draw;
 use dolzhev::reference::layout;
 use dolzhev::reference::node::Node;
-use dolzhev::reference::random::{Random, Shape};
+use dolzhev::reference::random::Shape;
 use dolzhev::{Call, Move};
 
 fn loaded(c: usize, d: usize, shape: Shape, n: usize, seed: u64) -> Against {
-    let mut draw = Draw { random: Random::new(seed), shape, span: 65536, growth: 50 };
+    let mut draw = Draw::new(seed, shape, 65536, c);
     let mut against = Against::over(calls::ask, &vec![0; 64 * c + 1024]);
     assert_eq!(against.check(&draw.load(c, d, n), 0).answer.number, 0);
     against

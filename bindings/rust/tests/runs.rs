@@ -21,14 +21,15 @@ struct Run {
 /// How often each refusal was answered.
 type Seen = [usize; 9];
 
-/// Who holds a list and sees notices only.
+/// Who read the list once and sees notices only; none before, and after the next load.
 #[derive(Default)]
 struct Holder(Option<Vec<Move>>);
 
 impl Holder {
     fn hear(&mut self, d: usize, call: &Call, rows: &[Row]) {
         match (call, &mut self.0) {
-            (Call::List, held) => *held = Some(rows.iter().map(moved).collect()),
+            (Call::Load { .. }, held) => *held = None,
+            (Call::List, held @ None) => *held = Some(rows.iter().map(moved).collect()),
             (Call::Enter { .. } | Call::Withdraw { .. } | Call::Recost { .. }, Some(held)) => follow(d, held, rows),
             _ => {}
         }
@@ -58,26 +59,37 @@ fn garbage(random: &mut Random, c: usize) -> Vec<u8> {
     bytes
 }
 
+/// The calls of a run, after its load; how long the holder followed.
+fn go_on(run: &Run, draw: &mut Draw, against: &mut Against, seen: &mut Seen) -> usize {
+    let mut holder = Holder::default();
+    let mut followed = 0;
+    for step in 0..run.steps {
+        let board = against.model().board.clone().expect("the load was accepted");
+        draw.growth = if step % (run.c / 2 + 16) < run.c / 4 + 8 { 25 } else { 75 };
+        let call = if holder.0.is_none() { Call::List } else { draw.call(&board) };
+        let foreseen = against.foresee(&call);
+        let lent = draw.lent(run.c, foreseen.rows.len());
+        let told = against.check_foreseen(&call, foreseen, lent);
+        seen[told.answer.number] += 1;
+        if told.answer.number == 0 {
+            holder.hear(board.d, &call, &told.rows);
+        }
+        if let (Some(held), Some(board)) = (&holder.0, &against.model().board) {
+            assert_eq!(*held, board.list, "after {call:?}");
+            followed += 1;
+        }
+    }
+    followed
+}
+
 fn play(ask: Ask, run: &Run, seed: u64) -> Seen {
-    let mut draw = Draw { random: Random::new(seed), shape: run.shape, span: run.span, growth: 50 };
+    let mut draw = Draw::new(seed, run.shape, run.span, run.c);
     let mut against = Against::over(ask, &garbage(&mut draw.random, run.c));
     let mut seen = [0; 9];
     seen[against.check(&Call::List, 5).answer.number] += 1;
     against.check(&draw.load(run.c, run.d, run.start), 0);
-    let mut holder = Holder::default();
-    for step in 0..run.steps {
-        draw.growth = if step / (run.c / 4 + 8) % 2 == 0 { 25 } else { 75 };
-        let board = against.model().board.clone().expect("the load was accepted");
-        let call = if step == 0 { Call::List } else { draw.call(&board) };
-        let foreseen = against.foresee(&call);
-        let lent = if step == 0 { run.c } else { draw.lent(run.c, foreseen.rows.len()) };
-        let told = against.check_foreseen(&call, foreseen, lent);
-        seen[told.answer.number] += 1;
-        if told.answer.number == 0 {
-            holder.hear(run.d, &call, &told.rows);
-        }
-        assert_eq!(holder.0, against.model().board.as_ref().map(|board| board.list.clone()), "after {call:?}");
-    }
+    let followed = go_on(run, &mut draw, &mut against, &mut seen);
+    assert!(followed > run.steps / 2, "the holder followed {followed} calls only");
     assert!(against.is_sound(), "the independent check after the run");
     seen
 }

@@ -1,21 +1,27 @@
 //! Calls drawn at random for a board as it stands: most can be accepted, each refusal comes up.
 use super::board::PlainBoard;
 use super::random::{costs, moves, Random, Shape};
-use crate::{Call, Costs, Move};
+use crate::{Call, Costs};
 
 pub struct Draw {
     pub random: Random,
-    pub shape: Shape,
-    pub span: usize,
+    shape: Shape,
+    span: usize,
+    /// The greatest C that the memory takes.
+    size: usize,
     /// Of a hundred changes, how many enter.
     pub growth: usize,
 }
 
 impl Draw {
+    pub fn new(seed: u64, shape: Shape, span: usize, size: usize) -> Self {
+        Draw { random: Random::new(seed), shape, span, size, growth: 50 }
+    }
+
     fn costs(&mut self, board: &PlainBoard, number: u16) -> Costs {
         let mut drawn = costs(&mut self.random, self.shape, board.d, self.span, usize::from(number), board.c);
         if self.random.percent(4) {
-            drawn[3] = 1 + self.random.below(9) as u16;
+            drawn[2 + self.random.below(2)] = 1 + self.random.below(9) as u16;
         }
         drawn
     }
@@ -87,21 +93,29 @@ impl Draw {
             2 => rows[place].number = c as u16,
             3 => rows.push(rows[place]),
             4 if d < 4 => rows[place].costs[3] = 1,
-            _ => c = 4096.max(c + 1),
+            _ => c = self.size + 1,
         }
         Call::Load { c, d, rows }
     }
 
-    /// A load of up to C rows that is accepted.
+    /// A load of n rows, at most C, that is accepted.
     pub fn load(&mut self, c: usize, d: usize, n: usize) -> Call {
-        let rows: Vec<Move> = moves(&mut self.random, self.shape, d, self.span, c, n);
+        let rows = moves(&mut self.random, self.shape, d, self.span, c, n);
         Call::Load { c, d, rows }
+    }
+
+    /// Any load that is accepted.
+    fn any_load(&mut self) -> Call {
+        let c = 16 + self.random.below(self.size - 15);
+        let (d, n) = (2 + self.random.below(3), self.random.below(c + 1));
+        self.load(c, d, n)
     }
 
     pub fn call(&mut self, board: &PlainBoard) -> Call {
         match self.random.below(100) {
-            0..=2 => self.bad_load(board),
-            3..=29 => self.query(board),
+            0 => self.any_load(),
+            1..=3 => self.bad_load(board),
+            4..=29 => self.query(board),
             _ => self.change(board),
         }
     }
