@@ -1,55 +1,13 @@
 //! Memory that nobody loaded and memory that somebody damaged: every call returns, answers 3 exactly where the independent
 //! check of the bytes says so, answers as on the board that stands there where they are sound after all, and writes nothing
 //! that it may not.
+use dolzhev::calls;
 use dolzhev::reference::against::{Against, Ask};
 use dolzhev::reference::draw::Draw;
+use dolzhev::reference::plain;
 use dolzhev::reference::random::{Random, Shape};
-use dolzhev::reference::{layout, plain};
-use dolzhev::{calls, Call};
+use dolzhev::reference::tries::{try_all, Seen};
 use std::ops::Range;
-
-/// How many memories were sound and how many were not.
-#[derive(Default)]
-struct Seen {
-    sound: usize,
-    unsound: usize,
-}
-
-/// One call of each kind, as good as blind.
-fn each_call(random: &mut Random) -> Vec<Call> {
-    let number = random.below(20) as u16;
-    let costs = std::array::from_fn(|i| if i < 2 { random.below(8) as u16 } else { 0 });
-    vec![
-        Call::Enter { number, costs },
-        Call::Withdraw { number },
-        Call::Recost { number, costs },
-        Call::List,
-        Call::Band(random.below(4)),
-        Call::Rank(1 + random.below(8)),
-        Call::OnK(1 + random.below(3)),
-        Call::Chosen(1 + random.below(6)),
-    ]
-}
-
-/// Every call on a copy of the bytes, and then load, which takes any.
-fn try_all(ask: Ask, bytes: &[u8], random: &mut Random, seen: &mut Seen) {
-    let sound = layout::sound(bytes).is_some();
-    for call in each_call(random) {
-        let mut against = Against::over(ask, bytes);
-        let lent = random.one_of(&[0, 3, 17, 40]);
-        let answer = against.check(&call, lent).answer;
-        assert_eq!(answer.number == 3, !sound, "{call:?}");
-        assert!(answer.number != 0 || against.is_sound(), "{call:?} left memory that is not sound");
-    }
-    let rows = vec![];
-    let mut against = Against::over(ask, bytes);
-    assert_eq!(against.check(&Call::Load { c: 17, d: 2, rows }, 0).answer.number == 0, bytes.len() >= 2112);
-    if sound {
-        seen.sound += 1;
-    } else {
-        seen.unsound += 1;
-    }
-}
 
 /// Nothing but random bytes, of any length.
 #[test]
@@ -94,7 +52,7 @@ fn nearly_right_bytes() {
         let bytes = nearly(&mut random);
         try_all(calls::ask, &bytes, &mut random, &mut seen);
     }
-    assert!(seen.sound > 500 && seen.unsound > 500, "{} sound, {} not", seen.sound, seen.unsound);
+    assert!(seen.sound > 500 && seen.unsound > 500, "{seen:?}");
 }
 
 /// A board that has seen changes, in memory that was garbage.
@@ -148,13 +106,13 @@ fn damage_fields(ask: Ask, seed: u64) -> Seen {
 #[test]
 fn damaged_fields() {
     let seen = damage_fields(calls::ask, 13);
-    assert!(seen.sound > 300 && seen.unsound > 300, "{} sound, {} not", seen.sound, seen.unsound);
+    assert!(seen.sound > 300 && seen.unsound > 300, "{seen:?}");
 }
 
 #[test]
 fn damaged_fields_of_the_plain_board() {
     let seen = damage_fields(plain::ask, 14);
-    assert!(seen.sound > 300 && seen.unsound > 300, "{} sound, {} not", seen.sound, seen.unsound);
+    assert!(seen.sound > 300 && seen.unsound > 300, "{seen:?}");
 }
 
 /// Bytes not in use decide nothing.
@@ -189,7 +147,7 @@ fn much_damage() {
         }
         try_all(calls::ask, &damaged, &mut random, &mut seen);
     }
-    assert!(seen.sound > 100 && seen.unsound > 100, "{} sound, {} not", seen.sound, seen.unsound);
+    assert!(seen.sound > 100 && seen.unsound > 100, "{seen:?}");
 }
 
 /// A board in memory one byte too short is none; one with bytes to spare is as good.
@@ -219,5 +177,5 @@ fn damaged_large_board() {
         let damaged = flipped(&bytes, random.one_of(&places), &mut random);
         try_all(calls::ask, &damaged, &mut random, &mut seen);
     }
-    assert!(seen.sound > 5 && seen.unsound > 5, "{} sound, {} not", seen.sound, seen.unsound);
+    assert!(seen.sound > 5 && seen.unsound > 5, "{seen:?}");
 }

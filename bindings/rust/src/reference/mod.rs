@@ -13,4 +13,5 @@ pub mod model;
 pub mod node;
 pub mod plain;
 pub mod random;
+pub mod tries;
 pub mod withdrawing;
