@@ -166,6 +166,20 @@ fn cut_and_longer_memory() {
     assert_eq!((seen.sound, seen.unsound), (3, 4));
 }
 
+/// More moves than C, where every number that could be read is in range, past the end of the memory if nobody looks.
+#[test]
+fn more_moves_than_the_board_takes() {
+    let mut random = Random::new(19);
+    let mut seen = Seen::default();
+    for n in [17u16, 100, 1015, 1017, u16::MAX] {
+        let mut bytes = vec![0; 2048];
+        bytes[..3].copy_from_slice(&[16, 0, 2]);
+        bytes[4..6].copy_from_slice(&n.to_le_bytes());
+        try_all(calls::ask, &bytes, &mut random, &mut seen);
+    }
+    assert_eq!((seen.sound, seen.unsound), (0, 5));
+}
+
 /// On a large board too: damage is found, and a call on what is sound answers right.
 #[test]
 fn damaged_large_board() {
