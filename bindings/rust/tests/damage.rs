@@ -2,12 +2,10 @@
 //! check of the bytes says so, answers as on the board that stands there where they are sound after all, and writes nothing
 //! that it may not.
 use dolzhev::calls;
-use dolzhev::reference::against::{Against, Ask};
-use dolzhev::reference::draw::Draw;
+use dolzhev::reference::against::Ask;
 use dolzhev::reference::plain;
-use dolzhev::reference::random::{Random, Shape};
-use dolzhev::reference::tries::{try_all, Seen};
-use std::ops::Range;
+use dolzhev::reference::random::Random;
+use dolzhev::reference::tries::{flipped, try_all, used_board, Seen};
 
 /// Nothing but random bytes, of any length.
 #[test]
@@ -55,47 +53,16 @@ fn nearly_right_bytes() {
     assert!(seen.sound > 500 && seen.unsound > 500, "{seen:?}");
 }
 
-/// A board that has seen changes, in memory that was garbage.
-fn used_board(c: usize, d: usize, n: usize, seed: u64) -> Vec<u8> {
-    let mut draw = Draw::new(seed, Shape::Uniform, 8, c);
-    let mut bytes = vec![0; 64 * c + 1024 + 40];
-    draw.random.fill(&mut bytes);
-    let mut against = Against::over(calls::ask, &bytes);
-    against.check(&draw.load(c, d, n), 0);
-    for _ in 0..30 {
-        let board = against.model().board.clone().unwrap();
-        against.check(&draw.change(&board), c + 1);
-    }
-    against.memory().to_vec()
-}
-
-fn flipped(bytes: &[u8], at: usize, random: &mut Random) -> Vec<u8> {
-    let mut damaged = bytes.to_vec();
-    damaged[at] = match random.below(3) {
-        0 => damaged[at] ^ 1 << random.below(8),
-        1 => random.one_of(&[0, 1, 2, 3, 255]),
-        _ => random.word() as u8,
-    };
-    damaged
-}
-
 /// The bytes of a board of size c that may decide: head, numbers, heights, marks, costs.
 fn fields(c: usize) -> Vec<usize> {
     (0..16 + 4 * c).chain(16 + 5 * c..16 + 21 * c).collect()
-}
-
-/// The bytes that the layout names as not in use whatever the board holds.
-fn unused(c: usize) -> Vec<usize> {
-    let blocks: [Range<usize>; 5] =
-        [3..4, 6..16, 16 + 4 * c..16 + 5 * c, 16 + 21 * c..16 + 23 * c, 16 + 23 * c..64 * c + 1064];
-    blocks.into_iter().flatten().collect()
 }
 
 fn damage_fields(ask: Ask, seed: u64) -> Seen {
     let mut random = Random::new(seed);
     let mut seen = Seen::default();
     for (c, d, n) in [(16, 2, 12), (16, 3, 14), (17, 4, 13), (40, 2, 36)] {
-        let bytes = used_board(c, d, n, seed + d as u64);
+        let bytes = used_board(calls::ask, c, d, n, seed + d as u64);
         for at in fields(c) {
             try_all(ask, &flipped(&bytes, at, &mut random), &mut random, &mut seen);
         }
@@ -115,26 +82,12 @@ fn damaged_fields_of_the_plain_board() {
     assert!(seen.sound > 300 && seen.unsound > 300, "{seen:?}");
 }
 
-/// Bytes not in use decide nothing.
-#[test]
-fn damaged_unused_bytes() {
-    let mut random = Random::new(15);
-    let mut seen = Seen::default();
-    for (c, d) in [(16, 2), (16, 4)] {
-        let bytes = used_board(c, d, 13, d as u64);
-        for at in unused(c) {
-            try_all(calls::ask, &flipped(&bytes, at, &mut random), &mut random, &mut seen);
-        }
-        assert_eq!(seen.unsound, 0, "a byte not in use made memory unsound");
-    }
-}
-
 /// Several bytes at once, and a whole field copied over another.
 #[test]
 fn much_damage() {
     let mut random = Random::new(16);
     let mut seen = Seen::default();
-    let bytes = used_board(16, 3, 14, 5);
+    let bytes = used_board(calls::ask, 16, 3, 14, 5);
     let places = fields(16);
     for _ in 0..1500 {
         let mut damaged = bytes.clone();
@@ -155,7 +108,7 @@ fn much_damage() {
 fn cut_and_longer_memory() {
     let mut random = Random::new(17);
     let mut seen = Seen::default();
-    let bytes = used_board(16, 2, 10, 6);
+    let bytes = used_board(calls::ask, 16, 2, 10, 6);
     for length in [0, 16, 2000, 2047] {
         try_all(calls::ask, &bytes[..length], &mut random, &mut seen);
     }
@@ -185,7 +138,7 @@ fn more_moves_than_the_board_takes() {
 fn damaged_large_board() {
     let mut random = Random::new(18);
     let mut seen = Seen::default();
-    let bytes = used_board(600, 3, 590, 7);
+    let bytes = used_board(calls::ask, 600, 3, 590, 7);
     let places = fields(600);
     for _ in 0..60 {
         let damaged = flipped(&bytes, random.one_of(&places), &mut random);

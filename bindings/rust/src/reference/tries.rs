@@ -1,7 +1,8 @@
-//! Every call tried on bytes that may hold a board or not.
+//! Every call tried on bytes that may hold a board or not, and boards to damage.
 use super::against::{Against, Ask};
+use super::draw::Draw;
 use super::layout;
-use super::random::Random;
+use super::random::{Random, Shape};
 use crate::Call;
 
 /// How many memories were sound and how many were not.
@@ -45,4 +46,29 @@ pub fn try_all(ask: Ask, bytes: &[u8], random: &mut Random, seen: &mut Seen) {
     } else {
         seen.unsound += 1;
     }
+}
+
+/// A board that has seen changes, in memory that was garbage.
+pub fn used_board(ask: Ask, c: usize, d: usize, n: usize, seed: u64) -> Vec<u8> {
+    let mut draw = Draw::new(seed, Shape::Uniform, 8, c);
+    let mut bytes = vec![0; 64 * c + 1024 + 40];
+    draw.random.fill(&mut bytes);
+    let mut against = Against::over(ask, &bytes);
+    against.check(&draw.load(c, d, n), 0);
+    for _ in 0..30 {
+        let board = against.model().board.clone().unwrap();
+        against.check(&draw.change(&board), c + 1);
+    }
+    against.memory().to_vec()
+}
+
+/// The bytes with one of them altered.
+pub fn flipped(bytes: &[u8], at: usize, random: &mut Random) -> Vec<u8> {
+    let mut damaged = bytes.to_vec();
+    damaged[at] = match random.below(3) {
+        0 => damaged[at] ^ 1 << random.below(8),
+        1 => random.one_of(&[0, 1, 2, 3, 255]),
+        _ => random.word() as u8,
+    };
+    damaged
 }
