@@ -38,18 +38,22 @@ typedef struct {
     uint16_t costs[4];
 } dolzhev_costs;
 
+/* Each answer: 0 or the refusal, its detail (always 0 here), and what is told, zero where refused. */
 typedef struct {
     size_t number;
+    size_t detail;
     uint64_t address;
 } dolzhev_address_answer;
 
 typedef struct {
     size_t number;
+    size_t detail;
     dolzhev_costs costs;
 } dolzhev_costs_answer;
 
 typedef struct {
     size_t number;
+    size_t detail;
     dolzhev_costs near_corner;
     dolzhev_costs far_corner;
     size_t side;
@@ -57,9 +61,9 @@ typedef struct {
 
 DOLZHEV_HOLDS(sizeof(size_t) == 8, "x86-64");
 DOLZHEV_HOLDS(sizeof(dolzhev_costs) == 8, "four costs of two bytes");
-DOLZHEV_HOLDS(sizeof(dolzhev_address_answer) == 16, "two words");
-DOLZHEV_HOLDS(sizeof(dolzhev_costs_answer) == 16, "two words");
-DOLZHEV_HOLDS(sizeof(dolzhev_region_answer) == 32, "four words");
+DOLZHEV_HOLDS(sizeof(dolzhev_address_answer) == 24, "three words");
+DOLZHEV_HOLDS(sizeof(dolzhev_costs_answer) == 24, "three words");
+DOLZHEV_HOLDS(sizeof(dolzhev_region_answer) == 40, "five words");
 
 /* The address of the first d costs.
  * Refusals, in order: 2 if d is out of range, 7 if a cost past d is not zero. */

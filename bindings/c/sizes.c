@@ -27,12 +27,15 @@ static void zorder_structs(void)
     SIZE(dolzhev_costs);
     SIZE(dolzhev_address_answer);
     FIELD(dolzhev_address_answer, number);
+    FIELD(dolzhev_address_answer, detail);
     FIELD(dolzhev_address_answer, address);
     SIZE(dolzhev_costs_answer);
     FIELD(dolzhev_costs_answer, number);
+    FIELD(dolzhev_costs_answer, detail);
     FIELD(dolzhev_costs_answer, costs);
     SIZE(dolzhev_region_answer);
     FIELD(dolzhev_region_answer, number);
+    FIELD(dolzhev_region_answer, detail);
     FIELD(dolzhev_region_answer, near_corner);
     FIELD(dolzhev_region_answer, far_corner);
     FIELD(dolzhev_region_answer, side);

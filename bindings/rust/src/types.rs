@@ -35,6 +35,7 @@ pub struct Answer {
 #[derive(Clone, Copy, Debug, Default, PartialEq, Eq)]
 pub struct AddressAnswer {
     pub number: usize,
+    pub detail: usize,
     pub address: u64,
 }
 
@@ -43,6 +44,7 @@ pub struct AddressAnswer {
 #[derive(Clone, Copy, Debug, Default, PartialEq, Eq)]
 pub struct CostsAnswer {
     pub number: usize,
+    pub detail: usize,
     pub costs: Costs,
 }
 
@@ -51,6 +53,7 @@ pub struct CostsAnswer {
 #[derive(Clone, Copy, Debug, Default, PartialEq, Eq)]
 pub struct RegionAnswer {
     pub number: usize,
+    pub detail: usize,
     pub near: Costs,
     pub far: Costs,
     pub side: usize,

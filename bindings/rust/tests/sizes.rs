@@ -34,12 +34,15 @@ fn zorder_structs() -> Vec<String> {
         size::<Costs>("dolzhev_costs"),
         size::<AddressAnswer>("dolzhev_address_answer"),
         field::<usize>("dolzhev_address_answer.number", offset_of!(AddressAnswer, number)),
+        field::<usize>("dolzhev_address_answer.detail", offset_of!(AddressAnswer, detail)),
         field::<u64>("dolzhev_address_answer.address", offset_of!(AddressAnswer, address)),
         size::<CostsAnswer>("dolzhev_costs_answer"),
         field::<usize>("dolzhev_costs_answer.number", offset_of!(CostsAnswer, number)),
+        field::<usize>("dolzhev_costs_answer.detail", offset_of!(CostsAnswer, detail)),
         field::<Costs>("dolzhev_costs_answer.costs", offset_of!(CostsAnswer, costs)),
         size::<RegionAnswer>("dolzhev_region_answer"),
         field::<usize>("dolzhev_region_answer.number", offset_of!(RegionAnswer, number)),
+        field::<usize>("dolzhev_region_answer.detail", offset_of!(RegionAnswer, detail)),
         field::<Costs>("dolzhev_region_answer.near_corner", offset_of!(RegionAnswer, near)),
         field::<Costs>("dolzhev_region_answer.far_corner", offset_of!(RegionAnswer, far)),
         field::<usize>("dolzhev_region_answer.side", offset_of!(RegionAnswer, side)),
@@ -75,6 +78,6 @@ fn structs_of_the_headers() {
 #[test]
 fn sizes_as_documented() {
     assert_eq!([size_of::<Move>(), size_of::<Row>(), size_of::<Answer>(), size_of::<Costs>()], [10, 12, 32, 8]);
-    assert_eq!([size_of::<AddressAnswer>(), size_of::<CostsAnswer>(), size_of::<RegionAnswer>()], [16, 16, 32]);
+    assert_eq!([size_of::<AddressAnswer>(), size_of::<CostsAnswer>(), size_of::<RegionAnswer>()], [24, 24, 40]);
     assert_eq!([align_of::<Move>(), align_of::<Row>()], [2, 2]);
 }

@@ -177,15 +177,15 @@ impl Addresses {
         match &asked[..1] {
             "A" => {
                 let a = (self.address)(d, &costs(&w[1..]));
-                joined([a.number as u64, 0, a.address])
+                joined([a.number as u64, a.detail as u64, a.address])
             }
             "U" => {
                 let a = (self.costs)(d, w[1]);
-                format!("{} 0 {}", a.number, joined(a.costs))
+                format!("{} {} {}", a.number, a.detail, joined(a.costs))
             }
             "R" => {
                 let a = (self.region)(d, w[1], w[2]);
-                format!("{} 0 {} {} {}", a.number, joined(a.near), joined(a.far), a.side)
+                format!("{} {} {} {} {}", a.number, a.detail, joined(a.near), joined(a.far), a.side)
             }
             other => panic!("{other} in a vector"),
         }

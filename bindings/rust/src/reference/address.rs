@@ -72,7 +72,7 @@ pub fn address_answer(d: usize, costs: &Costs) -> AddressAnswer {
     if costs_past(d, costs) {
         return AddressAnswer { number: 7, ..Default::default() };
     }
-    AddressAnswer { number: 0, address: address(d, costs) }
+    AddressAnswer { number: 0, detail: 0, address: address(d, costs) }
 }
 
 pub fn costs_answer(d: usize, address: u64) -> CostsAnswer {
@@ -82,7 +82,7 @@ pub fn costs_answer(d: usize, address: u64) -> CostsAnswer {
     if too_large(d, address) {
         return CostsAnswer { number: 7, ..Default::default() };
     }
-    CostsAnswer { number: 0, costs: separated(d, address) }
+    CostsAnswer { number: 0, detail: 0, costs: separated(d, address) }
 }
 
 pub fn region_answer(d: usize, a: u64, b: u64) -> RegionAnswer {
@@ -93,5 +93,5 @@ pub fn region_answer(d: usize, a: u64, b: u64) -> RegionAnswer {
         return RegionAnswer { number: 7, ..Default::default() };
     }
     let (near, far) = corners(d, a, b);
-    RegionAnswer { number: 0, near: separated(d, near), far: separated(d, far), side: side(d, a, b) }
+    RegionAnswer { number: 0, detail: 0, near: separated(d, near), far: separated(d, far), side: side(d, a, b) }
 }
