@@ -1,0 +1,49 @@
+/* What the C compiler makes of the headers: a line for each struct and field, held against the Rust structs by a test. */
+#include <stdio.h>
+
+#include "dolzhev.h"
+
+#define SIZE(type) printf(#type " %zu %zu\n", sizeof(type), _Alignof(type))
+#define FIELD(type, field) printf(#type "." #field " %zu %zu\n", offsetof(type, field), sizeof(((type *)0)->field))
+
+static void board_structs(void)
+{
+    SIZE(dolzhev_move);
+    FIELD(dolzhev_move, number);
+    FIELD(dolzhev_move, costs);
+    SIZE(dolzhev_row);
+    FIELD(dolzhev_row, mark);
+    FIELD(dolzhev_row, number);
+    FIELD(dolzhev_row, costs);
+    SIZE(dolzhev_answer);
+    FIELD(dolzhev_answer, number);
+    FIELD(dolzhev_answer, detail);
+    FIELD(dolzhev_answer, count);
+    FIELD(dolzhev_answer, opened);
+}
+
+static void zorder_structs(void)
+{
+    SIZE(dolzhev_costs);
+    SIZE(dolzhev_address_answer);
+    FIELD(dolzhev_address_answer, number);
+    FIELD(dolzhev_address_answer, detail);
+    FIELD(dolzhev_address_answer, address);
+    SIZE(dolzhev_costs_answer);
+    FIELD(dolzhev_costs_answer, number);
+    FIELD(dolzhev_costs_answer, detail);
+    FIELD(dolzhev_costs_answer, costs);
+    SIZE(dolzhev_region_answer);
+    FIELD(dolzhev_region_answer, number);
+    FIELD(dolzhev_region_answer, detail);
+    FIELD(dolzhev_region_answer, near_corner);
+    FIELD(dolzhev_region_answer, far_corner);
+    FIELD(dolzhev_region_answer, side);
+}
+
+int main(void)
+{
+    board_structs();
+    zorder_structs();
+    return 0;
+}

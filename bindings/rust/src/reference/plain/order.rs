@@ -1,0 +1,27 @@
+//! Z-order, side and near corner of two moves' costs, by the highest bit in which they differ.
+use crate::{Costs, Move};
+
+fn open_groups(p: &Costs, q: &Costs) -> u32 {
+    let differing = (0..4).fold(0, |bits, i| bits | p[i] ^ q[i]);
+    16 - differing.leading_zeros()
+}
+
+fn group(costs: &Costs, j: u32) -> u16 {
+    costs.iter().fold(0, |group, cost| group << 1 | cost >> j & 1)
+}
+
+pub fn stands_before(p: &Move, q: &Move) -> bool {
+    match open_groups(&p.costs, &q.costs) {
+        0 => p.number < q.number,
+        open => group(&p.costs, open - 1) < group(&q.costs, open - 1),
+    }
+}
+
+pub fn side(p: &Costs, q: &Costs) -> u32 {
+    1 << open_groups(p, q)
+}
+
+pub fn near(p: &Costs, q: &Costs) -> Costs {
+    let open = open_groups(p, q);
+    p.map(|cost| (u32::from(cost) >> open << open) as u16)
+}

@@ -1,0 +1,18 @@
+//! A set of numbers below 4,096.
+
+#[derive(Clone, Copy)]
+pub struct Set([u64; 64]);
+
+impl Set {
+    pub fn empty() -> Set {
+        Set([0; 64])
+    }
+
+    pub fn has(&self, number: u16) -> bool {
+        self.0[usize::from(number / 64)] >> (number % 64) & 1 == 1
+    }
+
+    pub fn put(&mut self, number: u16) {
+        self.0[usize::from(number / 64)] |= 1 << (number % 64);
+    }
+}

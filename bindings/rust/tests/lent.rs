@@ -1,0 +1,141 @@
+//! Rows lent: none, one fewer than needed, as many, one more; and the bounds of document 01's "Run besides".
+use dolzhev::calls;
+use dolzhev::reference::against::Against;
+use dolzhev::reference::draw::Draw;
+use dolzhev::reference::layout;
+use dolzhev::reference::node::Node;
+use dolzhev::reference::random::Shape;
+use dolzhev::{Call, Move};
+
+fn loaded(c: usize, d: usize, shape: Shape, n: usize, seed: u64) -> Against {
+    let mut draw = Draw::new(seed, shape, 65536, c);
+    let mut against = Against::over(calls::ask, &vec![0; 64 * c + 1024]);
+    assert_eq!(against.check(&draw.load(c, d, n), 0).answer.number, 0);
+    against
+}
+
+/// Each call with all four numbers of rows, on a fresh copy of the memory; how many rows it needed.
+fn lend_each(against: &Against, call: &Call) -> usize {
+    let need = against.foresee(call).rows.len();
+    let fewer: &[usize] = if need == 0 { &[] } else { &[0, need - 1] };
+    for &lent in fewer {
+        let mut copy = Against::over(calls::ask, against.memory());
+        let answer = copy.check(call, lent).answer;
+        assert_eq!((answer.number, answer.detail), (8, need), "{call:?} with {lent} rows");
+    }
+    for lent in [need, need + 1] {
+        let mut copy = Against::over(calls::ask, against.memory());
+        let answer = copy.check(call, lent).answer;
+        assert_eq!((answer.number, answer.count), (0, need), "{call:?} with {lent} rows");
+    }
+    need
+}
+
+fn calls_on(against: &Against, free: u16) -> Vec<Call> {
+    let board = against.model().board.as_ref().unwrap();
+    let (first, last) = (board.moves[0], board.moves[board.moves.len() - 1]);
+    let listed = board.list[board.list.len() / 2];
+    let least = [0; 4];
+    vec![
+        Call::Enter { number: free, costs: least },
+        Call::Enter { number: free, costs: last.costs },
+        Call::Withdraw { number: first.number },
+        Call::Withdraw { number: listed.number },
+        Call::Recost { number: listed.number, costs: last.costs },
+        Call::Recost { number: last.number, costs: least },
+        Call::Recost { number: listed.number, costs: listed.costs },
+        Call::List,
+        Call::Band(0),
+        Call::Band(3),
+        Call::Rank(1),
+        Call::Rank(5),
+        Call::Rank(4096),
+        Call::OnK(board.d),
+        Call::OnK(1),
+        Call::Chosen(1),
+        Call::Chosen(3),
+    ]
+}
+
+#[test]
+fn four_numbers_of_rows() {
+    let mut most = 0;
+    for (seed, shape) in
+        [Shape::Uniform, Shape::Correlated, Shape::AntiCorrelated, Shape::AllListed].into_iter().enumerate()
+    {
+        for d in 2..=4 {
+            let against = loaded(64, d, shape, 63, seed as u64);
+            let free = (0..64).find(|&x| against.model().board.as_ref().unwrap().find(x).is_none()).unwrap();
+            let needs: Vec<usize> = calls_on(&against, free).iter().map(|call| lend_each(&against, call)).collect();
+            most = most.max(needs[0]);
+        }
+    }
+    assert_eq!(most, 64, "a move at the origin puts all 63 listed moves out and itself in");
+}
+
+/// A re-cost of a full all-listed board to the origin needs C + 1 rows: C left and one entered.
+#[test]
+fn notice_of_one_row_more_than_the_board() {
+    let against = loaded(64, 2, Shape::AllListed, 64, 9);
+    assert_eq!(lend_each(&against, &Call::Recost { number: 5, costs: [0; 4] }), 65);
+}
+
+fn row(number: u16, costs: [u16; 4]) -> Move {
+    Move { number, costs }
+}
+
+fn load_answer(bytes: usize, c: usize, d: usize, rows: Vec<Move>) -> (usize, usize) {
+    let answer = Against::over(calls::ask, &vec![7; bytes]).check(&Call::Load { c, d, rows }, 0).answer;
+    (answer.number, answer.detail)
+}
+
+#[test]
+fn sizes_and_memory() {
+    for (c, refusal) in [(15, 2), (16, 0), (4096, 0), (4097, 2)] {
+        let bytes = 64 * c + 1024;
+        assert_eq!(load_answer(bytes, c, 2, vec![]), (refusal, 0), "C of {c}");
+        let short = if refusal == 0 { 1 } else { refusal };
+        assert_eq!(load_answer(bytes - 1, c, 2, vec![]), (short, 0), "C of {c}, one byte short");
+    }
+    for (d, refusal) in [(0, 2), (1, 2), (2, 0), (4, 0), (5, 2), (usize::MAX, 2)] {
+        assert_eq!(load_answer(2048, 16, d, vec![]), (refusal, 0), "d of {d}");
+    }
+    assert_eq!(load_answer(0, 16, 2, vec![]), (1, 0));
+    assert_eq!(load_answer(2048, usize::MAX, 2, vec![]), (2, 0));
+}
+
+#[test]
+fn numbers_at_the_bound() {
+    let good = row(15, [1, 2, 0, 0]);
+    assert_eq!(load_answer(2048, 16, 2, vec![good]), (0, 0));
+    assert_eq!(load_answer(2048, 16, 2, vec![good, row(16, [1, 2, 0, 0])]), (4, 1));
+    assert_eq!(load_answer(2048, 16, 2, vec![good, row(0, [1, 2, 0, 3]), row(16, [0; 4])]), (7, 1));
+    assert_eq!(load_answer(2048, 16, 2, vec![good, row(0, [0; 4]), good]), (5, 2));
+    let mut against = Against::over(calls::ask, &[0; 2048]);
+    against.check(&Call::Load { c: 16, d: 2, rows: vec![] }, 0);
+    for (number, refusal) in [(15, 0), (16, 4), (15, 5), (65535, 4)] {
+        assert_eq!(against.check(&Call::Enter { number, costs: [3, 3, 0, 0] }, 17).answer.number, refusal);
+    }
+    assert_eq!(against.check(&Call::Withdraw { number: 16 }, 17).answer.number, 4);
+    assert_eq!(against.check(&Call::Withdraw { number: 14 }, 17).answer.number, 6);
+    assert_eq!(against.check(&Call::Recost { number: 16, costs: [0, 0, 0, 1] }, 17).answer.number, 4);
+    assert_eq!(against.check(&Call::Recost { number: 14, costs: [0, 0, 0, 1] }, 17).answer.number, 7);
+    assert_eq!(against.check(&Call::Recost { number: 14, costs: [0, 0, 0, 0] }, 17).answer.number, 6);
+}
+
+fn leaf_sizes(node: &Node) -> Vec<usize> {
+    match node {
+        Node::Leaf(moves) => vec![moves.len()],
+        Node::Upper(children) => children.iter().flat_map(leaf_sizes).collect(),
+    }
+}
+
+#[test]
+fn groups_of_a_load() {
+    let expected: [(usize, &[usize]); 5] = [(1, &[1]), (8, &[8]), (9, &[6, 3]), (10, &[7, 3]), (11, &[8, 3])];
+    for (n, sizes) in expected {
+        let against = loaded(16, 2, Shape::Uniform, n, n as u64);
+        let (_, tree) = layout::sound(against.memory()).unwrap();
+        assert_eq!(leaf_sizes(&tree.unwrap()), sizes, "a load of {n}");
+    }
+}

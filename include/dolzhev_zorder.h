@@ -1,0 +1,85 @@
+/* Addresses and regions in Z-order, without the board: link libzorder_c.a.
+ *
+ * No function here reads or writes memory of the caller's, allocates, blocks, or keeps a state of its own (no thread-local
+ * either): each may be called from any thread at any time, and each ends. x86-64 only.
+ *
+ * d is the number of costs, 2 to 4. Costs past d are zero. An address has 16 groups of d bits, highest group first; in the
+ * group for bit j of the costs, bit j of cost i stands before that of cost i + 1.
+ *
+ * `number` is 0 where the call is accepted; else it is the refusal and every other field is zero. */
+#ifndef DOLZHEV_ZORDER_H
+#define DOLZHEV_ZORDER_H
+
+#include <stddef.h>
+#include <stdint.h>
+
+#ifdef __cplusplus
+extern "C" {
+#define DOLZHEV_HOLDS(condition, why) static_assert(condition, why)
+#else
+#define DOLZHEV_HOLDS(condition, why) _Static_assert(condition, why)
+#endif
+
+/* The refusals of both headers. */
+enum {
+    DOLZHEV_ACCEPTED = 0,
+    DOLZHEV_SHORT_MEMORY = 1,
+    DOLZHEV_OUT_OF_RANGE = 2,
+    DOLZHEV_UNSOUND = 3,
+    DOLZHEV_NUMBER_TOO_LARGE = 4,
+    DOLZHEV_NUMBER_TWICE = 5,
+    DOLZHEV_NUMBER_ABSENT = 6,
+    DOLZHEV_BAD_ARGUMENT = 7,
+    DOLZHEV_FEW_ROWS = 8
+};
+
+/* Four costs by value, those past d zero. Less is better. */
+typedef struct {
+    uint16_t costs[4];
+} dolzhev_costs;
+
+/* Each answer: 0 or the refusal, its detail (always 0 here), and what is told, zero where refused. */
+typedef struct {
+    size_t number;
+    size_t detail;
+    uint64_t address;
+} dolzhev_address_answer;
+
+typedef struct {
+    size_t number;
+    size_t detail;
+    dolzhev_costs costs;
+} dolzhev_costs_answer;
+
+typedef struct {
+    size_t number;
+    size_t detail;
+    dolzhev_costs near_corner;
+    dolzhev_costs far_corner;
+    size_t side;
+} dolzhev_region_answer;
+
+DOLZHEV_HOLDS(sizeof(size_t) == 8, "x86-64");
+DOLZHEV_HOLDS(sizeof(dolzhev_costs) == 8, "four costs of two bytes");
+DOLZHEV_HOLDS(sizeof(dolzhev_address_answer) == 24, "three words");
+DOLZHEV_HOLDS(sizeof(dolzhev_costs_answer) == 24, "three words");
+DOLZHEV_HOLDS(sizeof(dolzhev_region_answer) == 40, "five words");
+
+/* The address of the first d costs.
+ * Refusals, in order: 2 if d is out of range, 7 if a cost past d is not zero. */
+dolzhev_address_answer dolzhev_address(size_t d, dolzhev_costs costs);
+
+/* The d costs of an address, and zeros past them.
+ * Refusals, in order: 2 if d is out of range, 7 if the address is 2 to the power 16 * d or more. */
+dolzhev_costs_answer dolzhev_costs_of(size_t d, uint64_t address);
+
+/* The region of the addresses a <= b: it keeps the longest run of leading groups in which both agree; the near corner fills
+ * the remaining bits with 0, the far corner with 1. Its side is 2 to the number of groups not kept.
+ * Refusals, in order: 2 if d is out of range, 7 if either address is 2 to the power 16 * d or more, 7 if a > b. */
+dolzhev_region_answer dolzhev_region(size_t d, uint64_t a, uint64_t b);
+
+#ifdef __cplusplus
+}
+#endif
+
+#endif
