@@ -156,14 +156,14 @@ module _ {M : Type 1} (𝓤 : URA M) (H : Heap 𝓤) (A : Atoms 𝓤) (W : Given
         move ! (27 ∷ []) $ fsplit ! $ move ! (1 ∷ []) $ fsplit ! $ drop ! $ fsplit ! $ drop ! $ fsplit ! $ move ! (1 ∷ []) $ drop ! $
         -- [what the rows own; what the memory owns; _12; …; the tokens]
         move ! (28 ∷ []) $ split ! $ move ! (1 ∷ []) $ split ! $ move ! (1 ∷ []) $ drop ! $ move ! (3 ∷ 1 ∷ []) $
-        shares-out u8 κ q b o γ m (named 0) (named 0) (s ∷ []) ! tt room (λ ν δ.
+        shares-out u8 κ q b o γ m (named 0) ! tt (named 0) (s ∷ []) room (λ ν δ.
         -- the plan
         use2 W (raw (PlanOf 𝓤 H A ask .pre (to-plan ν δ))) (goes-plan ν δ r-room) $
         -- [what it asks; the lender's part; the rows' token; what they own; _12; …]
         calls-at ! fm (PlanOf 𝓤 H A ask) known-plan (to-plan ν δ) (and-then ! (load ! (from ! (stop !)) (look ! 14 refl)) (and-then ! (load ! (from ! (stop !)) (look ! 24 refl)) (and-then ! (load ! (from ! (fld ! refl (stop !))) (look-in ! 22 (sub ! 0 refl (whole !)))) (and-then ! (load ! (from ! (stop !)) (look ! 12 refl)) (no-more !))))) (λ w.
         returned plan.ended (planClauses 𝓤 ask) ! tt (to-plan ν δ) w (λ p. Planned (ask number (costs .costs)) m (length ys) p) (λ p e. id⊢ 𝓤 _) (λ p e is.
         land ! (from ! (stop !)) (init ! 18 refl (LL.lawful P.the-type P′.the-laws 𝓤 H A W .typed p _ is .0)) $ rewrite ! 18 (λ (u : Val). ‵ (fat fullShare P′.mir l₅ 0 u)) (ap only (LL.tells P.the-type P′.the-laws p _ is)) refl $
-        use1 W (‵ (flft (ν ∷ []) fullShare) ⊛ ‵ ftrue) (id⊢ 𝓤 _) $ split ! $ move ! (1 ∷ []) $ drop ! $ shares-back u8 κ q b o γ m (named 0) (named 0) [] ! tt ν room $
+        use1 W (‵ (flft (ν ∷ []) fullShare) ⊛ ‵ ftrue) (id⊢ 𝓤 _) $ split ! $ move ! (1 ∷ []) $ drop ! $ shares-back u8 κ q b o γ m (named 0) ! tt ν room $
         -- [what the memory owns; its token; the rows' token; what they own; _12; …]
         assigns ! (addr ! (from ! (fld ! refl (hop ! (look-in ! 26 (sub ! 0 refl (whole !))) (stop !))))) (from ! (stop !)) (init ! 10 refl (tt, tt)) $
         assigns ! (agg ! (and-then ! (load ! (from ! (stop !)) (look ! 10 refl)) (and-then ! (load ! (from ! (fld ! refl (stop !))) (look-in ! 26 (sub ! 1 refl (whole !)))) (no-more !)))) (from ! (stop !)) (init ! 8 refl (tt, (tt, (record { fits = room .0 }, tt)))) $

@@ -43,11 +43,11 @@ module _ (R : RattleType) where
     abbrev pub LentShared : ℕ → Fml
     LentShared ν = fsep (flent (ν ∷ []) (arr-parts (shares R) (length ys) .part fullShare ys b o)) (fsep (fobor κ q (Held R (length ys) b o γ)) (fsep (fobs γ (codedHoleys R .code (heres R ys))) (fauth γ (codedHoleys R .code (heres R ys)))))
 
-    module _ {M : Type 1} {𝓤 : URA M} {H : Heap 𝓤} {A : Atoms 𝓤} {K : Type 0} {W : Given 𝓤 H A} {Γ : List (Item 𝓤)} {G : Goal 𝓤 H} (ℓ ℓ′ : Lifetime) (vs : List Val) where
-      pub shares-out : K → Soaks G → Room R (length ys)
+    module _ {M : Type 1} {𝓤 : URA M} {H : Heap 𝓤} {A : Atoms 𝓤} {K : Type 0} {W : Given 𝓤 H A} {Γ : List (Item 𝓤)} {G : Goal 𝓤 H} (ℓ : Lifetime) where
+      pub shares-out : K → Soaks G → (ℓ′ : Lifetime) (vs : List Val) → Room R (length ys)
           → ((ν : ℕ) (δ : GName) → Seq K W (‵ (flft (ν ∷ []) fullShare) ∷ ‵ (ShrSlice ℓ′ (ν ∷ []) R .own (at-list b o δ ys) (sliceVal (b, o) (length ys) ∷ [])) ∷ ‵ (LentShared ν) ∷ Γ) G)
           → Seq K W (‵ (MutSlice ℓ κ R .own (at-list b o γ ys) vs) ∷ ‵ (flft κ q) ∷ Γ) G
-      shares-out k z room next =
+      shares-out k z ℓ′ vs room next =
           fsplit k $ fsplit k $ drop k $ drop k $ fsplit k $ opens-slice k z R ys b o $ feqI k ℕ (length ys) (length ys) refl $ fjoin k $ lft-new k z (λ ν. move k (1 ∷ []) $
           use1 W (later (some (λ (δ : GName). ‵ (ShrSlice ℓ′ (ν ∷ []) R .own (at-list b o δ ys) (sliceVal (b, o) (length ys) ∷ [])) ⊛ ‵ (flent (ν ∷ []) (arr-parts (shares R) (length ys) .part fullShare ys b o))))) (lends-shr-slice 𝓤 H A W R ℓ′ (ν ∷ []) fullShare ys b o room) $
           await k z $ pick k (λ δ. split k $

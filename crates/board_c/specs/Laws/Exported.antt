@@ -14,7 +14,7 @@ use Rattle.upkeep.specs.Laws.Planned.{told-numbers}
 use Rattle.upkeep.specs.declared.telling.Telling.{Telling}
 use Rattle.listing.specs.Plan.{ListTold}
 use Rattle.listing.specs.Laws.Promise.{list-numbers}
-use Rattle.upkeep.specs.Laws.Telling.{filled-count}
+use Rattle.upkeep.specs.Laws.Telling.{filled-all}
 use Rattle.rows.specs.Rows.{rowNumbers}
 use Rattle.rows.specs.declared.Row.{Row}
 use Rattle.board.specs.Laws.Promise.{plan-kept}
@@ -37,7 +37,7 @@ module _ {x : calls.Change} {m : List ℕ} {lent : List Row} {p : Plan} (plan : 
         handed = record { number = d .handed .number; detail = d .handed .detail; count = refl; opened = d .handed .opened };
         promise =
             plan-kept (map rowNumbers lent) (subst (λ (n : ℕ). Planned x m n p) (sym long) plan)
-            (d .tells ∙ filled-count (p .telling) m (map rowNumbers lent) (p .count) (plan .asked) (plan .rows) enough)
+            (d .tells ∙ filled-all (p .telling) m (map rowNumbers lent) (p .count) (plan .asked) (plan .rows) enough)
             (d .out)
             (ap (λ (n : ℕ). record { verdict = p .verdict; count = n }) (d .handed .count));
       }
@@ -49,7 +49,7 @@ module _ {q : calls.Query} {m : List ℕ} (lent lent' : List Row) {v : Verdict} 
   told-all : map rowNumbers lent' ≡ toldRows t m ++ drop count (map rowNumbers lent)
   told-all =
       let long : length (map rowNumbers lent) ≡ length lent = length-map lent rowNumbers in
-      e ∙ filled-count t m (map rowNumbers lent) count (plan .asked) (plan .rows) (omega (arith, long, plan .answered .enough))
+      e ∙ filled-all t m (map rowNumbers lent) count (plan .asked) (plan .rows) (omega (arith, long, plan .answered .enough))
 
   pub query-exported : {r : Answer} → Handed v count 0 r → QueryExported q m lent r lent'
   unfolding rowsOf

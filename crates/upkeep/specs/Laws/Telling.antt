@@ -252,15 +252,3 @@ module _ (t : Telling) (m : List ℕ) where
   pub told-notice : t .mark ≡ left → toldRows t m ≡ noticeRows (t .size) (t .dimension) (t .count) (t .place) (asMove (t .coming)) (t .upkeep) m
   unfolding toldRows noticeRows
   told-notice e = ap (λ (mark : ℕ). rowsTold (t .size) (t .dimension) (t .count) (t .place) mark (asMove (t .coming)) (t .upkeep) m) e
-
--- The same for so many rows; where there are none the memory may be any.
-no-rows : (rows : List (List ℕ)) → length rows ≡ 0 → rows ≡ []
-no-rows [] e = refl
-no-rows (r ∷ rs) e = absurd (omega arith)
-
-pub filled-count : (t : Telling) (m : List ℕ) (rows : List (List ℕ)) (k : ℕ) → (0 < k → TellingAsked t m) → length (toldRows t m) ≡ k → k ≤ length rows
-    → filledRows t m k rows ≡ toldRows t m ++ drop k rows
-unfolding filledRows
-filled-count t m rows zero asked e l = ap (λ (new : List (List ℕ)). new ++ rows) (sym (no-rows (toldRows t m) e))
-filled-count t m rows (suc k) asked e l =
-    subst (λ (i : ℕ). filledRows t m i rows ≡ toldRows t m ++ drop i rows) e (filled-told t m rows (asked (omega arith)) (omega arith))

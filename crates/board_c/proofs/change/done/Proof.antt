@@ -128,13 +128,13 @@ module _ {M : Type 1} (𝓤 : URA M) (H : Heap 𝓤) (A : Atoms 𝓤) (W : Given
         move ! (23 ∷ []) $ fsplit ! $ move ! (1 ∷ []) $ fsplit ! $ drop ! $ fsplit ! $ move ! (1 ∷ []) $ drop ! $
         -- [what the rows own; what the memory owns; _10; …; the tokens]
         move ! (24 ∷ []) $ split ! $ move ! (1 ∷ []) $ split ! $ move ! (1 ∷ []) $ drop ! $ move ! (3 ∷ 1 ∷ []) $
-        shares-out u8 κ q b o γ m (named 0) (named 1) (s ∷ []) ! tt room (λ ν δ.
+        shares-out u8 κ q b o γ m (named 0) ! tt (named 1) (s ∷ []) room (λ ν δ.
         -- `fill`
         move ! (3 ∷ 0 ∷ 1 ∷ 4 ∷ []) $ calls-fill 𝓤 H A mem run (ν ∷ []) κr fullShare qr b o br or δ γr m ys (p .telling) (p .count) ! fm known-fill (asked .asked) (asked .enough) (LL.owed P.the-type P′.the-laws p _ p-is .1 .1 .1 .1 .1 .0) (LL.owed P.the-type P′.the-laws p _ p-is .1 .0 .1)
         -- [what it asks; the lender's part; _10; …]
         (and-then ! (load ! (from ! (stop !)) (look ! 10 refl)) (and-then ! (load ! (from ! (stop !)) (look ! 6 refl)) (and-then ! (load ! (from ! (fld ! refl (stop !))) (look-in ! 18 (sub ! 5 refl (whole !)))) (and-then ! (load ! (from ! (fld ! refl (stop !))) (look-in ! 18 (sub ! 1 refl (whole !)))) (no-more !))))) (λ w zs e lr unit.
         -- [the rows' token; the other; the rows' last list; the lender's part; _10; …]
-        land ! (from ! (stop !)) (init ! 16 refl unit) $ move ! (1 ∷ 3 ∷ []) $ shares-back u8 κ q b o γ m (named 0) (named 1) [] ! tt ν room $
+        land ! (from ! (stop !)) (init ! 16 refl unit) $ move ! (1 ∷ 3 ∷ []) $ shares-back u8 κ q b o γ m (named 0) ! tt ν room $
         -- [what the memory owns; its token; the rows' token; their last list; _10; …]
         assigns ! (addr ! (from ! (fld ! refl (hop ! (look-in ! 22 (sub ! 0 refl (whole !))) (stop !))))) (from ! (stop !)) (init ! 6 refl (tt, tt)) $
         assigns ! (agg ! (and-then ! (load ! (from ! (stop !)) (look ! 6 refl)) (and-then ! (load ! (from ! (fld ! refl (stop !))) (look-in ! 22 (sub ! 1 refl (whole !)))) (no-more !)))) (from ! (stop !)) (init ! 4 refl (tt, (tt, (record { fits = room .0 }, tt)))) $
