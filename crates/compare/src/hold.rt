@@ -1,0 +1,69 @@
+// The holder of a list: he starts with the rows of one accepted list call and then goes by the rows of the notices alone.
+use crate::address::address;
+use crate::address::stands_before;
+use crate::cells::HELD;
+use crate::cells::Row;
+use crate::cells::marked;
+use crate::cells::more;
+use crate::cells::put_row;
+use crate::cells::row_at;
+use crate::cells::same_row;
+
+// The first n rows told are his list.
+pub fn start(table: &mut [Row], rows: &[Row], n: usize) {
+    let mut i = 0;
+    while i < n {
+        put_row(table, HELD, i, row_at(rows, 0, i));
+        i += 1;
+    }
+}
+
+fn take_out(table: &mut [Row], held: usize, r: Row) -> usize {
+    let mut k = 0;
+    let mut i = 0;
+    while i < held {
+        let p = row_at(table, HELD, i);
+        if !same_row(p, r) {
+            put_row(table, HELD, k, p);
+            k = more(k);
+        }
+        i += 1;
+    }
+    k
+}
+
+fn row_before(d: usize, p: Row, q: Row) -> bool {
+    stands_before(address(d, p), p[1] as usize, address(d, q), q[1] as usize)
+}
+
+// The row put at its place in Z-order, from the end on.
+fn put_in(d: usize, table: &mut [Row], held: usize, r: Row) -> usize {
+    let mut i = held;
+    while 0 < i {
+        let p = row_at(table, HELD, i - 1);
+        if row_before(d, p, r) {
+            put_row(table, HELD, i, r);
+            return more(held);
+        }
+        put_row(table, HELD, i, p);
+        i -= 1;
+    }
+    put_row(table, HELD, 0, r);
+    more(held)
+}
+
+// A notice of n rows; how many rows he then holds.
+pub fn follow(d: usize, table: &mut [Row], rows: &[Row], n: usize, held: usize) -> usize {
+    let mut k = held;
+    let mut i = 0;
+    while i < n {
+        let r = row_at(rows, 0, i);
+        if r[0] == 1 {
+            k = take_out(table, k, marked(r, 0));
+        } else {
+            k = put_in(d, table, k, marked(r, 0));
+        }
+        i += 1;
+    }
+    k
+}

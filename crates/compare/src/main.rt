@@ -1,0 +1,70 @@
+// The board beside a plain all-pairs program: many boards and changes of them through the public calls, each answer held
+// against one that is made from document 01's words alone, with a nest of its own. Prints what was compared, and the board and
+// the call where the two disagree. The word `long` makes a longer run, `short` a short one.
+mod address;
+mod ask;
+mod boards;
+mod cells;
+mod choose;
+mod contrast;
+mod damage;
+mod dice;
+mod expect;
+mod grow;
+mod hold;
+mod lists;
+mod loads;
+mod nodes;
+mod pack;
+mod plain;
+mod print;
+mod ranks;
+mod report;
+mod rules;
+mod shrink;
+mod steps;
+mod table;
+mod tally;
+
+// The number of boards that the word asks for.
+fn boards_asked() -> usize {
+    let mut word = [0u8; 8];
+    let n = os::arg(1, &mut word);
+    if n == 0 {
+        return 1200;
+    }
+    if word[0] == b'l' { 20000 } else { 8 }
+}
+
+fn main() {
+    let mut cells = [[0u16; 6]; cells::TABLE];
+    let mut keys = [0u64; cells::KEYS];
+    let mut nodes = [[0u16; 11]; nodes::NODES];
+    let mut memory = [0u8; 263232];
+    let mut copy = [0u8; 263232];
+    let mut rows = [[0u16; 6]; cells::ROOM];
+    let mut input = [[0u16; 5]; 4096];
+    let mut counts = [0u64; tally::CELLS];
+    contrast::wipe(&mut rows, cells::ROOM);
+    let mut dice: u64 = 88172645463325252;
+    let mut b = plain::bare(0, 0, 0);
+    let n = boards_asked();
+    let mut i = 0;
+    while i < n {
+        b = boards::one(
+            b,
+            &mut cells,
+            &mut nodes,
+            &mut keys,
+            &mut memory,
+            &mut copy,
+            &mut rows,
+            &mut counts,
+            &mut input,
+            &mut dice,
+            i,
+        );
+        i += 1;
+    }
+    table::put_all(&counts);
+}

@@ -1,0 +1,57 @@
+// Numbers, rows and calls written out.
+use crate::cells::Row;
+use crate::cells::row_at;
+use crate::expect::Call;
+use crate::expect::Told;
+use libc::STDOUT_FILENO;
+
+// A blank and a number.
+pub fn put(n: usize) {
+    io::write_all(STDOUT_FILENO, b" ");
+    io::print_decimal(STDOUT_FILENO, n as u64);
+}
+
+pub fn end_line() {
+    io::write_all(STDOUT_FILENO, b"\n");
+}
+
+fn put_row(r: Row) {
+    put(r[0] as usize);
+    put(r[1] as usize);
+    put(r[2] as usize);
+    put(r[3] as usize);
+    put(r[4] as usize);
+    put(r[5] as usize);
+    end_line();
+}
+
+// The first n rows of an area, a line each: mark, number, costs.
+pub fn put_rows(table: &[Row], area: usize, n: usize) {
+    let mut i = 0;
+    while i < n {
+        put_row(row_at(table, area, i));
+        i += 1;
+    }
+}
+
+pub fn put_told(t: Told) {
+    put(t.refusal);
+    put(t.detail);
+    put(t.count);
+    put(t.opened);
+    end_line();
+}
+
+pub fn put_call(k: Call) {
+    let c = k.costs;
+    io::write_all(STDOUT_FILENO, b"call ");
+    io::write_all(STDOUT_FILENO, &[k.letter]);
+    put(k.number as usize);
+    put(c[0] as usize);
+    put(c[1] as usize);
+    put(c[2] as usize);
+    put(c[3] as usize);
+    put(k.argument);
+    put(k.lent);
+    end_line();
+}

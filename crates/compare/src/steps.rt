@@ -1,0 +1,137 @@
+// One call on both boards, and the holder after it; with rows in plenty, or none, one too few, then just enough.
+use crate::cells::HELD;
+use crate::cells::NOW;
+use crate::cells::Row;
+use crate::cells::more;
+use crate::contrast::made;
+use crate::contrast::wipe;
+use crate::expect::Call;
+use crate::expect::Outcome;
+use crate::expect::Told;
+use crate::expect::expect;
+use crate::expect::is_change;
+use crate::expect::refused;
+use crate::hold;
+use crate::lists::same_rows;
+use crate::nodes::Node;
+use crate::plain::Plain;
+use crate::report;
+use crate::tally;
+
+// The holder's rows held against the plain board's list.
+fn judge_held(b: Plain, table: &[Row], counts: &mut [u64]) {
+    tally::add(counts, tally::FOLLOWED, 1);
+    if b.held == b.listed && same_rows(table, HELD, NOW, b.held) {
+        return;
+    }
+    report::other(
+        b"holder",
+        b,
+        table,
+        refused(0, b.listed),
+        refused(0, b.held),
+        counts,
+    );
+}
+
+// The board with its holder after an answer: an accepted list call makes one, a notice is followed.
+fn held(b: Plain, table: &mut [Row], rows: &[Row], letter: u8, told: Told) -> Plain {
+    let mut after = b;
+    if 0 < told.refusal {
+        return after;
+    }
+    if letter == b'Q' && !b.holding {
+        hold::start(table, rows, told.count);
+        after.holding = true;
+        after.held = told.count;
+        return after;
+    }
+    if is_change(letter) && b.holding {
+        after.held = hold::follow(b.d, table, rows, told.count, b.held);
+    }
+    after
+}
+
+// The call with so many rows lent.
+pub fn call(
+    b: Plain,
+    table: &mut [Row],
+    nodes: &mut [Node],
+    keys: &mut [u64],
+    m: &mut [u8],
+    copy: &mut [u8],
+    rows: &mut [Row],
+    counts: &mut [u64],
+    asked: Call,
+    lent: usize,
+) -> Outcome {
+    let mut k = asked;
+    k.lent = lent;
+    let e = expect(b, table, nodes, keys, k);
+    let want = e.told;
+    let plain = e.board;
+    let told = made(plain, table, m, copy, rows, k, want, counts);
+    let board = held(plain, table, rows, k.letter, told);
+    if board.holding {
+        judge_held(board, table, counts);
+    }
+    wipe(rows, more(more(b.c)));
+    Outcome { told: want, board }
+}
+
+// The call with no rows lent, then with one fewer than it needs, then with as many.
+pub fn call_exactly(
+    b: Plain,
+    table: &mut [Row],
+    nodes: &mut [Node],
+    keys: &mut [u64],
+    m: &mut [u8],
+    copy: &mut [u8],
+    rows: &mut [Row],
+    counts: &mut [u64],
+    k: Call,
+) -> Plain {
+    let first = call(b, table, nodes, keys, m, copy, rows, counts, k, 0);
+    let told = first.told;
+    let board = first.board;
+    if told.refusal != 8 {
+        return board;
+    }
+    let need = told.detail;
+    if 1 < need {
+        call(
+            board,
+            table,
+            nodes,
+            keys,
+            m,
+            copy,
+            rows,
+            counts,
+            k,
+            need - 1,
+        );
+    }
+    let last = call(board, table, nodes, keys, m, copy, rows, counts, k, need);
+    last.board
+}
+
+// One of the two; C + 1 rows are enough for every call.
+pub fn call_somehow(
+    b: Plain,
+    table: &mut [Row],
+    nodes: &mut [Node],
+    keys: &mut [u64],
+    m: &mut [u8],
+    copy: &mut [u8],
+    rows: &mut [Row],
+    counts: &mut [u64],
+    k: Call,
+    exactly: bool,
+) -> Plain {
+    if exactly {
+        return call_exactly(b, table, nodes, keys, m, copy, rows, counts, k);
+    }
+    let o = call(b, table, nodes, keys, m, copy, rows, counts, k, more(b.c));
+    o.board
+}

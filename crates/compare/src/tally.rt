@@ -1,0 +1,48 @@
+// What was run, counted: a cell for each answer's number, then these.
+pub const BOARDS: usize = 9;
+
+pub const LARGE: usize = 10;
+
+pub const LOADS: usize = 11;
+
+pub const CHANGES: usize = 12;
+
+pub const NOTICED: usize = 13;
+
+pub const LISTS: usize = 14;
+
+pub const LISTED: usize = 15;
+
+pub const OPENED: usize = 16;
+
+pub const BANDS: usize = 17;
+
+pub const RANKS: usize = 18;
+
+pub const ON_K: usize = 19;
+
+pub const CHOSEN: usize = 20;
+
+pub const FOLLOWED: usize = 21;
+
+pub const DISAGREEMENTS: usize = 22;
+
+pub const STEP: usize = 23;
+
+pub const CELLS: usize = 24;
+
+pub fn told(tally: &[u64], i: usize) -> u64 {
+    if i < tally.len() { tally[i] } else { 0 }
+}
+
+pub fn set(tally: &mut [u64], i: usize, v: usize) {
+    if i < tally.len() {
+        tally[i] = v as u64;
+    }
+}
+
+pub fn add(tally: &mut [u64], i: usize, v: usize) {
+    if i < tally.len() {
+        tally[i] = tally[i] % 1000000000000 + (v % 1000000) as u64;
+    }
+}
