@@ -18,15 +18,15 @@ use crate::steps::call_somehow;
 use crate::tally;
 
 // What a board is made of: its size and costs, their style, and the number of changes tried.
-pub struct Shape {
-    pub c: usize,
-    pub d: usize,
-    pub style: usize,
-    pub changes: usize,
+struct Shape {
+    c: usize,
+    d: usize,
+    style: usize,
+    changes: usize,
 }
 
 // Board i: one in 200 of the largest size, one in 50 of some hundreds, the others small.
-pub fn shape(dice: &mut u64, i: usize) -> Shape {
+fn shape_of(dice: &mut u64, i: usize) -> Shape {
     let d = 2 + i % 3;
     let style = i / 3 % 12;
     if i % 200 == 199 {
@@ -279,12 +279,10 @@ pub fn one(
     dice: &mut u64,
     i: usize,
 ) -> Plain {
-    let s = shape(dice, i);
+    let s = shape_of(dice, i);
     let end = 64 * (s.c % 5000) + 1024;
     tally::set(counts, tally::BOARDS, i % 1000000 + 1);
-    if s.c == 4096 {
-        tally::add(counts, tally::LARGE, 1);
-    }
+    tally::add(counts, tally::LARGE, if s.c == 4096 { 1 } else { 0 });
     let refused_first = spoilt_load(b, table, nodes, keys, m, copy, counts, input, dice, s);
     set_tail(m, end, bytes_of(s));
     let loaded = fair_load(
@@ -313,15 +311,15 @@ pub fn one(
         s,
         s.changes,
     );
-    if !tail_kept(m, end, bytes_of(s)) {
-        report::other(
-            b"bytes past the board",
-            after,
-            table,
-            refused(0, 0),
-            refused(0, 0),
-            counts,
-        );
-    }
+    let kept = tail_kept(m, end, bytes_of(s));
+    report::other(
+        kept,
+        b"bytes past the board",
+        after,
+        table,
+        refused(0, 0),
+        refused(0, 0),
+        counts,
+    );
     after
 }

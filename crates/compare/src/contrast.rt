@@ -70,7 +70,19 @@ fn rows_right(table: &[Row], rows: &[Row], count: usize, n: usize) -> bool {
     true
 }
 
-// The call made; whether all is as wanted. A call that is to be refused leaves every byte.
+// A call that is to be refused leaves every byte: what `kept` says of it is asked of no other call.
+pub fn to_keep(want: Told, length: usize) -> usize {
+    if 0 < want.refusal { length } else { 0 }
+}
+
+fn count(counts: &mut [u64], letter: u8, want: Told) {
+    tally::add(counts, want.refusal, 1);
+    tally::add(counts, report::cell(letter, want.refusal), 1);
+    tally::add(counts, report::rows_cell(letter), want.count);
+    tally::add(counts, tally::OPENED, want.opened);
+}
+
+// The call made, and held against what is wanted.
 pub fn made(
     b: Plain,
     table: &[Row],
@@ -81,18 +93,13 @@ pub fn made(
     want: Told,
     counts: &mut [u64],
 ) -> Told {
-    if 0 < want.refusal {
-        copy_bytes(m, copy, b.length);
-    }
+    let bytes = to_keep(want, b.length);
+    copy_bytes(m, copy, bytes);
     let told = ask(m, b.length, k, rows);
-    let kept = want.refusal == 0 || same_bytes(m, copy, b.length);
-    let right = kept && agrees(told, want) && rows_right(table, rows, want.count, more(more(b.c)));
-    tally::add(counts, want.refusal, 1);
-    tally::add(counts, report::cell(k.letter, want.refusal), 1);
-    tally::add(counts, report::rows_cell(k.letter), want.count);
-    tally::add(counts, tally::OPENED, want.opened);
-    if !right {
-        report::disagreement(b, table, rows, k, want, told, counts);
-    }
+    let right = agrees(told, want)
+        && same_bytes(m, copy, bytes)
+        && rows_right(table, rows, want.count, more(more(b.c)));
+    count(counts, k.letter, want);
+    report::call(right, b, table, rows, k, want, told, counts);
     told
 }

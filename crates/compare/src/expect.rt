@@ -151,7 +151,8 @@ fn change(b: Plain, table: &mut [Row], nodes: &mut [Node], keys: &mut [u64], k: 
 
 // Whether a query's argument is out of range.
 fn bad_argument(b: Plain, k: Call) -> bool {
-    match k.letter {
+    let letter = k.letter;
+    match letter {
         b'B' => 4095 < k.argument,
         b'R' => k.argument < 1 || 4096 < k.argument,
         b'K' => k.argument < 1 || b.d < k.argument,
@@ -160,7 +161,8 @@ fn bad_argument(b: Plain, k: Call) -> bool {
 }
 
 fn kept_by(d: usize, k: Call) -> Rule {
-    match k.letter {
+    let letter = k.letter;
+    match letter {
         b'B' => on_all(d),
         b'K' => Rule {
             set: all_of(d),
@@ -175,7 +177,8 @@ fn kept_by(d: usize, k: Call) -> Rule {
 
 fn query_rows(b: Plain, table: &mut [Row], keys: &[u64], k: Call) -> usize {
     let rule = kept_by(b.d, k);
-    match k.letter {
+    let letter = k.letter;
+    match letter {
         b'R' => rank(table, keys, b.n, on_all(b.d), b.listed, k.argument),
         b'B' => keep(table, keys, b.n, rule, k.argument, WANT),
         _ => keep(table, keys, b.n, rule, 0, WANT),

@@ -49,7 +49,7 @@ fn child(d: usize, nodes: &[Node], keys: &[u64], n: Node, x: usize) -> usize {
 
 fn leaf_for(d: usize, nodes: &[Node], keys: &[u64], x: usize) -> usize {
     let mut at = root(nodes);
-    let mut t = 0;
+    let mut t: usize = 0;
     while t < 16 {
         let n = node_at(nodes, at);
         if is_leaf(n) {
@@ -86,7 +86,14 @@ fn end_of(nodes: &[Node], n: Node, i: usize, last: bool) -> usize {
 fn part(d: usize, nodes: &[Node], keys: &[u64], n: Node, i: usize, j: usize) -> u64 {
     let p = end_of(nodes, n, i, false);
     let q = end_of(nodes, n, j, true);
-    side(d, keys, p, q) % 1000000
+    side(d, keys, p, q)
+}
+
+// The sum of the sides of the two parts.
+fn sides(d: usize, nodes: &[Node], keys: &[u64], n: Node, left: usize) -> u64 {
+    let a = part(d, nodes, keys, n, 0, fewer(left)) % 1000000;
+    let b = part(d, nodes, keys, n, left, 8) % 1000000;
+    a + b
 }
 
 // The size of the left part of a node of nine: least sum of the two sides, then least left part.
@@ -95,7 +102,7 @@ fn left_part(d: usize, nodes: &[Node], keys: &[u64], n: Node) -> usize {
     let mut least: u64 = 1000000;
     let mut left: usize = 3;
     while left < 7 {
-        let sum = part(d, nodes, keys, n, 0, left - 1) + part(d, nodes, keys, n, left, 8);
+        let sum = sides(d, nodes, keys, n, left);
         if sum < least {
             least = sum;
             best = left;
@@ -109,7 +116,8 @@ fn without_first(n: Node, k: usize) -> Node {
     let mut after = n;
     let mut i = 0;
     while i < k {
-        after = remove(after, 0);
+        let next = remove(after, 0);
+        after = next;
         i += 1;
     }
     after
@@ -152,7 +160,7 @@ fn split(d: usize, nodes: &mut [Node], keys: &[u64], id: usize) -> usize {
 
 fn split_up(d: usize, nodes: &mut [Node], keys: &[u64], id: usize) {
     let mut at = id;
-    let mut t = 0;
+    let mut t: usize = 0;
     while t < 16 {
         if at == 0 {
             return;

@@ -18,15 +18,21 @@ pub fn start(table: &mut [Row], rows: &[Row], n: usize) {
     }
 }
 
+// Row i goes to place k unless it is r; the place for the next.
+fn keep_other(table: &mut [Row], k: usize, i: usize, r: Row) -> usize {
+    let p = row_at(table, HELD, i);
+    if same_row(p, r) {
+        return k;
+    }
+    put_row(table, HELD, k, p);
+    more(k)
+}
+
 fn take_out(table: &mut [Row], held: usize, r: Row) -> usize {
     let mut k = 0;
     let mut i = 0;
     while i < held {
-        let p = row_at(table, HELD, i);
-        if !same_row(p, r) {
-            put_row(table, HELD, k, p);
-            k = more(k);
-        }
+        k = keep_other(table, k, i, r);
         i += 1;
     }
     k
@@ -52,17 +58,19 @@ fn put_in(d: usize, table: &mut [Row], held: usize, r: Row) -> usize {
     more(held)
 }
 
+fn follow_row(d: usize, table: &mut [Row], held: usize, r: Row) -> usize {
+    if r[0] == 1 {
+        return take_out(table, held, marked(r, 0));
+    }
+    put_in(d, table, held, marked(r, 0))
+}
+
 // A notice of n rows; how many rows he then holds.
 pub fn follow(d: usize, table: &mut [Row], rows: &[Row], n: usize, held: usize) -> usize {
     let mut k = held;
     let mut i = 0;
     while i < n {
-        let r = row_at(rows, 0, i);
-        if r[0] == 1 {
-            k = take_out(table, k, marked(r, 0));
-        } else {
-            k = put_in(d, table, k, marked(r, 0));
-        }
+        k = follow_row(d, table, k, row_at(rows, 0, i));
         i += 1;
     }
     k

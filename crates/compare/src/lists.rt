@@ -75,6 +75,15 @@ fn has(table: &[Row], area: usize, n: usize, r: Row) -> bool {
     false
 }
 
+// A row put after the w wanted so far, unless it is among the first k of the other area.
+fn tell_one(table: &mut [Row], other: usize, k: usize, mark: u16, w: usize, r: Row) -> usize {
+    if has(table, other, k, r) {
+        return w;
+    }
+    put_row(table, WANT, w, marked(r, mark));
+    more(w)
+}
+
 // The first n rows of one area that are not among the first k of the other, put after those wanted so far.
 fn tell(
     table: &mut [Row],
@@ -89,10 +98,7 @@ fn tell(
     let mut i = 0;
     while i < n {
         let r = row_at(table, area, i);
-        if !has(table, other, k, r) {
-            put_row(table, WANT, w, marked(r, mark));
-            w = more(w);
-        }
+        w = tell_one(table, other, k, mark, w, r);
         i += 1;
     }
     w

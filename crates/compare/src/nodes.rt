@@ -72,7 +72,8 @@ pub fn insert(n: Node, i: usize, v: usize) -> Node {
     let mut after = n;
     let mut k: usize = 8;
     while i < k {
-        after = set_entry(after, k, entry(after, k - 1));
+        let next = set_entry(after, k, entry(after, k - 1));
+        after = next;
         k -= 1;
     }
     set_size(set_entry(after, i, v), size_of(n) % 65536 + 1)
@@ -83,7 +84,8 @@ pub fn remove(n: Node, i: usize) -> Node {
     let mut after = n;
     let mut k = i;
     while k < 8 {
-        after = set_entry(after, k, entry(after, k + 1));
+        let next = set_entry(after, k, entry(after, k + 1));
+        after = next;
         k += 1;
     }
     set_size(after, crate::cells::fewer(size_of(n)))
@@ -147,7 +149,7 @@ fn end_entry(n: Node, last: bool) -> usize {
 // The first move under a node, or the last.
 pub fn end_move(nodes: &[Node], id: usize, last: bool) -> usize {
     let mut at = id;
-    let mut t = 0;
+    let mut t: usize = 0;
     while t < 16 {
         let n = node_at(nodes, at);
         at = end_entry(n, last);

@@ -55,7 +55,8 @@ fn gather(keys: &[u64], rank: usize, i: usize, size: usize) -> Node {
     let mut n = single(rank, 0);
     let mut k = 0;
     while k < size {
-        n = set_entry(n, k, key(keys, WORK, (i % 10000) + k % 10) as usize);
+        let next = set_entry(n, k, key(keys, WORK, (i % 10000) + k % 10) as usize);
+        n = next;
         k += 1;
     }
     set_size(n, size)

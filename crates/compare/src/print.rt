@@ -11,17 +11,22 @@ pub fn put(n: usize) {
     io::print_decimal(STDOUT_FILENO, n as u64);
 }
 
+// A blank and a number of a row.
+fn put_cell(n: u16) {
+    put(n as usize);
+}
+
 pub fn end_line() {
     io::write_all(STDOUT_FILENO, b"\n");
 }
 
 fn put_row(r: Row) {
-    put(r[0] as usize);
-    put(r[1] as usize);
-    put(r[2] as usize);
-    put(r[3] as usize);
-    put(r[4] as usize);
-    put(r[5] as usize);
+    put_cell(r[0]);
+    put_cell(r[1]);
+    put_cell(r[2]);
+    put_cell(r[3]);
+    put_cell(r[4]);
+    put_cell(r[5]);
     end_line();
 }
 
@@ -46,11 +51,11 @@ pub fn put_call(k: Call) {
     let c = k.costs;
     io::write_all(STDOUT_FILENO, b"call ");
     io::write_all(STDOUT_FILENO, &[k.letter]);
-    put(k.number as usize);
-    put(c[0] as usize);
-    put(c[1] as usize);
-    put(c[2] as usize);
-    put(c[3] as usize);
+    put_cell(k.number);
+    put_cell(c[0]);
+    put_cell(c[1]);
+    put_cell(c[2]);
+    put_cell(c[3]);
     put(k.argument);
     put(k.lent);
     end_line();

@@ -68,13 +68,17 @@ fn put_board(b: Plain, table: &[Row], counts: &[u64]) {
 }
 
 // Whether one more disagreement is to be shown.
-fn shown(counts: &mut [u64]) -> bool {
+fn shown(right: bool, counts: &mut [u64]) -> bool {
+    if right {
+        return false;
+    }
     tally::add(counts, tally::DISAGREEMENTS, 1);
     tally::told(counts, tally::DISAGREEMENTS) <= SHOWN
 }
 
-// The call, with the plain board as it stands after it.
-pub fn disagreement(
+// A call, with the plain board as it stands after it.
+pub fn call(
+    right: bool,
     b: Plain,
     table: &[Row],
     rows: &[Row],
@@ -83,7 +87,7 @@ pub fn disagreement(
     told: Told,
     counts: &mut [u64],
 ) {
-    if !shown(counts) {
+    if !shown(right, counts) {
         return;
     }
     put_board(b, table, counts);
@@ -97,8 +101,16 @@ pub fn disagreement(
 }
 
 // A load, or the holder's list, or bytes past the memory: its name, and what was wanted and told of it.
-pub fn other(name: &[u8], b: Plain, table: &[Row], want: Told, told: Told, counts: &mut [u64]) {
-    if !shown(counts) {
+pub fn other(
+    right: bool,
+    name: &[u8],
+    b: Plain,
+    table: &[Row],
+    want: Told,
+    told: Told,
+    counts: &mut [u64],
+) {
+    if !shown(right, counts) {
         return;
     }
     put_board(b, table, counts);

@@ -30,19 +30,22 @@ fn set_mark(table: &mut [Row], number: usize, mark: u16) {
     put_row(table, MOVES, number, marked(r, mark));
 }
 
-// The moves of a leaf are marked as out of the nest; the entries of an upper node wait to be taken apart.
+// A move is marked as out of the nest, a node waits to be taken apart; how many wait.
+fn spill_one(table: &mut [Row], keys: &mut [u64], leaf: bool, w: usize, e: usize) -> usize {
+    if leaf {
+        set_mark(table, e, 2);
+        return w;
+    }
+    put_key(keys, WORK, w, e as u64);
+    more(w)
+}
+
 fn spill(table: &mut [Row], keys: &mut [u64], n: Node, waiting: usize) -> usize {
     let size = size_of(n);
     let mut w = waiting;
     let mut i = 0;
     while i < size {
-        let e = entry(n, i);
-        if is_leaf(n) {
-            set_mark(table, e, 2);
-        } else {
-            put_key(keys, WORK, w, e as u64);
-            w = more(w);
-        }
+        w = spill_one(table, keys, is_leaf(n), w, entry(n, i));
         i += 1;
     }
     w
@@ -52,7 +55,7 @@ fn spill(table: &mut [Row], keys: &mut [u64], n: Node, waiting: usize) -> usize 
 fn take_apart(table: &mut [Row], nodes: &mut [Node], keys: &mut [u64], id: usize) {
     put_key(keys, WORK, 0, id as u64);
     let mut w = 1;
-    let mut t = 0;
+    let mut t: usize = 0;
     while t < 4200 {
         if w == 0 {
             return;
@@ -83,7 +86,7 @@ fn thin(table: &mut [Row], nodes: &mut [Node], keys: &mut [u64], id: usize) -> u
 
 fn thin_up(table: &mut [Row], nodes: &mut [Node], keys: &mut [u64], id: usize) {
     let mut at = id;
-    let mut t = 0;
+    let mut t: usize = 0;
     while t < 16 {
         if at == 0 {
             return;
@@ -105,7 +108,7 @@ fn next_root(n: Node, id: usize) -> usize {
 }
 
 fn settle_root(nodes: &mut [Node]) {
-    let mut t = 0;
+    let mut t: usize = 0;
     while t < 16 {
         let id = root(nodes);
         let next = next_root(node_at(nodes, id), id);

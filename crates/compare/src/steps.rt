@@ -18,13 +18,15 @@ use crate::plain::Plain;
 use crate::report;
 use crate::tally;
 
-// The holder's rows held against the plain board's list.
+// The holder's rows, if there is one, held against the plain board's list.
 fn judge_held(b: Plain, table: &[Row], counts: &mut [u64]) {
-    tally::add(counts, tally::FOLLOWED, 1);
-    if b.held == b.listed && same_rows(table, HELD, NOW, b.held) {
+    if !b.holding {
         return;
     }
+    tally::add(counts, tally::FOLLOWED, 1);
+    let right = b.held == b.listed && same_rows(table, HELD, NOW, b.held);
     report::other(
+        right,
         b"holder",
         b,
         table,
@@ -72,9 +74,7 @@ pub fn call(
     let plain = e.board;
     let told = made(plain, table, m, copy, rows, k, want, counts);
     let board = held(plain, table, rows, k.letter, told);
-    if board.holding {
-        judge_held(board, table, counts);
-    }
+    judge_held(board, table, counts);
     wipe(rows, more(more(b.c)));
     Outcome { told: want, board }
 }
