@@ -109,9 +109,11 @@ fn change_nest(
         return;
     }
     let x = new[1] as usize;
-    if old[0] != 0 {
-        withdraw(b.d, table, nodes, keys, b.n, x);
+    if old[0] == 0 {
+        enter(b.d, nodes, keys, x);
+        return;
     }
+    withdraw(b.d, table, nodes, keys, b.n, x);
     if new[0] != 0 {
         enter(b.d, nodes, keys, x);
     }
@@ -123,29 +125,45 @@ pub fn list_anew(b: Plain, table: &mut [Row], keys: &[u64]) -> Plain {
     after
 }
 
-// The change made on the plain board, and undone where too few rows are lent for its notice.
-fn change(b: Plain, table: &mut [Row], nodes: &mut [Node], keys: &mut [u64], k: Call) -> Outcome {
-    let old = row_at(table, MOVES, k.number as usize);
-    let new = row_after(k);
+// A board with one row changed, and the rows that the notice needs.
+struct Renewed {
+    board: Plain,
+    need: usize,
+}
+
+fn renew(b: Plain, table: &mut [Row], keys: &mut [u64], new: Row) -> Renewed {
     copy_rows(table, NOW, BEFORE, b.listed);
     let moved = set_move(b, table, keys, new);
     let board = list_anew(moved, table, keys);
     let need = notice(table, b.listed, board.listed);
-    let told = rows_told(need, 0, k.lent);
+    Renewed { board, need }
+}
+
+fn undo(b: Plain, table: &mut [Row], keys: &mut [u64], old: Row, number: u16) -> Plain {
+    let moved = set_move(
+        b,
+        table,
+        keys,
+        [old[0], number, old[2], old[3], old[4], old[5]],
+    );
+    list_anew(moved, table, keys)
+}
+
+// The change made on the plain board, and undone where too few rows are lent for its notice.
+fn change(b: Plain, table: &mut [Row], nodes: &mut [Node], keys: &mut [u64], k: Call) -> Outcome {
+    let old = row_at(table, MOVES, k.number as usize);
+    let new = row_after(k);
+    let r = renew(b, table, keys, new);
+    let board = r.board;
+    let told = rows_told(r.need, 0, k.lent);
     if told.refusal == 0 {
         change_nest(board, table, nodes, keys, old, new);
         return Outcome { told, board };
     }
-    let undone = set_move(
-        board,
-        table,
-        keys,
-        [old[0], k.number, old[2], old[3], old[4], old[5]],
-    );
-    let listed = list_anew(undone, table, keys);
+    let undone = undo(board, table, keys, old, k.number);
     Outcome {
         told,
-        board: listed,
+        board: undone,
     }
 }
 

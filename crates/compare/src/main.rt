@@ -21,6 +21,8 @@ mod print;
 mod ranks;
 mod report;
 mod rules;
+mod runs;
+mod shapes;
 mod shrink;
 mod steps;
 mod table;

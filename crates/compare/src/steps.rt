@@ -54,8 +54,26 @@ fn held(b: Plain, table: &mut [Row], rows: &[Row], letter: u8, told: Told) -> Pl
     after
 }
 
-// The call with so many rows lent.
-pub fn call(
+// The call made in the board's memory, and the holder after it.
+fn answered(
+    b: Plain,
+    table: &mut [Row],
+    m: &mut [u8],
+    copy: &mut [u8],
+    rows: &mut [Row],
+    counts: &mut [u64],
+    k: Call,
+    want: Told,
+) -> Plain {
+    let told = made(b, table, m, copy, rows, k, want, counts);
+    let board = held(b, table, rows, k.letter, told);
+    judge_held(board, table, counts);
+    wipe(rows, more(more(b.c)));
+    board
+}
+
+// The call with so many rows lent, on both boards.
+fn call(
     b: Plain,
     table: &mut [Row],
     nodes: &mut [Node],
@@ -70,17 +88,52 @@ pub fn call(
     let mut k = asked;
     k.lent = lent;
     let e = expect(b, table, nodes, keys, k);
-    let want = e.told;
+    let told = e.told;
     let plain = e.board;
-    let told = made(plain, table, m, copy, rows, k, want, counts);
-    let board = held(plain, table, rows, k.letter, told);
-    judge_held(board, table, counts);
-    wipe(rows, more(more(b.c)));
-    Outcome { told: want, board }
+    let board = answered(plain, table, m, copy, rows, counts, k, told);
+    Outcome { told, board }
 }
 
-// The call with no rows lent, then with one fewer than it needs, then with as many.
-pub fn call_exactly(
+// The call with one row fewer than it needs, if it needs more than one.
+fn call_short(
+    b: Plain,
+    table: &mut [Row],
+    nodes: &mut [Node],
+    keys: &mut [u64],
+    m: &mut [u8],
+    copy: &mut [u8],
+    rows: &mut [Row],
+    counts: &mut [u64],
+    k: Call,
+    need: usize,
+) -> Plain {
+    if need <= 1 {
+        return b;
+    }
+    let o = call(b, table, nodes, keys, m, copy, rows, counts, k, need - 1);
+    o.board
+}
+
+// Then with as many as it needs.
+fn call_again(
+    b: Plain,
+    table: &mut [Row],
+    nodes: &mut [Node],
+    keys: &mut [u64],
+    m: &mut [u8],
+    copy: &mut [u8],
+    rows: &mut [Row],
+    counts: &mut [u64],
+    k: Call,
+    need: usize,
+) -> Plain {
+    let board = call_short(b, table, nodes, keys, m, copy, rows, counts, k, need);
+    let o = call(board, table, nodes, keys, m, copy, rows, counts, k, need);
+    o.board
+}
+
+// The call with no rows lent; if it needs some, with one fewer, then with as many.
+fn call_exactly(
     b: Plain,
     table: &mut [Row],
     nodes: &mut [Node],
@@ -97,23 +150,18 @@ pub fn call_exactly(
     if told.refusal != 8 {
         return board;
     }
-    let need = told.detail;
-    if 1 < need {
-        call(
-            board,
-            table,
-            nodes,
-            keys,
-            m,
-            copy,
-            rows,
-            counts,
-            k,
-            need - 1,
-        );
-    }
-    let last = call(board, table, nodes, keys, m, copy, rows, counts, k, need);
-    last.board
+    call_again(
+        board,
+        table,
+        nodes,
+        keys,
+        m,
+        copy,
+        rows,
+        counts,
+        k,
+        told.detail,
+    )
 }
 
 // One of the two; C + 1 rows are enough for every call.

@@ -1,0 +1,112 @@
+// What the boards are made of, and their loads: one that is to be refused, one that is not.
+use crate::cells::Row;
+use crate::dice::roll;
+use crate::loads;
+use crate::loads::Input;
+use crate::nodes::Node;
+use crate::plain::Plain;
+use crate::plain::bare;
+
+// What a board is made of: its size and costs, their style, and the number of changes tried.
+pub struct Shape {
+    pub c: usize,
+    pub d: usize,
+    pub style: usize,
+    pub changes: usize,
+}
+
+// Board i: one in 200 of the largest size, one in 50 of some hundreds, the others small.
+pub fn shape_of(dice: &mut u64, i: usize) -> Shape {
+    let d = 2 + i % 3;
+    let style = i / 3 % 12;
+    if i % 200 == 199 {
+        return Shape {
+            c: 4096,
+            d,
+            style,
+            changes: 24,
+        };
+    }
+    if i % 50 == 25 {
+        return Shape {
+            c: 256 + roll(dice, 768) % 768,
+            d,
+            style,
+            changes: 60,
+        };
+    }
+    let span = if i % 4 == 0 { 160 } else { 48 };
+    Shape {
+        c: 16 + roll(dice, span) % 1000,
+        d,
+        style,
+        changes: 100,
+    }
+}
+
+// The bytes lent: as many as are asked, or more.
+pub fn bytes_of(s: Shape) -> usize {
+    64 * (s.c % 5000) + 1024 + s.style % 2 * 32
+}
+
+// The number of rows to load: none, few, some or all.
+fn rows_of(dice: &mut u64, c: usize) -> usize {
+    match roll(dice, 8) {
+        0 => 0,
+        1 => roll(dice, 12),
+        2 => c,
+        _ => roll(dice, c),
+    }
+}
+
+// Sizes for a load that is to be refused: C or d out of range, memory a byte too short; or in range.
+fn sizes(dice: &mut u64, s: Shape) -> Plain {
+    let bytes = bytes_of(s);
+    match roll(dice, 12) {
+        0 => bare(15, s.d, bytes),
+        1 => bare(4097, s.d, bytes),
+        2 => bare(s.c, 1, bytes),
+        3 => bare(s.c, 5, bytes),
+        4 => bare(s.c, s.d, 64 * (s.c % 5000) + 1023),
+        5 => bare(15, s.d, 0),
+        _ => bare(s.c, s.d, bytes),
+    }
+}
+
+// A load with a row spoilt.
+pub fn spoilt_load(
+    b: Plain,
+    table: &mut [Row],
+    nodes: &mut [Node],
+    keys: &mut [u64],
+    m: &mut [u8],
+    copy: &mut [u8],
+    counts: &mut [u64],
+    input: &mut [Input],
+    dice: &mut u64,
+    s: Shape,
+) -> Plain {
+    let n = 1 + roll(dice, s.c) % 5000;
+    loads::make(input, dice, s.c, s.d, s.style, n);
+    loads::spoil(input, dice, s.c, n);
+    let new = sizes(dice, s);
+    loads::load(b, table, nodes, keys, m, copy, counts, input, n, new)
+}
+
+pub fn fair_load(
+    b: Plain,
+    table: &mut [Row],
+    nodes: &mut [Node],
+    keys: &mut [u64],
+    m: &mut [u8],
+    copy: &mut [u8],
+    counts: &mut [u64],
+    input: &mut [Input],
+    dice: &mut u64,
+    s: Shape,
+) -> Plain {
+    let n = rows_of(dice, s.c);
+    loads::make(input, dice, s.c, s.d, s.style, n);
+    let new = bare(s.c, s.d, bytes_of(s));
+    loads::load(b, table, nodes, keys, m, copy, counts, input, n, new)
+}
