@@ -1,5 +1,5 @@
 // Addresses and regions from document 01's words: bit by bit, and group by group.
-use crate::cells::MOVES;
+use crate::cells::ADDRESSES;
 use crate::cells::Row;
 use crate::cells::key;
 
@@ -42,7 +42,7 @@ pub fn stands_before(a: u64, p: usize, b: u64, q: usize) -> bool {
 }
 
 pub fn before(keys: &[u64], p: usize, q: usize) -> bool {
-    stands_before(key(keys, MOVES, p), p, key(keys, MOVES, q), q)
+    stands_before(key(keys, ADDRESSES, p), p, key(keys, ADDRESSES, q), q)
 }
 
 // The address without its last group.
@@ -72,7 +72,7 @@ pub fn unkept(d: usize, a: u64, b: u64) -> usize {
 
 // The side of the region of two moves: 2 to the number of groups not kept.
 pub fn side(d: usize, keys: &[u64], p: usize, q: usize) -> u64 {
-    let u = unkept(d, key(keys, MOVES, p), key(keys, MOVES, q));
+    let u = unkept(d, key(keys, ADDRESSES, p), key(keys, ADDRESSES, q));
     if 16 < u {
         return 0;
     }
@@ -89,7 +89,7 @@ fn floor(c: u16, u: usize) -> u16 {
 
 // The near corner of the region of the moves p and q, as a row; `r` is the row of p.
 pub fn near(d: usize, keys: &[u64], r: Row, p: usize, q: usize) -> Row {
-    let u = unkept(d, key(keys, MOVES, p), key(keys, MOVES, q));
+    let u = unkept(d, key(keys, ADDRESSES, p), key(keys, ADDRESSES, q));
     [
         0,
         0,

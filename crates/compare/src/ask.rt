@@ -89,11 +89,11 @@ fn answer(m: &mut [u8], k: Call, rows: &mut [Row]) -> Told {
     read(m, k, rows)
 }
 
-// The call on the first bytes of the memory, with rows lent as it says.
-pub fn ask(memory: &mut [u8], length: usize, k: Call, rows: &mut [Row]) -> Told {
+// The call on the first bytes of the memory, with as many of the table's first rows lent as it says.
+pub fn ask(memory: &mut [u8], length: usize, k: Call, table: &mut [Row]) -> Told {
     let bytes = at_most(length, memory.len());
-    let lent = at_most(k.lent, rows.len());
-    answer(&mut memory[..bytes], k, &mut rows[..lent])
+    let lent = at_most(k.lent, table.len());
+    answer(&mut memory[..bytes], k, &mut table[..lent])
 }
 
 // A load of the first n rows of the input.

@@ -49,17 +49,14 @@ fn loaded(
     nodes: &mut [Node],
     keys: &mut [u64],
     m: &mut [u8],
-    copy: &mut [u8],
-    counts: &mut [u64],
     input: &mut [Input],
-    dice: &mut u64,
     s: Shape,
 ) -> Plain {
-    let left = spoilt_load(b, table, nodes, keys, m, copy, counts, input, dice, s);
-    fair_load(left, table, nodes, keys, m, copy, counts, input, dice, s)
+    let left = spoilt_load(b, table, nodes, keys, m, input, s);
+    fair_load(left, table, nodes, keys, m, input, s)
 }
 
-fn judge_tail(b: Plain, table: &[Row], m: &[u8], counts: &mut [u64], s: Shape) {
+fn judge_tail(b: Plain, table: &[Row], m: &[u8], keys: &mut [u64], s: Shape) {
     let kept = tail_kept(m, end_of(s), bytes_of(s));
     report::other(
         kept,
@@ -68,13 +65,13 @@ fn judge_tail(b: Plain, table: &[Row], m: &[u8], counts: &mut [u64], s: Shape) {
         table,
         refused(0, 0),
         refused(0, 0),
-        counts,
+        keys,
     );
 }
 
-fn begin(counts: &mut [u64], i: usize, s: Shape) {
-    tally::set(counts, tally::BOARDS, i % 1000000 + 1);
-    tally::add(counts, tally::LARGE, if s.c == 4096 { 1 } else { 0 });
+fn begin(keys: &mut [u64], i: usize, s: Shape) {
+    tally::set(keys, tally::BOARDS, i % 1000000 + 1);
+    tally::add(keys, tally::LARGE, if s.c == 4096 { 1 } else { 0 });
 }
 
 fn used(
@@ -83,29 +80,12 @@ fn used(
     nodes: &mut [Node],
     keys: &mut [u64],
     m: &mut [u8],
-    copy: &mut [u8],
-    rows: &mut [Row],
-    counts: &mut [u64],
     input: &mut [Input],
-    dice: &mut u64,
     s: Shape,
 ) -> Plain {
     set_tail(m, end_of(s), bytes_of(s));
-    let after = run(
-        b,
-        table,
-        nodes,
-        keys,
-        m,
-        copy,
-        rows,
-        counts,
-        input,
-        dice,
-        s,
-        s.changes,
-    );
-    judge_tail(after, table, m, counts, s);
+    let after = run(b, table, nodes, keys, m, input, s, s.changes);
+    judge_tail(after, table, m, keys, s);
     after
 }
 
@@ -116,27 +96,11 @@ pub fn one(
     nodes: &mut [Node],
     keys: &mut [u64],
     m: &mut [u8],
-    copy: &mut [u8],
-    rows: &mut [Row],
-    counts: &mut [u64],
     input: &mut [Input],
-    dice: &mut u64,
     i: usize,
 ) -> Plain {
-    let s = shape_of(dice, i);
-    begin(counts, i, s);
-    let fresh = loaded(b, table, nodes, keys, m, copy, counts, input, dice, s);
-    used(
-        fresh,
-        table,
-        nodes,
-        keys,
-        m,
-        copy,
-        rows,
-        counts,
-        input,
-        dice,
-        s,
-    )
+    let s = shape_of(keys, i);
+    begin(keys, i, s);
+    let fresh = loaded(b, table, nodes, keys, m, input, s);
+    used(fresh, table, nodes, keys, m, input, s)
 }

@@ -1,32 +1,46 @@
 // Places read and set by any index: past the end a read gives nothing and a store does nothing. So the plain program needs
-// no proof of where it reads. Its rows lie in one table of five areas, its numbers in one row of three.
+// no proof of where it reads. Its rows lie in one table, its numbers in one
+// row of keys: a call that is lent few slices is proved with no file.
 ghost use Prim.Native.Nat.{_≤_};
 
 // Mark, number, four costs.
 pub type Row = [u16; 6];
 
-// The areas of the table: moves by number, marked 1 on the board, 2 while out of the nest; Definition 2's list now and
-// before a change; the rows that a call is to tell; the rows of the holder.
+// The areas of the table: the rows lent; moves by number, marked 1 on the board, 2 while out of the nest; Definition 2's list
+// now and before a change; the rows that a call is to tell; the rows of the holder.
 pub const ROOM: usize = 4200;
 
-pub const MOVES: usize = 0;
+pub const LENT: usize = 0;
 
-pub const NOW: usize = 4200;
+pub const MOVES: usize = 4200;
 
-pub const BEFORE: usize = 8400;
+pub const NOW: usize = 8400;
 
-pub const WANT: usize = 12600;
+pub const BEFORE: usize = 12600;
 
-pub const HELD: usize = 16800;
+pub const WANT: usize = 16800;
 
-pub const TABLE: usize = 21000;
+pub const HELD: usize = 21000;
 
-// The areas of the keys: addresses by number, numbers by place in Z-order, and space to work.
+pub const TABLE: usize = 25200;
+
+// The areas of the keys: addresses by number, numbers by place in Z-order, space to work, what was counted, the dice.
+pub const ADDRESSES: usize = 0;
+
 pub const ORDER: usize = 4200;
 
 pub const WORK: usize = 8400;
 
-pub const KEYS: usize = 12600;
+pub const COUNTS: usize = 12600;
+
+pub const DICE: usize = 12700;
+
+pub const KEYS: usize = 12701;
+
+// The memory has the board's bytes, then a copy of them.
+pub const COPY: usize = 263232;
+
+pub const MEMORY: usize = 526464;
 
 // The place of entry i of an area; past every area where i is too large.
 fn slot(area: usize, i: usize) -> usize {

@@ -32,37 +32,38 @@ fn free_from(table: &[Row], c: usize, start: usize) -> usize {
     start
 }
 
-fn number_for(b: Plain, table: &[Row], keys: &[u64], dice: &mut u64, letter: u8) -> usize {
-    let any = roll(dice, b.c);
-    if once_in(dice, 20) {
-        return b.c % 5000 + roll(dice, 3) % 5000;
+fn number_for(b: Plain, table: &[Row], keys: &mut [u64], letter: u8) -> usize {
+    let any = roll(keys, b.c);
+    if once_in(keys, 20) {
+        return b.c % 5000 + roll(keys, 3) % 5000;
     }
-    if once_in(dice, 12) {
+    if once_in(keys, 12) {
         return any;
     }
     if letter == b'E' {
         return free_from(table, b.c, any);
     }
-    number_at(keys, roll(dice, b.n))
+    let place = roll(keys, b.n);
+    number_at(keys, place)
 }
 
 // Costs of the style; at times one past d, or those that the number has.
-fn costs_for(b: Plain, table: &[Row], dice: &mut u64, style: usize, number: usize) -> [u16; 4] {
-    let mut c = costs(dice, b.d, style);
-    if once_in(dice, 24) {
-        c[3] = narrow(roll(dice, 3));
+fn costs_for(b: Plain, table: &[Row], keys: &mut [u64], style: usize, number: usize) -> [u16; 4] {
+    let mut c = costs(keys, b.d, style);
+    if once_in(keys, 24) {
+        c[3] = narrow(roll(keys, 3));
         return c;
     }
     let r = row_at(table, MOVES, number);
-    if once_in(dice, 8) {
+    if once_in(keys, 8) {
         return [r[2], r[3], r[4], r[5]];
     }
     c
 }
 
 // Enter, withdraw or re-cost; more of one or the other, so that boards grow and shrink.
-fn letter_for(dice: &mut u64, growing: bool) -> u8 {
-    let n = roll(dice, 16);
+fn letter_for(keys: &mut [u64], growing: bool) -> u8 {
+    let n = roll(keys, 16);
     if n < 3 {
         return b'C';
     }
@@ -70,20 +71,13 @@ fn letter_for(dice: &mut u64, growing: bool) -> u8 {
     if often == growing { b'E' } else { b'W' }
 }
 
-pub fn change(
-    b: Plain,
-    table: &[Row],
-    keys: &[u64],
-    dice: &mut u64,
-    style: usize,
-    growing: bool,
-) -> Call {
-    let letter = letter_for(dice, growing);
-    let number = number_for(b, table, keys, dice, letter);
+pub fn change(b: Plain, table: &[Row], keys: &mut [u64], style: usize, growing: bool) -> Call {
+    let letter = letter_for(keys, growing);
+    let number = number_for(b, table, keys, letter);
     Call {
         letter,
         number: narrow(number),
-        costs: costs_for(b, table, dice, style, number),
+        costs: costs_for(b, table, keys, style, number),
         argument: 0,
         lent: 0,
     }
@@ -101,24 +95,24 @@ pub fn reading(letter: u8, argument: usize) -> Call {
 }
 
 // The argument of one of the other lists: mostly small, at times at the ends of the range and past them.
-fn argument(dice: &mut u64, letter: u8, d: usize) -> usize {
-    if once_in(dice, 6) {
-        return 4094 + roll(dice, 4) % 4;
+fn argument(keys: &mut [u64], letter: u8, d: usize) -> usize {
+    if once_in(keys, 6) {
+        return 4094 + roll(keys, 4) % 4;
     }
     match letter {
-        b'B' => roll(dice, 6),
-        b'R' => roll(dice, 12),
-        b'K' => roll(dice, d % 8 + 2),
-        _ => roll(dice, 18),
+        b'B' => roll(keys, 6),
+        b'R' => roll(keys, 12),
+        b'K' => roll(keys, d % 8 + 2),
+        _ => roll(keys, 18),
     }
 }
 
-pub fn query(dice: &mut u64, d: usize) -> Call {
-    let letter = match roll(dice, 4) {
+pub fn query(keys: &mut [u64], d: usize) -> Call {
+    let letter = match roll(keys, 4) {
         0 => b'B',
         1 => b'R',
         2 => b'K',
         _ => b'S',
     };
-    reading(letter, argument(dice, letter, d))
+    reading(letter, argument(keys, letter, d))
 }

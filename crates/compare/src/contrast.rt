@@ -1,5 +1,7 @@
 // A call on the board's memory held against the plain board's answer: numbers, rows, and what was to stay as it was.
 use crate::ask::ask;
+use crate::cells::COPY;
+use crate::cells::LENT;
 use crate::cells::Row;
 use crate::cells::WANT;
 use crate::cells::byte;
@@ -19,26 +21,42 @@ fn blank() -> Row {
     [60000, 60001, 60002, 60003, 60004, 60005]
 }
 
-pub fn wipe(rows: &mut [Row], n: usize) {
+pub fn wipe(table: &mut [Row], n: usize) {
     let mut i = 0;
     while i < n {
-        put_row(rows, 0, i, blank());
+        put_row(table, LENT, i, blank());
         i += 1;
     }
 }
 
-pub fn copy_bytes(from: &[u8], to: &mut [u8], n: usize) {
+// The first n bytes copied.
+pub fn copy_bytes(m: &mut [u8], n: usize) {
     let mut i = 0;
     while i < n {
-        put_byte(to, i, byte(from, i));
+        put_copy(m, i);
         i += 1;
     }
 }
 
-pub fn same_bytes(a: &[u8], b: &[u8], n: usize) -> bool {
+fn put_copy(m: &mut [u8], i: usize) {
+    if COPY <= i {
+        return;
+    }
+    put_byte(m, COPY + i, byte(m, i));
+}
+
+fn copy_at(m: &[u8], i: usize) -> u8 {
+    if COPY <= i {
+        return 0;
+    }
+    byte(m, COPY + i)
+}
+
+// Whether the first n bytes are as they were copied.
+pub fn same_bytes(m: &[u8], n: usize) -> bool {
     let mut i = 0;
     while i < n {
-        if byte(a, i) != byte(b, i) {
+        if byte(m, i) != copy_at(m, i) {
             return false;
         }
         i += 1;
@@ -59,10 +77,10 @@ fn due(table: &[Row], count: usize, i: usize) -> Row {
     }
 }
 
-fn rows_right(table: &[Row], rows: &[Row], count: usize, n: usize) -> bool {
+fn rows_right(table: &[Row], count: usize, n: usize) -> bool {
     let mut i = 0;
     while i < n {
-        if !same_row(due(table, count, i), row_at(rows, 0, i)) {
+        if !same_row(due(table, count, i), row_at(table, LENT, i)) {
             return false;
         }
         i += 1;
@@ -75,31 +93,29 @@ pub fn to_keep(want: Told, length: usize) -> usize {
     if 0 < want.refusal { length } else { 0 }
 }
 
-fn count(counts: &mut [u64], letter: u8, want: Told) {
-    tally::add(counts, want.refusal, 1);
-    tally::add(counts, report::cell(letter, want.refusal), 1);
-    tally::add(counts, report::rows_cell(letter), want.count);
-    tally::add(counts, tally::OPENED, want.opened);
+fn count(keys: &mut [u64], letter: u8, want: Told) {
+    tally::add(keys, want.refusal, 1);
+    tally::add(keys, report::cell(letter, want.refusal), 1);
+    tally::add(keys, report::rows_cell(letter), want.count);
+    tally::add(keys, tally::OPENED, want.opened);
 }
 
 // The call made, and held against what is wanted.
 pub fn made(
     b: Plain,
-    table: &[Row],
+    table: &mut [Row],
+    keys: &mut [u64],
     m: &mut [u8],
-    copy: &mut [u8],
-    rows: &mut [Row],
     k: Call,
     want: Told,
-    counts: &mut [u64],
 ) -> Told {
     let bytes = to_keep(want, b.length);
-    copy_bytes(m, copy, bytes);
-    let told = ask(m, b.length, k, rows);
+    copy_bytes(m, bytes);
+    let told = ask(m, b.length, k, table);
     let right = agrees(told, want)
-        && same_bytes(m, copy, bytes)
-        && rows_right(table, rows, want.count, more(more(b.c)));
-    count(counts, k.letter, want);
-    report::call(right, b, table, rows, k, want, told, counts);
+        && same_bytes(m, bytes)
+        && rows_right(table, want.count, more(more(b.c)));
+    count(keys, k.letter, want);
+    report::call(right, b, table, k, want, told, keys);
     told
 }

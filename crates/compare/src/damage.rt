@@ -27,43 +27,41 @@ fn letter(i: usize) -> u8 {
 }
 
 // One of the eight calls, with arguments of any kind.
-fn any_call(b: Plain, dice: &mut u64, i: usize) -> Call {
-    let lent = if roll(dice, 2) == 0 { 0 } else { more(b.c) };
+fn any_call(b: Plain, keys: &mut [u64], i: usize) -> Call {
+    let lent = if roll(keys, 2) == 0 { 0 } else { more(b.c) };
     Call {
         letter: letter(i),
-        number: narrow(roll(dice, more(b.c))),
-        costs: [1, 1, narrow(roll(dice, 2)), narrow(roll(dice, 2))],
-        argument: roll(dice, 5),
+        number: narrow(roll(keys, more(b.c))),
+        costs: [1, 1, narrow(roll(keys, 2)), narrow(roll(keys, 2))],
+        argument: roll(keys, 5),
         lent,
     }
 }
 
 // All eight calls say 3.
-fn unsound(
-    b: Plain,
-    table: &[Row],
-    m: &mut [u8],
-    copy: &mut [u8],
-    rows: &mut [Row],
-    counts: &mut [u64],
-    dice: &mut u64,
-) {
+fn unsound(b: Plain, table: &mut [Row], keys: &mut [u64], m: &mut [u8]) {
     let mut i = 0;
     while i < 8 {
-        let k = any_call(b, dice, i);
-        made(b, table, m, copy, rows, k, refused(3, 0), counts);
+        let k = any_call(b, keys, i);
+        made(b, table, keys, m, k, refused(3, 0));
         i += 1;
     }
-    wipe(rows, more(more(b.c)));
+    wipe(table, more(more(b.c)));
 }
 
-// The byte to alter: of C, of d, of the number of moves, or the mark of a move on the board.
-fn spot(b: Plain, keys: &[u64], dice: &mut u64, kind: usize) -> usize {
+// The byte of the mark of a move on the board.
+fn mark_of(b: Plain, keys: &mut [u64]) -> usize {
+    let place = roll(keys, b.n);
+    16 + 3 * (b.c % 5000) + number_at(keys, place) % 5000
+}
+
+// The byte to alter: of C, of d, of the number of moves, or a mark.
+fn spot(b: Plain, keys: &mut [u64], kind: usize) -> usize {
     match kind {
         0 => 1,
         1 => 2,
         2 => 5,
-        _ => 16 + 3 * (b.c % 5000) + number_at(keys, roll(dice, b.n)) % 5000,
+        _ => mark_of(b, keys),
     }
 }
 
@@ -75,39 +73,21 @@ fn altered(old: u8, kind: usize) -> u8 {
     if old == 1 { 0 } else { 1 }
 }
 
-fn altered_calls(
-    b: Plain,
-    table: &[Row],
-    keys: &[u64],
-    m: &mut [u8],
-    copy: &mut [u8],
-    rows: &mut [Row],
-    counts: &mut [u64],
-    dice: &mut u64,
-) {
-    let kind = roll(dice, if b.n == 0 { 3 } else { 6 });
-    let i = spot(b, keys, dice, kind);
+fn altered_calls(b: Plain, table: &mut [Row], keys: &mut [u64], m: &mut [u8]) {
+    let kind = roll(keys, if b.n == 0 { 3 } else { 6 });
+    let i = spot(b, keys, kind);
     let old = byte(m, i);
     put_byte(m, i, altered(old, kind));
-    unsound(b, table, m, copy, rows, counts, dice);
+    unsound(b, table, keys, m);
     put_byte(m, i, old);
 }
 
 // Memory altered, memory a byte too short, no memory.
-pub fn damage(
-    b: Plain,
-    table: &[Row],
-    keys: &[u64],
-    m: &mut [u8],
-    copy: &mut [u8],
-    rows: &mut [Row],
-    counts: &mut [u64],
-    dice: &mut u64,
-) {
-    altered_calls(b, table, keys, m, copy, rows, counts, dice);
+pub fn damage(b: Plain, table: &mut [Row], keys: &mut [u64], m: &mut [u8]) {
+    altered_calls(b, table, keys, m);
     let mut short = b;
     short.length = 64 * (b.c % 5000) + 1023;
-    unsound(short, table, m, copy, rows, counts, dice);
+    unsound(short, table, keys, m);
     short.length = 0;
-    unsound(short, table, m, copy, rows, counts, dice);
+    unsound(short, table, keys, m);
 }

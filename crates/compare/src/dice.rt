@@ -1,4 +1,8 @@
 // Numbers that look random, the same at each run, and costs made of them: few values with many ties, or many.
+use crate::cells::DICE;
+use crate::cells::key;
+use crate::cells::put_key;
+
 fn next(s: u64) -> u64 {
     let a = s ^ (s << 13);
     let b = a ^ (a >> 7);
@@ -6,18 +10,22 @@ fn next(s: u64) -> u64 {
 }
 
 // A number below n.
-pub fn roll(dice: &mut u64, n: usize) -> usize {
-    let s = next(*dice);
-    *dice = s;
+pub fn roll(keys: &mut [u64], n: usize) -> usize {
+    let s = next(key(keys, DICE, 0));
+    put_key(keys, DICE, 0, s);
     if n == 0 {
         return 0;
     }
     (s / 64) as usize % n
 }
 
+pub fn start(keys: &mut [u64]) {
+    put_key(keys, DICE, 0, 88172645463325252);
+}
+
 // True once in n rolls.
-pub fn once_in(dice: &mut u64, n: usize) -> bool {
-    roll(dice, n) == 0
+pub fn once_in(keys: &mut [u64], n: usize) -> bool {
+    roll(keys, n) == 0
 }
 
 fn extreme(n: usize) -> usize {
@@ -32,8 +40,8 @@ fn extreme(n: usize) -> usize {
 }
 
 // A cost in one of the styles: 2, 5 or 40 values, ends of the range, many values of which some share their high bits, any.
-fn cost(dice: &mut u64, style: usize) -> u16 {
-    let n = roll(dice, 65536) % 65536;
+fn cost(keys: &mut [u64], style: usize) -> u16 {
+    let n = roll(keys, 65536) % 65536;
     match style {
         0 => (n % 2) as u16,
         1 => (n % 5) as u16,
@@ -50,11 +58,11 @@ fn against(a: u16, b: u16) -> u16 {
 }
 
 // The styles 0 to 5 with costs apart, 6 to 11 with the second against the first; those past d are zero.
-pub fn costs(dice: &mut u64, d: usize, style: usize) -> [u16; 4] {
-    let a = cost(dice, style % 6);
-    let b = cost(dice, style % 6);
-    let e = cost(dice, style % 6);
-    let f = cost(dice, style % 6);
+pub fn costs(keys: &mut [u64], d: usize, style: usize) -> [u16; 4] {
+    let a = cost(keys, style % 6);
+    let b = cost(keys, style % 6);
+    let e = cost(keys, style % 6);
+    let f = cost(keys, style % 6);
     let second = if style < 6 { b } else { against(a, b) };
     let third = if 2 < d { e } else { 0 };
     let fourth = if 3 < d { f } else { 0 };

@@ -2,21 +2,13 @@
 use crate::address::address;
 use crate::address::stands_before;
 use crate::cells::HELD;
+use crate::cells::LENT;
 use crate::cells::Row;
 use crate::cells::marked;
 use crate::cells::more;
 use crate::cells::put_row;
 use crate::cells::row_at;
 use crate::cells::same_row;
-
-// The first n rows told are his list.
-pub fn start(table: &mut [Row], rows: &[Row], n: usize) {
-    let mut i = 0;
-    while i < n {
-        put_row(table, HELD, i, row_at(rows, 0, i));
-        i += 1;
-    }
-}
 
 // Row i goes to place k unless it is r; the place for the next.
 fn keep_other(table: &mut [Row], k: usize, i: usize, r: Row) -> usize {
@@ -65,12 +57,13 @@ fn follow_row(d: usize, table: &mut [Row], held: usize, r: Row) -> usize {
     put_in(d, table, held, marked(r, 0))
 }
 
-// A notice of n rows; how many rows he then holds.
-pub fn follow(d: usize, table: &mut [Row], rows: &[Row], n: usize, held: usize) -> usize {
+// A notice of n rows, as told; how many rows he then holds.
+pub fn follow(d: usize, table: &mut [Row], n: usize, held: usize) -> usize {
     let mut k = held;
     let mut i = 0;
     while i < n {
-        k = follow_row(d, table, k, row_at(rows, 0, i));
+        let r = row_at(table, LENT, i);
+        k = follow_row(d, table, k, r);
         i += 1;
     }
     k

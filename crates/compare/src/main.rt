@@ -25,7 +25,7 @@ mod runs;
 mod shapes;
 mod shrink;
 mod steps;
-mod table;
+mod sums;
 mod tally;
 
 // The number of boards that the word asks for.
@@ -39,34 +39,27 @@ fn boards_asked() -> usize {
 }
 
 fn main() {
-    let mut cells = [[0u16; 6]; cells::TABLE];
-    let mut keys = [0u64; cells::KEYS];
+    let mut table = [[0u16; 6]; cells::TABLE];
     let mut nodes = [[0u16; 11]; nodes::NODES];
-    let mut memory = [0u8; 263232];
-    let mut copy = [0u8; 263232];
-    let mut rows = [[0u16; 6]; cells::ROOM];
+    let mut keys = [0u64; cells::KEYS];
+    let mut memory = [0u8; cells::MEMORY];
     let mut input = [[0u16; 5]; 4096];
-    let mut counts = [0u64; tally::CELLS];
-    contrast::wipe(&mut rows, cells::ROOM);
-    let mut dice: u64 = 88172645463325252;
-    let mut b = plain::bare(0, 0, 0);
+    contrast::wipe(&mut table, cells::ROOM);
+    dice::start(&mut keys);
     let n = boards_asked();
+    let mut b = plain::bare(0, 0, 0);
     let mut i = 0;
     while i < n {
         b = boards::one(
             b,
-            &mut cells,
+            &mut table,
             &mut nodes,
             &mut keys,
             &mut memory,
-            &mut copy,
-            &mut rows,
-            &mut counts,
             &mut input,
-            &mut dice,
             i,
         );
         i += 1;
     }
-    table::put_all(&counts);
+    sums::put_all(&keys);
 }

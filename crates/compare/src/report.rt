@@ -1,5 +1,6 @@
 // A disagreement written out: the board, the call, both answers and their rows. Only the first few, since one that is left
 // behind brings others.
+use crate::cells::LENT;
 use crate::cells::MOVES;
 use crate::cells::Row;
 use crate::cells::WANT;
@@ -15,12 +16,12 @@ use crate::print::put_told;
 use crate::tally;
 use libc::STDOUT_FILENO;
 
-const SHOWN: u64 = 3;
+const SHOWN: usize = 3;
 
-// The cell that counts an accepted call.
+// The cell that keys an accepted call.
 pub fn cell(letter: u8, refusal: usize) -> usize {
     if 0 < refusal {
-        return tally::CELLS;
+        return tally::OTHER;
     }
     match letter {
         b'Q' => tally::LISTS,
@@ -32,12 +33,12 @@ pub fn cell(letter: u8, refusal: usize) -> usize {
     }
 }
 
-// The cell that counts the rows told.
+// The cell that keys the rows told.
 pub fn rows_cell(letter: u8) -> usize {
     match letter {
         b'E' | b'W' | b'C' => tally::NOTICED,
         b'Q' => tally::LISTED,
-        _ => tally::CELLS,
+        _ => tally::OTHER,
     }
 }
 
@@ -53,13 +54,13 @@ fn put_moves(table: &[Row], c: usize) {
     }
 }
 
-fn put_board(b: Plain, table: &[Row], counts: &[u64]) {
+fn put_board(b: Plain, table: &[Row], keys: &[u64]) {
     io::write_all(
         STDOUT_FILENO,
         b"disagreement: board, change, C, costs, moves",
     );
-    put(tally::told(counts, tally::BOARDS) as usize);
-    put(tally::told(counts, tally::STEP) as usize);
+    put(tally::told(keys, tally::BOARDS));
+    put(tally::told(keys, tally::STEP));
     put(b.c);
     put(b.d);
     put(b.n);
@@ -68,12 +69,12 @@ fn put_board(b: Plain, table: &[Row], counts: &[u64]) {
 }
 
 // Whether one more disagreement is to be shown.
-fn shown(right: bool, counts: &mut [u64]) -> bool {
+fn shown(right: bool, keys: &mut [u64]) -> bool {
     if right {
         return false;
     }
-    tally::add(counts, tally::DISAGREEMENTS, 1);
-    tally::told(counts, tally::DISAGREEMENTS) <= SHOWN
+    tally::add(keys, tally::DISAGREEMENTS, 1);
+    tally::told(keys, tally::DISAGREEMENTS) <= SHOWN
 }
 
 // A call, with the plain board as it stands after it.
@@ -81,23 +82,22 @@ pub fn call(
     right: bool,
     b: Plain,
     table: &[Row],
-    rows: &[Row],
     k: Call,
     want: Told,
     told: Told,
-    counts: &mut [u64],
+    keys: &mut [u64],
 ) {
-    if !shown(right, counts) {
+    if !shown(right, keys) {
         return;
     }
-    put_board(b, table, counts);
+    put_board(b, table, keys);
     put_call(k);
     io::write_all(STDOUT_FILENO, b"plain");
     put_told(want);
     put_rows(table, WANT, want.count);
     io::write_all(STDOUT_FILENO, b"board");
     put_told(told);
-    put_rows(rows, 0, told.count);
+    put_rows(table, LENT, told.count);
 }
 
 // A load, or the holder's list, or bytes past the memory: its name, and what was wanted and told of it.
@@ -108,12 +108,12 @@ pub fn other(
     table: &[Row],
     want: Told,
     told: Told,
-    counts: &mut [u64],
+    keys: &mut [u64],
 ) {
-    if !shown(right, counts) {
+    if !shown(right, keys) {
         return;
     }
-    put_board(b, table, counts);
+    put_board(b, table, keys);
     io::write_all(STDOUT_FILENO, name);
     end_line();
     put_told(want);

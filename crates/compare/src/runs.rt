@@ -17,16 +17,12 @@ fn changed(
     nodes: &mut [Node],
     keys: &mut [u64],
     m: &mut [u8],
-    copy: &mut [u8],
-    rows: &mut [Row],
-    counts: &mut [u64],
-    dice: &mut u64,
     style: usize,
     growing: bool,
 ) -> Plain {
-    let k = choose::change(b, table, keys, dice, style, growing);
-    let exactly = once_in(dice, 3);
-    call_somehow(b, table, nodes, keys, m, copy, rows, counts, k, exactly)
+    let k = choose::change(b, table, keys, style, growing);
+    let exactly = once_in(keys, 3);
+    call_somehow(b, table, nodes, keys, m, k, exactly)
 }
 
 fn listed(
@@ -35,24 +31,9 @@ fn listed(
     nodes: &mut [Node],
     keys: &mut [u64],
     m: &mut [u8],
-    copy: &mut [u8],
-    rows: &mut [Row],
-    counts: &mut [u64],
-    dice: &mut u64,
 ) -> Plain {
-    let exactly = once_in(dice, 5);
-    call_somehow(
-        b,
-        table,
-        nodes,
-        keys,
-        m,
-        copy,
-        rows,
-        counts,
-        choose::reading(b'Q', 0),
-        exactly,
-    )
+    let exactly = once_in(keys, 5);
+    call_somehow(b, table, nodes, keys, m, choose::reading(b'Q', 0), exactly)
 }
 
 fn queried(
@@ -61,32 +42,18 @@ fn queried(
     nodes: &mut [Node],
     keys: &mut [u64],
     m: &mut [u8],
-    copy: &mut [u8],
-    rows: &mut [Row],
-    counts: &mut [u64],
-    dice: &mut u64,
 ) -> Plain {
-    if !once_in(dice, 8) {
+    if !once_in(keys, 8) {
         return b;
     }
-    let k = choose::query(dice, b.d);
-    let exactly = once_in(dice, 2);
-    call_somehow(b, table, nodes, keys, m, copy, rows, counts, k, exactly)
+    let k = choose::query(keys, b.d);
+    let exactly = once_in(keys, 2);
+    call_somehow(b, table, nodes, keys, m, k, exactly)
 }
 
-fn read(
-    b: Plain,
-    table: &mut [Row],
-    nodes: &mut [Node],
-    keys: &mut [u64],
-    m: &mut [u8],
-    copy: &mut [u8],
-    rows: &mut [Row],
-    counts: &mut [u64],
-    dice: &mut u64,
-) -> Plain {
-    let after = listed(b, table, nodes, keys, m, copy, rows, counts, dice);
-    queried(after, table, nodes, keys, m, copy, rows, counts, dice)
+fn read(b: Plain, table: &mut [Row], nodes: &mut [Node], keys: &mut [u64], m: &mut [u8]) -> Plain {
+    let after = listed(b, table, nodes, keys, m);
+    queried(after, table, nodes, keys, m)
 }
 
 fn reloaded(
@@ -95,30 +62,18 @@ fn reloaded(
     nodes: &mut [Node],
     keys: &mut [u64],
     m: &mut [u8],
-    copy: &mut [u8],
-    counts: &mut [u64],
     input: &mut [Input],
-    dice: &mut u64,
     s: Shape,
 ) -> Plain {
-    if !once_in(dice, 40) {
+    if !once_in(keys, 40) {
         return b;
     }
-    spoilt_load(b, table, nodes, keys, m, copy, counts, input, dice, s)
+    spoilt_load(b, table, nodes, keys, m, input, s)
 }
 
-fn damaged(
-    b: Plain,
-    table: &[Row],
-    keys: &[u64],
-    m: &mut [u8],
-    copy: &mut [u8],
-    rows: &mut [Row],
-    counts: &mut [u64],
-    dice: &mut u64,
-) {
-    if once_in(dice, 60) {
-        damage(b, table, keys, m, copy, rows, counts, dice);
+fn damaged(b: Plain, table: &mut [Row], keys: &mut [u64], m: &mut [u8]) {
+    if once_in(keys, 60) {
+        damage(b, table, keys, m);
     }
 }
 
@@ -128,15 +83,11 @@ fn disturbed(
     nodes: &mut [Node],
     keys: &mut [u64],
     m: &mut [u8],
-    copy: &mut [u8],
-    rows: &mut [Row],
-    counts: &mut [u64],
     input: &mut [Input],
-    dice: &mut u64,
     s: Shape,
 ) -> Plain {
-    damaged(b, table, keys, m, copy, rows, counts, dice);
-    reloaded(b, table, nodes, keys, m, copy, counts, input, dice, s)
+    damaged(b, table, keys, m);
+    reloaded(b, table, nodes, keys, m, input, s)
 }
 
 fn used(
@@ -145,27 +96,11 @@ fn used(
     nodes: &mut [Node],
     keys: &mut [u64],
     m: &mut [u8],
-    copy: &mut [u8],
-    rows: &mut [Row],
-    counts: &mut [u64],
-    dice: &mut u64,
     style: usize,
     growing: bool,
 ) -> Plain {
-    let after = changed(
-        b,
-        table,
-        nodes,
-        keys,
-        m,
-        copy,
-        rows,
-        counts,
-        dice,
-        style,
-        growing,
-    );
-    read(after, table, nodes, keys, m, copy, rows, counts, dice)
+    let after = changed(b, table, nodes, keys, m, style, growing);
+    read(after, table, nodes, keys, m)
 }
 
 fn step(
@@ -174,40 +109,12 @@ fn step(
     nodes: &mut [Node],
     keys: &mut [u64],
     m: &mut [u8],
-    copy: &mut [u8],
-    rows: &mut [Row],
-    counts: &mut [u64],
     input: &mut [Input],
-    dice: &mut u64,
     s: Shape,
     growing: bool,
 ) -> Plain {
-    let after = used(
-        b,
-        table,
-        nodes,
-        keys,
-        m,
-        copy,
-        rows,
-        counts,
-        dice,
-        s.style,
-        growing,
-    );
-    disturbed(
-        after,
-        table,
-        nodes,
-        keys,
-        m,
-        copy,
-        rows,
-        counts,
-        input,
-        dice,
-        s,
-    )
+    let after = used(b, table, nodes, keys, m, s.style, growing);
+    disturbed(after, table, nodes, keys, m, input, s)
 }
 
 // Boards grow for 24 changes, then shrink for as many.
@@ -217,32 +124,15 @@ pub fn run(
     nodes: &mut [Node],
     keys: &mut [u64],
     m: &mut [u8],
-    copy: &mut [u8],
-    rows: &mut [Row],
-    counts: &mut [u64],
     input: &mut [Input],
-    dice: &mut u64,
     s: Shape,
     changes: usize,
 ) -> Plain {
     let mut after = b;
     let mut i = 0;
     while i < changes {
-        tally::set(counts, tally::STEP, i);
-        after = step(
-            after,
-            table,
-            nodes,
-            keys,
-            m,
-            copy,
-            rows,
-            counts,
-            input,
-            dice,
-            s,
-            i / 24 % 2 == 0,
-        );
+        tally::set(keys, tally::STEP, i);
+        after = step(after, table, nodes, keys, m, input, s, i / 24 % 2 == 0);
         i += 1;
     }
     after

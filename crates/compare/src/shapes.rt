@@ -16,7 +16,7 @@ pub struct Shape {
 }
 
 // Board i: one in 200 of the largest size, one in 50 of some hundreds, the others small.
-pub fn shape_of(dice: &mut u64, i: usize) -> Shape {
+pub fn shape_of(keys: &mut [u64], i: usize) -> Shape {
     let d = 2 + i % 3;
     let style = i / 3 % 12;
     if i % 200 == 199 {
@@ -29,7 +29,7 @@ pub fn shape_of(dice: &mut u64, i: usize) -> Shape {
     }
     if i % 50 == 25 {
         return Shape {
-            c: 256 + roll(dice, 768) % 768,
+            c: 256 + roll(keys, 768) % 768,
             d,
             style,
             changes: 60,
@@ -37,7 +37,7 @@ pub fn shape_of(dice: &mut u64, i: usize) -> Shape {
     }
     let span = if i % 4 == 0 { 160 } else { 48 };
     Shape {
-        c: 16 + roll(dice, span) % 1000,
+        c: 16 + roll(keys, span) % 1000,
         d,
         style,
         changes: 100,
@@ -50,19 +50,19 @@ pub fn bytes_of(s: Shape) -> usize {
 }
 
 // The number of rows to load: none, few, some or all.
-fn rows_of(dice: &mut u64, c: usize) -> usize {
-    match roll(dice, 8) {
+fn rows_of(keys: &mut [u64], c: usize) -> usize {
+    match roll(keys, 8) {
         0 => 0,
-        1 => roll(dice, 12),
+        1 => roll(keys, 12),
         2 => c,
-        _ => roll(dice, c),
+        _ => roll(keys, c),
     }
 }
 
 // Sizes for a load that is to be refused: C or d out of range, memory a byte too short; or in range.
-fn sizes(dice: &mut u64, s: Shape) -> Plain {
+fn sizes(keys: &mut [u64], s: Shape) -> Plain {
     let bytes = bytes_of(s);
-    match roll(dice, 12) {
+    match roll(keys, 12) {
         0 => bare(15, s.d, bytes),
         1 => bare(4097, s.d, bytes),
         2 => bare(s.c, 1, bytes),
@@ -80,17 +80,14 @@ pub fn spoilt_load(
     nodes: &mut [Node],
     keys: &mut [u64],
     m: &mut [u8],
-    copy: &mut [u8],
-    counts: &mut [u64],
     input: &mut [Input],
-    dice: &mut u64,
     s: Shape,
 ) -> Plain {
-    let n = 1 + roll(dice, s.c) % 5000;
-    loads::make(input, dice, s.c, s.d, s.style, n);
-    loads::spoil(input, dice, s.c, n);
-    let new = sizes(dice, s);
-    loads::load(b, table, nodes, keys, m, copy, counts, input, n, new)
+    let n = 1 + roll(keys, s.c) % 5000;
+    loads::make(input, keys, s.c, s.d, s.style, n);
+    loads::spoil(input, keys, s.c, n);
+    let new = sizes(keys, s);
+    loads::load(b, table, nodes, keys, m, input, n, new)
 }
 
 pub fn fair_load(
@@ -99,14 +96,11 @@ pub fn fair_load(
     nodes: &mut [Node],
     keys: &mut [u64],
     m: &mut [u8],
-    copy: &mut [u8],
-    counts: &mut [u64],
     input: &mut [Input],
-    dice: &mut u64,
     s: Shape,
 ) -> Plain {
-    let n = rows_of(dice, s.c);
-    loads::make(input, dice, s.c, s.d, s.style, n);
+    let n = rows_of(keys, s.c);
+    loads::make(input, keys, s.c, s.d, s.style, n);
     let new = bare(s.c, s.d, bytes_of(s));
-    loads::load(b, table, nodes, keys, m, copy, counts, input, n, new)
+    loads::load(b, table, nodes, keys, m, input, n, new)
 }

@@ -1,5 +1,6 @@
 // One call on both boards, and the holder after it; with rows in plenty, or none, one too few, then just enough.
 use crate::cells::HELD;
+use crate::cells::LENT;
 use crate::cells::NOW;
 use crate::cells::Row;
 use crate::cells::more;
@@ -12,6 +13,7 @@ use crate::expect::expect;
 use crate::expect::is_change;
 use crate::expect::refused;
 use crate::hold;
+use crate::lists::copy_rows;
 use crate::lists::same_rows;
 use crate::nodes::Node;
 use crate::plain::Plain;
@@ -19,11 +21,11 @@ use crate::report;
 use crate::tally;
 
 // The holder's rows, if there is one, held against the plain board's list.
-fn judge_held(b: Plain, table: &[Row], counts: &mut [u64]) {
+fn judge_held(b: Plain, table: &[Row], keys: &mut [u64]) {
     if !b.holding {
         return;
     }
-    tally::add(counts, tally::FOLLOWED, 1);
+    tally::add(keys, tally::FOLLOWED, 1);
     let right = b.held == b.listed && same_rows(table, HELD, NOW, b.held);
     report::other(
         right,
@@ -32,24 +34,24 @@ fn judge_held(b: Plain, table: &[Row], counts: &mut [u64]) {
         table,
         refused(0, b.listed),
         refused(0, b.held),
-        counts,
+        keys,
     );
 }
 
 // The board with its holder after an answer: an accepted list call makes one, a notice is followed.
-fn held(b: Plain, table: &mut [Row], rows: &[Row], letter: u8, told: Told) -> Plain {
+fn held(b: Plain, table: &mut [Row], letter: u8, told: Told) -> Plain {
     let mut after = b;
     if 0 < told.refusal {
         return after;
     }
     if letter == b'Q' && !b.holding {
-        hold::start(table, rows, told.count);
+        copy_rows(table, LENT, HELD, told.count);
         after.holding = true;
         after.held = told.count;
         return after;
     }
     if is_change(letter) && b.holding {
-        after.held = hold::follow(b.d, table, rows, told.count, b.held);
+        after.held = hold::follow(b.d, table, told.count, b.held);
     }
     after
 }
@@ -58,17 +60,15 @@ fn held(b: Plain, table: &mut [Row], rows: &[Row], letter: u8, told: Told) -> Pl
 fn answered(
     b: Plain,
     table: &mut [Row],
+    keys: &mut [u64],
     m: &mut [u8],
-    copy: &mut [u8],
-    rows: &mut [Row],
-    counts: &mut [u64],
     k: Call,
     want: Told,
 ) -> Plain {
-    let told = made(b, table, m, copy, rows, k, want, counts);
-    let board = held(b, table, rows, k.letter, told);
-    judge_held(board, table, counts);
-    wipe(rows, more(more(b.c)));
+    let told = made(b, table, keys, m, k, want);
+    let board = held(b, table, k.letter, told);
+    judge_held(board, table, keys);
+    wipe(table, more(more(b.c)));
     board
 }
 
@@ -79,9 +79,6 @@ fn call(
     nodes: &mut [Node],
     keys: &mut [u64],
     m: &mut [u8],
-    copy: &mut [u8],
-    rows: &mut [Row],
-    counts: &mut [u64],
     asked: Call,
     lent: usize,
 ) -> Outcome {
@@ -90,7 +87,7 @@ fn call(
     let e = expect(b, table, nodes, keys, k);
     let told = e.told;
     let plain = e.board;
-    let board = answered(plain, table, m, copy, rows, counts, k, told);
+    let board = answered(plain, table, keys, m, k, told);
     Outcome { told, board }
 }
 
@@ -101,16 +98,13 @@ fn call_short(
     nodes: &mut [Node],
     keys: &mut [u64],
     m: &mut [u8],
-    copy: &mut [u8],
-    rows: &mut [Row],
-    counts: &mut [u64],
     k: Call,
     need: usize,
 ) -> Plain {
     if need <= 1 {
         return b;
     }
-    let o = call(b, table, nodes, keys, m, copy, rows, counts, k, need - 1);
+    let o = call(b, table, nodes, keys, m, k, need - 1);
     o.board
 }
 
@@ -121,14 +115,11 @@ fn call_again(
     nodes: &mut [Node],
     keys: &mut [u64],
     m: &mut [u8],
-    copy: &mut [u8],
-    rows: &mut [Row],
-    counts: &mut [u64],
     k: Call,
     need: usize,
 ) -> Plain {
-    let board = call_short(b, table, nodes, keys, m, copy, rows, counts, k, need);
-    let o = call(board, table, nodes, keys, m, copy, rows, counts, k, need);
+    let board = call_short(b, table, nodes, keys, m, k, need);
+    let o = call(board, table, nodes, keys, m, k, need);
     o.board
 }
 
@@ -139,29 +130,15 @@ fn call_exactly(
     nodes: &mut [Node],
     keys: &mut [u64],
     m: &mut [u8],
-    copy: &mut [u8],
-    rows: &mut [Row],
-    counts: &mut [u64],
     k: Call,
 ) -> Plain {
-    let first = call(b, table, nodes, keys, m, copy, rows, counts, k, 0);
+    let first = call(b, table, nodes, keys, m, k, 0);
     let told = first.told;
     let board = first.board;
     if told.refusal != 8 {
         return board;
     }
-    call_again(
-        board,
-        table,
-        nodes,
-        keys,
-        m,
-        copy,
-        rows,
-        counts,
-        k,
-        told.detail,
-    )
+    call_again(board, table, nodes, keys, m, k, told.detail)
 }
 
 // One of the two; C + 1 rows are enough for every call.
@@ -171,15 +148,12 @@ pub fn call_somehow(
     nodes: &mut [Node],
     keys: &mut [u64],
     m: &mut [u8],
-    copy: &mut [u8],
-    rows: &mut [Row],
-    counts: &mut [u64],
     k: Call,
     exactly: bool,
 ) -> Plain {
     if exactly {
-        return call_exactly(b, table, nodes, keys, m, copy, rows, counts, k);
+        return call_exactly(b, table, nodes, keys, m, k);
     }
-    let o = call(b, table, nodes, keys, m, copy, rows, counts, k, more(b.c));
+    let o = call(b, table, nodes, keys, m, k, more(b.c));
     o.board
 }

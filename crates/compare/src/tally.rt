@@ -1,4 +1,8 @@
 // What was run, counted: a cell for each answer's number, then these.
+use crate::cells::COUNTS;
+use crate::cells::key;
+use crate::cells::put_key;
+
 pub const BOARDS: usize = 9;
 
 pub const LARGE: usize = 10;
@@ -29,20 +33,17 @@ pub const DISAGREEMENTS: usize = 22;
 
 pub const STEP: usize = 23;
 
-pub const CELLS: usize = 24;
+// Nothing that is told.
+pub const OTHER: usize = 24;
 
-pub fn told(tally: &[u64], i: usize) -> u64 {
-    if i < tally.len() { tally[i] } else { 0 }
+pub fn told(keys: &[u64], i: usize) -> usize {
+    key(keys, COUNTS, i) as usize
 }
 
-pub fn set(tally: &mut [u64], i: usize, v: usize) {
-    if i < tally.len() {
-        tally[i] = v as u64;
-    }
+pub fn set(keys: &mut [u64], i: usize, v: usize) {
+    put_key(keys, COUNTS, i, v as u64);
 }
 
-pub fn add(tally: &mut [u64], i: usize, v: usize) {
-    if i < tally.len() {
-        tally[i] = tally[i] % 1000000000000 + (v % 1000000) as u64;
-    }
+pub fn add(keys: &mut [u64], i: usize, v: usize) {
+    set(keys, i, told(keys, i) % 1000000000000 + v % 1000000);
 }
