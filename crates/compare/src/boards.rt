@@ -7,6 +7,7 @@ use crate::expect::refused;
 use crate::loads::Input;
 use crate::nodes::Node;
 use crate::plain::Plain;
+use crate::plain::bare;
 use crate::report;
 use crate::runs::run;
 use crate::shapes::Shape;
@@ -69,9 +70,12 @@ fn judge_tail(b: Plain, table: &[Row], m: &[u8], keys: &mut [u64], s: Shape) {
     );
 }
 
-fn begin(keys: &mut [u64], i: usize, s: Shape) {
+// The shape of board i.
+fn begin(keys: &mut [u64], i: usize) -> Shape {
+    let s = shape_of(keys, i);
     tally::set(keys, tally::BOARDS, i % 1000000 + 1);
     tally::add(keys, tally::LARGE, if s.c == 4096 { 1 } else { 0 });
+    s
 }
 
 fn used(
@@ -89,8 +93,21 @@ fn used(
     after
 }
 
-// Board i.
-pub fn one(
+fn whole(
+    b: Plain,
+    table: &mut [Row],
+    nodes: &mut [Node],
+    keys: &mut [u64],
+    m: &mut [u8],
+    input: &mut [Input],
+    s: Shape,
+) -> Plain {
+    let fresh = loaded(b, table, nodes, keys, m, input, s);
+    used(fresh, table, nodes, keys, m, input, s)
+}
+
+// Board i, after the board b.
+fn one(
     b: Plain,
     table: &mut [Row],
     nodes: &mut [Node],
@@ -99,8 +116,23 @@ pub fn one(
     input: &mut [Input],
     i: usize,
 ) -> Plain {
-    let s = shape_of(keys, i);
-    begin(keys, i, s);
-    let fresh = loaded(b, table, nodes, keys, m, input, s);
-    used(fresh, table, nodes, keys, m, input, s)
+    let s = begin(keys, i);
+    whole(b, table, nodes, keys, m, input, s)
+}
+
+// So many boards.
+pub fn all(
+    table: &mut [Row],
+    nodes: &mut [Node],
+    keys: &mut [u64],
+    m: &mut [u8],
+    input: &mut [Input],
+    n: usize,
+) {
+    let mut b = bare(0, 0, 0);
+    let mut i = 0;
+    while i < n {
+        b = one(b, table, nodes, keys, m, input, i);
+        i += 1;
+    }
 }

@@ -47,19 +47,13 @@ fn main() {
     contrast::wipe(&mut table, cells::ROOM);
     dice::start(&mut keys);
     let n = boards_asked();
-    let mut b = plain::bare(0, 0, 0);
-    let mut i = 0;
-    while i < n {
-        b = boards::one(
-            b,
-            &mut table,
-            &mut nodes,
-            &mut keys,
-            &mut memory,
-            &mut input,
-            i,
-        );
-        i += 1;
-    }
+    boards::all(
+        &mut table,
+        &mut nodes,
+        &mut keys,
+        &mut memory,
+        &mut input,
+        n,
+    );
     sums::put_all(&keys);
 }

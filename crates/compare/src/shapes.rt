@@ -73,6 +73,14 @@ fn sizes(keys: &mut [u64], s: Shape) -> Plain {
     }
 }
 
+// Rows of which one is spoilt; how many they are.
+fn spoilt_rows(input: &mut [Input], keys: &mut [u64], s: Shape) -> usize {
+    let n = 1 + roll(keys, s.c) % 5000;
+    loads::make(input, keys, s.c, s.d, s.style, n);
+    loads::spoil(input, keys, s.c, n);
+    n
+}
+
 // A load with a row spoilt.
 pub fn spoilt_load(
     b: Plain,
@@ -83,9 +91,7 @@ pub fn spoilt_load(
     input: &mut [Input],
     s: Shape,
 ) -> Plain {
-    let n = 1 + roll(keys, s.c) % 5000;
-    loads::make(input, keys, s.c, s.d, s.style, n);
-    loads::spoil(input, keys, s.c, n);
+    let n = spoilt_rows(input, keys, s);
     let new = sizes(keys, s);
     loads::load(b, table, nodes, keys, m, input, n, new)
 }
