@@ -4,7 +4,7 @@ use crate::cells::Row;
 use crate::cells::byte;
 use crate::cells::put_byte;
 use crate::expect::refused;
-use crate::loads::Input;
+use crate::inputs::Input;
 use crate::nodes::Node;
 use crate::plain::Plain;
 use crate::plain::bare;
@@ -87,7 +87,6 @@ fn used(
     input: &mut [Input],
     s: Shape,
 ) -> Plain {
-    set_tail(m, end_of(s), bytes_of(s));
     let after = run(b, table, nodes, keys, m, input, s, s.changes);
     judge_tail(after, table, m, keys, s);
     after
@@ -117,6 +116,7 @@ fn one(
     i: usize,
 ) -> Plain {
     let s = begin(keys, i);
+    set_tail(m, end_of(s), bytes_of(s));
     whole(b, table, nodes, keys, m, input, s)
 }
 

@@ -88,7 +88,7 @@ fn rows_right(table: &[Row], count: usize, n: usize) -> bool {
     true
 }
 
-// A call that is to be refused leaves every byte: what `kept` says of it is asked of no other call.
+// How many bytes are to stay as they were: all, where the call is to be refused.
 pub fn to_keep(want: Told, length: usize) -> usize {
     if 0 < want.refusal { length } else { 0 }
 }

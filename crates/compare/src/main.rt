@@ -2,6 +2,7 @@
 // against one that is made from document 01's words alone, with a nest of its own. Prints what was compared, and the board and
 // the call where the two disagree. The word `long` makes a longer run, `short` a short one.
 mod address;
+mod alter;
 mod ask;
 mod boards;
 mod cells;
@@ -12,6 +13,7 @@ mod dice;
 mod expect;
 mod grow;
 mod hold;
+mod inputs;
 mod lists;
 mod loads;
 mod nodes;
@@ -24,6 +26,7 @@ mod rules;
 mod runs;
 mod shapes;
 mod shrink;
+mod splits;
 mod steps;
 mod sums;
 mod tally;

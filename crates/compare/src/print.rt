@@ -20,7 +20,8 @@ pub fn end_line() {
     io::write_all(STDOUT_FILENO, b"\n");
 }
 
-fn put_row(r: Row) {
+// A line: mark, number, costs.
+pub fn put_row(r: Row) {
     put_cell(r[0]);
     put_cell(r[1]);
     put_cell(r[2]);
@@ -30,7 +31,7 @@ fn put_row(r: Row) {
     end_line();
 }
 
-// The first n rows of an area, a line each: mark, number, costs.
+// The first n rows of an area.
 pub fn put_rows(table: &[Row], area: usize, n: usize) {
     let mut i = 0;
     while i < n {

@@ -4,6 +4,7 @@ use crate::cells::LENT;
 use crate::cells::MOVES;
 use crate::cells::Row;
 use crate::cells::WANT;
+use crate::cells::row_at;
 use crate::expect::Call;
 use crate::expect::Told;
 use crate::plain::Plain;
@@ -11,6 +12,7 @@ use crate::plain::on_board;
 use crate::print::end_line;
 use crate::print::put;
 use crate::print::put_call;
+use crate::print::put_row;
 use crate::print::put_rows;
 use crate::print::put_told;
 use crate::tally;
@@ -47,8 +49,7 @@ fn put_moves(table: &[Row], c: usize) {
     let mut i = 0;
     while i < c {
         if on_board(table, i) {
-            put(i);
-            put_rows(&[crate::cells::row_at(table, MOVES, i)], 0, 1);
+            put_row(row_at(table, MOVES, i));
         }
         i += 1;
     }

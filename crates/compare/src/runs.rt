@@ -3,7 +3,7 @@ use crate::cells::Row;
 use crate::choose;
 use crate::damage::damage;
 use crate::dice::once_in;
-use crate::loads::Input;
+use crate::inputs::Input;
 use crate::nodes::Node;
 use crate::plain::Plain;
 use crate::shapes::Shape;

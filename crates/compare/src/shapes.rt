@@ -1,8 +1,9 @@
 // What the boards are made of, and their loads: one that is to be refused, one that is not.
 use crate::cells::Row;
 use crate::dice::roll;
+use crate::inputs;
+use crate::inputs::Input;
 use crate::loads;
-use crate::loads::Input;
 use crate::nodes::Node;
 use crate::plain::Plain;
 use crate::plain::bare;
@@ -15,19 +16,19 @@ pub struct Shape {
     pub changes: usize,
 }
 
-// Board i: one in 200 of the largest size, one in 50 of some hundreds, the others small.
+// Board i: one in 100 of the largest size, one in 25 of some hundreds, the others small.
 pub fn shape_of(keys: &mut [u64], i: usize) -> Shape {
     let d = 2 + i % 3;
     let style = i / 3 % 12;
-    if i % 200 == 199 {
+    if i % 100 == 99 {
         return Shape {
             c: 4096,
             d,
             style,
-            changes: 24,
+            changes: 40,
         };
     }
-    if i % 50 == 25 {
+    if i % 25 == 12 {
         return Shape {
             c: 256 + roll(keys, 768) % 768,
             d,
@@ -76,8 +77,8 @@ fn sizes(keys: &mut [u64], s: Shape) -> Plain {
 // Rows of which one is spoilt; how many they are.
 fn spoilt_rows(input: &mut [Input], keys: &mut [u64], s: Shape) -> usize {
     let n = 1 + roll(keys, s.c) % 5000;
-    loads::make(input, keys, s.c, s.d, s.style, n);
-    loads::spoil(input, keys, s.c, n);
+    inputs::make(input, keys, s.c, s.d, s.style, n);
+    inputs::spoil(input, keys, s.c, n);
     n
 }
 
@@ -106,7 +107,7 @@ pub fn fair_load(
     s: Shape,
 ) -> Plain {
     let n = rows_of(keys, s.c);
-    loads::make(input, keys, s.c, s.d, s.style, n);
+    inputs::make(input, keys, s.c, s.d, s.style, n);
     let new = bare(s.c, s.d, bytes_of(s));
     loads::load(b, table, nodes, keys, m, input, n, new)
 }

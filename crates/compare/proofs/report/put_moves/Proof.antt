@@ -16,17 +16,11 @@ loop-holds c = search needs
 on-board-requires : tie.Need-on-board-requires Inv-loop μ-loop
 on-board-requires c κs = search needs
 
-put-requires : tie.Need-put-requires Inv-loop μ-loop
-put-requires c κs = search needs
-
 row-at-requires : tie.Need-row-at-requires Inv-loop μ-loop
 row-at-requires c κs = search needs
 
-slice-aggregate-put-rows : tie.Need-slice-aggregate-put-rows Inv-loop μ-loop
-slice-aggregate-put-rows c = search needs
-
-put-rows-requires : tie.Need-put-rows-requires Inv-loop μ-loop
-put-rows-requires c κs = search needs
+put-row-requires : tie.Need-put-row-requires Inv-loop μ-loop
+put-row-requires c κs = search needs
 
 add-i : tie.Need-add-i Inv-loop μ-loop
 add-i c = search needs
@@ -48,10 +42,8 @@ put-moves-spec =
     μ-loop
     loop-holds
     on-board-requires
-    put-requires
     row-at-requires
-    slice-aggregate-put-rows
-    put-rows-requires
+    put-row-requires
     add-i
     loop-less
     loop-again

@@ -1,8 +1,8 @@
--- `compare::grow::without_first` meets its contract: the loop goes once over its range. Assumes nothing.
+-- `compare::splits::without_first` meets its contract: the loop goes once over its range. Assumes nothing.
 use Prim.Native.Nat.{_-_}
 use borrow.Author.Needs.{needs}
-use Rattle.compare.proofs.grow.without_first.Statement.{statement}
-use Rattle.compare.proofs.grow.without_first.Tie as tie
+use Rattle.compare.proofs.splits.without_first.Statement.{statement}
+use Rattle.compare.proofs.splits.without_first.Tie as tie
 
 abbrev Inv-loop : tie.InvT-loop
 Inv-loop k after₀ i₀ after i = Unit {0}

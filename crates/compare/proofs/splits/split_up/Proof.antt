@@ -1,10 +1,10 @@
--- `compare::grow::split_up` meets its contract: the loop goes once over its range. Assumes nothing.
+-- `compare::splits::split_up` meets its contract: the loop goes once over its range. Assumes nothing.
 use mathlib.Core.Path.{_≡_}
 use lib.ListN.{length}
 use Prim.Native.Nat.{_-_}
 use borrow.Author.Needs.{needs}
-use Rattle.compare.proofs.grow.split_up.Statement.{statement}
-use Rattle.compare.proofs.grow.split_up.Tie as tie
+use Rattle.compare.proofs.splits.split_up.Statement.{statement}
+use Rattle.compare.proofs.splits.split_up.Tie as tie
 
 abbrev Inv-loop : tie.InvT-loop
 Inv-loop d nodes₀ keys id at₀ t₀ nodes at t = length nodes ≡ length nodes₀

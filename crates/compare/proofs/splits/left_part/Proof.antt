@@ -1,8 +1,8 @@
--- `compare::grow::left_part` meets its contract: the loop goes once over its range. Assumes nothing.
+-- `compare::splits::left_part` meets its contract: the loop goes once over its range. Assumes nothing.
 use Prim.Native.Nat.{_-_}
 use borrow.Author.Needs.{needs}
-use Rattle.compare.proofs.grow.left_part.Statement.{statement}
-use Rattle.compare.proofs.grow.left_part.Tie as tie
+use Rattle.compare.proofs.splits.left_part.Statement.{statement}
+use Rattle.compare.proofs.splits.left_part.Tie as tie
 
 abbrev Inv-loop : tie.InvT-loop
 Inv-loop d nodes keys n best₀ least₀ left₀ best least left = Unit {0}
