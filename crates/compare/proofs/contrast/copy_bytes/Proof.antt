@@ -1,0 +1,48 @@
+-- `compare::contrast::copy_bytes` meets its contract: the loop goes once over its range. Assumes nothing.
+use mathlib.Core.Path.{_≡_}
+use lib.ListN.{length}
+use Prim.Native.Nat.{_-_}
+use borrow.Author.Needs.{needs}
+use Rattle.compare.proofs.contrast.copy_bytes.Statement.{statement}
+use Rattle.compare.proofs.contrast.copy_bytes.Tie as tie
+
+abbrev Inv-loop : tie.InvT-loop
+Inv-loop m₀ n i₀ m i = length m ≡ length m₀
+
+abbrev μ-loop : tie.MeasureT-loop
+μ-loop m₀ n i₀ m i = n - i
+
+loop-holds : tie.Need-loop-holds Inv-loop μ-loop
+loop-holds c = search needs
+
+put-copy-requires : tie.Need-put-copy-requires Inv-loop μ-loop
+put-copy-requires c κs = search needs
+
+add-i : tie.Need-add-i Inv-loop μ-loop
+add-i c = search needs
+
+loop-less : tie.Need-loop-less Inv-loop μ-loop
+loop-less c = search needs
+
+loop-again : tie.Need-loop-again Inv-loop μ-loop
+loop-again c = search needs
+
+same-length : tie.Need-same-length Inv-loop μ-loop
+same-length c = search needs
+
+returns : tie.Need-returns Inv-loop μ-loop
+returns c = search needs
+
+pub copy-bytes-spec : {M : Type 1} → statement M
+copy-bytes-spec =
+    tie.close
+    (tie.spec
+    Inv-loop
+    μ-loop
+    loop-holds
+    put-copy-requires
+    add-i
+    loop-less
+    loop-again
+    same-length
+    returns)
