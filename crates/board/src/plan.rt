@@ -47,20 +47,12 @@ pub fn nothing(verdict: Verdict) -> Plan
 }
 
 // The plan of a change with this verdict, 8 apart.
-pub fn plan_of(
-    m: &[u8],
-    c: usize,
-    d: usize,
-    n: usize,
-    verdict: Verdict,
-    k: Change,
-    lent: usize,
-) -> Plan
-    requires { ⌜ spec.PlanAsked c d n verdict k (now m) ⌝ }
-    ensures { λ r. ⌜ spec.PlanOf c n verdict k (now (m .entry)) lent r ⌝ }
+pub fn plan_of(m: &[u8], c: usize, d: usize, n: usize, v: Verdict, k: Change, lent: usize) -> Plan
+    requires { ⌜ spec.PlanAsked c d n v k (now m) ⌝ }
+    ensures { λ r. ⌜ spec.PlanOf c n v k (now (m .entry)) lent r ⌝ }
 {
-    let Verdict::Accepted = verdict else {
-        return nothing(verdict);
+    let Verdict::Accepted = v else {
+        return nothing(v);
     };
     if alike(m, c, d, n, k) {
         return nothing(Verdict::Accepted);

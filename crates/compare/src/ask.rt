@@ -3,56 +3,30 @@ use crate::cells::Row;
 use crate::cells::at_most;
 use crate::expect::Call;
 use crate::expect::Told;
+use answers::detail_of;
+use answers::number_of;
 use promises::Answer;
 use promises::ListAnswer;
 use promises::Verdict;
 
-pub fn number(v: Verdict) -> usize {
-    match v {
-        Verdict::Accepted => 0,
-        Verdict::ShortMemory => 1,
-        Verdict::OutOfRange => 2,
-        Verdict::Unsound => 3,
-        Verdict::NumberTooLarge(_) => 4,
-        Verdict::NumberTwice(_) => 5,
-        Verdict::NumberAbsent => 6,
-        Verdict::BadArgument(_) => 7,
-        Verdict::FewRows(_) => 8,
-    }
-}
-
-pub fn detail(v: Verdict) -> usize {
-    match v {
-        Verdict::Accepted => 0,
-        Verdict::ShortMemory => 0,
-        Verdict::OutOfRange => 0,
-        Verdict::Unsound => 0,
-        Verdict::NumberTooLarge(place) => place,
-        Verdict::NumberTwice(place) => place,
-        Verdict::NumberAbsent => 0,
-        Verdict::BadArgument(place) => place,
-        Verdict::FewRows(need) => need,
+// An answer in numbers.
+fn in_numbers(v: Verdict, count: usize, opened: usize) -> Told {
+    Told {
+        refusal: number_of(v) as usize,
+        detail: detail_of(v),
+        count,
+        opened,
     }
 }
 
 fn as_told(r: Answer) -> Told {
     let v = r.verdict;
-    Told {
-        refusal: number(v),
-        detail: detail(v),
-        count: r.count,
-        opened: 0,
-    }
+    in_numbers(v, r.count, 0)
 }
 
 fn as_listed(r: ListAnswer) -> Told {
     let v = r.verdict;
-    Told {
-        refusal: number(v),
-        detail: detail(v),
-        count: r.count,
-        opened: r.opened,
-    }
+    in_numbers(v, r.count, r.opened)
 }
 
 fn change(m: &mut [u8], k: Call, rows: &mut [Row]) -> Told {
@@ -108,10 +82,5 @@ pub fn load(
     let bytes = at_most(length, memory.len());
     let k = at_most(n, input.len());
     let v = board::load(&mut memory[..bytes], c, d, &input[..k]);
-    Told {
-        refusal: number(v),
-        detail: detail(v),
-        count: 0,
-        opened: 0,
-    }
+    in_numbers(v, 0, 0)
 }

@@ -20,7 +20,7 @@ unfolding Bytes
 returns c =
     let start = c .before .before .before in
     let bytes : Bytes (start .args .m .now) = λ i. omega (arith, c .before .before .shared-slice-known .given i) in
-    plan-refused (start .pre) bytes (key-refuses (start .args .verdict) (c .before .match .keys2)) (c .nothing .ensures)
+    plan-refused (start .pre) bytes (key-refuses (start .args .v) (c .before .match .keys2)) (c .nothing .ensures)
 
 alike-requires : tie.Need-alike-requires
 alike-requires c κs = sound-rows (c .before .before .before .pre .sound)
@@ -35,20 +35,20 @@ returns-2 c =
     let found = like .before .before in
     let start = found .before .before in
     let bytes : Bytes (start .args .m .now) = λ i. omega (arith, found .before .shared-slice-known .given i) in
-    plan-idle (start .pre) bytes (key-number (start .args .verdict) (found .match .keys1)) (sym (like .alike .ensures) ∙ c .before .if1 .taken)
+    plan-idle (start .pre) bytes (key-number (start .args .v) (found .match .keys1)) (sym (like .alike .ensures) ∙ c .before .if1 .taken)
     (c .nothing2 .ensures)
 
 upkeep-of-requires : tie.Need-upkeep-of-requires
 upkeep-of-requires c κs =
     let found = c .before .before .before in
     let start = found .before .before in
-    start .pre .ready (key-number (start .args .verdict) (found .match .keys1)) .asked
+    start .pre .ready (key-number (start .args .v) (found .match .keys1)) .asked
 
 needed-requires : tie.Need-needed-requires
 needed-requires c κs =
     let found = c .before .before .before .before in
     let start = found .before .before in
-    upkeep-counted (start .pre .ready (key-number (start .args .verdict) (found .match .keys1)) .asked) (c .upkeep-of .ensures)
+    upkeep-counted (start .pre .ready (key-number (start .args .v) (found .match .keys1)) .asked) (c .upkeep-of .ensures)
 
 nothing-requires-3 : tie.Need-nothing-requires-3
 nothing-requires-3 c κs = search needs
@@ -62,7 +62,7 @@ returns-3 c =
     let found = like .before .before in
     let start = found .before .before in
     let bytes : Bytes (start .args .m .now) = λ i. omega (arith, found .before .shared-slice-known .given i) in
-    plan-few (start .pre) bytes (key-number (start .args .verdict) (found .match .keys1)) (sym (like .alike .ensures) ∙ up .before .if1 .left)
+    plan-few (start .pre) bytes (key-number (start .args .v) (found .match .keys1)) (sym (like .alike .ensures) ∙ up .before .if1 .left)
     (up .upkeep-of .ensures) (need .needed .ensures) (c .before .if2 .taken) (c .nothing3 .ensures)
 
 coming-place-requires : tie.Need-coming-place-requires
@@ -77,7 +77,7 @@ returns-4 c =
     let found = like .before .before in
     let start = found .before .before in
     let bytes : Bytes (start .args .m .now) = λ i. omega (arith, found .before .shared-slice-known .given i) in
-    plan-full (start .pre) bytes (key-number (start .args .verdict) (found .match .keys1)) (sym (like .alike .ensures) ∙ up .before .if1 .left)
+    plan-full (start .pre) bytes (key-number (start .args .v) (found .match .keys1)) (sym (like .alike .ensures) ∙ up .before .if1 .left)
     (up .upkeep-of .ensures) (need .needed .ensures) (c .before .before .if2 .left) (c .before .coming-place .ensures)
 
 pub plan-of-spec : {M : Type 1} → statement M

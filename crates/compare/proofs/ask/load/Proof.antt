@@ -23,11 +23,8 @@ slice-aggregate-load-2 c = sym (length-take-le _ _ (search needs))
 load-requires : tie.Need-load-requires
 load-requires c κs = search needs
 
-number-requires : tie.Need-number-requires
-number-requires c κs = search needs
-
-detail-requires : tie.Need-detail-requires
-detail-requires c κs = search needs
+in-numbers-requires : tie.Need-in-numbers-requires
+in-numbers-requires c κs = search needs
 
 same-length : tie.Need-same-length
 same-length c = search needs
@@ -45,7 +42,6 @@ load-spec =
     slice-aggregate-load
     slice-aggregate-load-2
     load-requires
-    number-requires
-    detail-requires
+    in-numbers-requires
     same-length
     returns)
