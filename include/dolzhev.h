@@ -1,4 +1,4 @@
-/* The move board: the moves that no other move dominates, in Z-order. Link libboard_c.a.
+/* The move board: the moves that no other move dominates, in Z-order. Link libdolzhev.a.
  *
  * The caller lends all memory. No call allocates, blocks, or keeps a state of its own (no thread-local either): what a call
  * does depends on its arguments and the lent bytes alone, and each call ends on every content of the lent memory. Calls on

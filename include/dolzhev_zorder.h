@@ -1,4 +1,4 @@
-/* Addresses and regions in Z-order, without the board: link libzorder_c.a.
+/* Addresses and regions in Z-order, without the board: link libdolzhev_zorder.a.
  *
  * No function here reads or writes memory of the caller's, allocates, blocks, or keeps a state of its own (no thread-local
  * either): each may be called from any thread at any time, and each ends. x86-64 only.

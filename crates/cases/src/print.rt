@@ -1,8 +1,8 @@
 // Numbers, answers and rows written out.
-use answers::detail_of;
-use answers::number_of;
 use libc::STDOUT_FILENO;
 use promises::Verdict;
+use promises::detail_of;
+use promises::number_of;
 
 // A blank and a number.
 pub fn put(n: u64) {

@@ -3,11 +3,11 @@ use crate::cells::Row;
 use crate::cells::at_most;
 use crate::expect::Call;
 use crate::expect::Told;
-use answers::detail_of;
-use answers::number_of;
 use promises::Answer;
 use promises::ListAnswer;
 use promises::Verdict;
+use promises::detail_of;
+use promises::number_of;
 
 // An answer in numbers.
 fn in_numbers(v: Verdict, count: usize, opened: usize) -> Told {

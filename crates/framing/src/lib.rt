@@ -9,6 +9,7 @@ mod text;
 pub use reading::Line;
 pub use serving::Answered;
 pub use serving::answer;
+use zorder::COSTS;
 
 // The board's size, the bytes that it needs, and the rows lent to each call.
 pub const SIZE: usize = 256;
@@ -18,7 +19,7 @@ pub const BYTES: usize = 17408;
 pub const ROWS: usize = 257;
 
 // The longest answer: ten digits before the rows, 22 for each row, and a line end.
-pub const TEXT: usize = 5665;
+pub const TEXT: usize = 257 * (4 * COSTS + 6) + 11;
 
 // A row that a call tells: mark, number, costs.
-pub const ROW: usize = 6;
+pub const ROW: usize = COSTS + 2;

@@ -8,13 +8,14 @@ use crate::reading::Line;
 use crate::said::put_answer;
 use crate::said::put_list;
 use crate::said::put_refusal;
-use answers::number_of;
 use board::enter;
 use board::list;
 use board::load;
 use board::recost;
 use board::withdraw;
+use loading::INPUT;
 use promises::Answer;
+use promises::number_of;
 use zorder::COSTS;
 ghost use Rattle.model.specs.Calls as calls;
 ghost use Rattle.framing.specs.Frames as frames;
@@ -33,7 +34,7 @@ fn loaded(m: &mut [u8], d: usize, asked: usize, rows: &[[u16; ROW]], out: &mut [
     requires { ⌜ Lent (now m) (now rows) (now out) ⌝ }
     ensures { λ r. ⌜ Served d (frames.load asked) (now (m .entry)) (now (out .entry)) (r .count) (r .dimension) (now (m .exit)) (now (out .exit)) ⌝ }
 {
-    let none = [[0u16; 5]; 0];
+    let none = [[0u16; INPUT]; 0];
     let verdict = load(m, SIZE, asked, &none);
     let count = put_answer(out, d, Answer { verdict, count: 0 }, rows);
     if number_of(verdict) == 0 {

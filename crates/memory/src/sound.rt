@@ -7,10 +7,12 @@ use crate::fields::size;
 use crate::heights::heights_right;
 use crate::marks::marks_right;
 use crate::order::stands_before;
+use zorder::COSTS;
 ghost use mathlib.Core.Path.{_≡_};
 ghost use Prim.Native.Nat.{_≤_, _<_};
 ghost use Rattle.memory.specs.Room.{Room, Numbers};
 ghost use Rattle.memory.specs.Tests as tests;
+ghost use Rattle.zorder.specs.Address.{rowCosts};
 
 // Whether C, d and the number of moves are in range and the memory is long enough for C.
 fn head_right(m: &[u8]) -> bool
@@ -24,7 +26,7 @@ fn head_right(m: &[u8]) -> bool
     if c < 16 || 4096 < c {
         return false;
     }
-    if d < 2 || 4 < d {
+    if d < 2 || COSTS < d {
         return false;
     }
     if m.len() < 64 * c + 1024 {
@@ -48,7 +50,7 @@ fn numbers_right(m: &[u8], c: usize, n: usize) -> bool
 }
 
 fn order_right(m: &[u8], c: usize, d: usize, n: usize) -> bool
-    requires { ⌜ Room c (now m) × (n ≤ c) × Numbers c n (now m) × (d ≤ 4) ⌝ }
+    requires { ⌜ Room c (now m) × (n ≤ c) × Numbers c n (now m) × (d ≤ rowCosts) ⌝ }
     ensures { λ r. ⌜ r ≡ tests.orderRight c d n (now (m .entry)) ⌝ }
 {
     let mut i = 1;

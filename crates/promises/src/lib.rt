@@ -1,5 +1,9 @@
-// No function: the answers of the board's calls, and in specs/ the layout of the lent memory, when it is sound, what each
-// call promises, and the theorem of demand 3 over these promises.
+// The answers of the board's calls; in specs/ the layout of the lent memory, when it is sound, what each call promises, and
+// the theorem of demand 3 over these promises.
+mod answers;
+
+pub use answers::detail_of;
+pub use answers::number_of;
 
 // What a call says. The numbers are details: of `NumberTooLarge`, `NumberTwice` and `BadArgument` the place of a loaded row,
 // else 0; of `FewRows` the rows needed.

@@ -10,13 +10,13 @@ ghost use mathlib.Core.Path.{_≡_};
 ghost use mathlib.Core.List.{map};
 ghost use Prim.Native.Nat.{_≤_, _<_, _*_, _^_};
 ghost use lib.ListN.{take, drop};
-ghost use Rattle.zorder.specs.Address.{padded};
+ghost use Rattle.zorder.specs.Address.{rowCosts, padded};
 ghost use Rattle.zorder.specs.Region as definition;
 ghost use Rattle.zorder.specs.Promise.{RegionPromise, RefusedRegion};
 
 // How many groups of the two addresses are not kept.
 fn unkept(d: usize, a: u64, b: u64) -> usize
-    requires { ⌜ (1 ≤ d) × (d ≤ 4) × (a < 2 ^ (16 * d)) × (b < 2 ^ (16 * d)) ⌝ }
+    requires { ⌜ (1 ≤ d) × (d ≤ rowCosts) × (a < 2 ^ (16 * d)) × (b < 2 ^ (16 * d)) ⌝ }
     ensures { λ r. ⌜ (r ≡ definition.unkept d a b) × (r ≤ 16) ⌝ }
 {
     let zeros = u64::leading_zeros(a ^ b) as usize;
@@ -33,7 +33,7 @@ fn zeros_below(u: usize, c: u16) -> u16
 
 // The first d costs with their last u bits filled with 0: the near corner of a region that does not keep u groups.
 pub(crate) fn near(d: usize, u: usize, costs: [u16; COSTS]) -> [u16; COSTS]
-    requires { ⌜ (d ≤ 4) × (u ≤ 16) ⌝ }
+    requires { ⌜ (d ≤ rowCosts) × (u ≤ 16) ⌝ }
     ensures { λ r. ⌜ r ≡ padded d (map (definition.zerosBelow 1 u) (take d costs)) ⌝ }
 {
     let mut corner = [0u16; COSTS];
@@ -55,7 +55,7 @@ fn ones_below(u: usize, c: u16) -> u16
 
 // The far corner likewise.
 pub(crate) fn far(d: usize, u: usize, costs: [u16; COSTS]) -> [u16; COSTS]
-    requires { ⌜ (d ≤ 4) × (u ≤ 16) ⌝ }
+    requires { ⌜ (d ≤ rowCosts) × (u ≤ 16) ⌝ }
     ensures { λ r. ⌜ r ≡ padded d (map (definition.onesBelow 1 u) (take d costs)) ⌝ }
 {
     let mut corner = [0u16; COSTS];

@@ -7,6 +7,7 @@ ghost use mathlib.Core.Path.{_≡_};
 ghost use Prim.Native.Nat.{_≤_, _<_};
 ghost use lib.ListN.{take, drop};
 ghost use Rattle.zorder.specs.Address as definition;
+ghost use Rattle.zorder.specs.Address.{rowCosts};
 ghost use Rattle.zorder.specs.Refusal.{allZero, costCountBad};
 ghost use Rattle.zorder.specs.Promise.{AddressPromise};
 
@@ -18,7 +19,7 @@ fn wide(c: u16) -> u64
 
 // The group for bit j of the first d costs.
 pub(crate) fn group(d: usize, costs: [u16; COSTS], j: usize) -> u64
-    requires { ⌜ (d ≤ 4) × (j < 16) ⌝ }
+    requires { ⌜ (d ≤ rowCosts) × (j < 16) ⌝ }
     ensures { λ r. ⌜ r ≡ definition.group j (take d costs) ⌝ }
 {
     let mut g: u64 = 0;
@@ -32,7 +33,7 @@ pub(crate) fn group(d: usize, costs: [u16; COSTS], j: usize) -> u64
 
 // The groups of the first d costs, highest first.
 fn interleaved(d: usize, costs: [u16; COSTS]) -> u64
-    requires { ⌜ d ≤ 4 ⌝ }
+    requires { ⌜ d ≤ rowCosts ⌝ }
     ensures { λ r. ⌜ r ≡ definition.address d costs ⌝ }
 {
     let mut a: u64 = 0;
@@ -46,7 +47,7 @@ fn interleaved(d: usize, costs: [u16; COSTS]) -> u64
 
 // Whether the costs past d are zero.
 pub fn zero_past(d: usize, costs: [u16; COSTS]) -> bool
-    requires { ⌜ d ≤ 4 ⌝ }
+    requires { ⌜ d ≤ rowCosts ⌝ }
     ensures { λ r. ⌜ r ≡ allZero (drop d costs) ⌝ }
 {
     let mut i = d;

@@ -8,6 +8,7 @@ ghost use mathlib.Core.Path.{_≡_};
 ghost use Prim.Native.Nat.{_≤_, _<_, _+_, _*_, _^_};
 ghost use lib.ListN.{replicate};
 ghost use Rattle.zorder.specs.Address as definition;
+ghost use Rattle.zorder.specs.Address.{rowCosts};
 ghost use Rattle.zorder.specs.Refusal.{addressBad};
 ghost use Rattle.zorder.specs.Promise.{CostsPromise};
 
@@ -21,7 +22,7 @@ fn bit(a: u64, place: usize) -> u16
 
 // The cost whose bits stand at place e, counted from the right, of each group of d.
 fn cost_in(d: usize, a: u64, e: usize) -> u16
-    requires { ⌜ (e < d) × (d ≤ 4) ⌝ }
+    requires { ⌜ (e < d) × (d ≤ rowCosts) ⌝ }
     ensures { λ r. ⌜ r ≡ definition.costIn d e 16 a ⌝ }
 {
     let mut c: u16 = 0;
@@ -35,7 +36,7 @@ fn cost_in(d: usize, a: u64, e: usize) -> u16
 
 // The d costs of an address, and zeros past them.
 pub(crate) fn separated(d: usize, a: u64) -> [u16; COSTS]
-    requires { ⌜ d ≤ 4 ⌝ }
+    requires { ⌜ d ≤ rowCosts ⌝ }
     ensures { λ r. ⌜ r ≡ definition.padded d (definition.costsOf d a) ⌝ }
 {
     let mut costs = [0u16; COSTS];
@@ -49,7 +50,7 @@ pub(crate) fn separated(d: usize, a: u64) -> [u16; COSTS]
 
 // Whether a has a bit beyond the 16 groups of d. With four costs no word has.
 pub(crate) fn too_large(d: usize, a: u64) -> bool
-    requires { ⌜ d ≤ 4 ⌝ }
+    requires { ⌜ d ≤ rowCosts ⌝ }
     ensures { λ r. ⌜ r ≡ addressBad d a ⌝ }
 {
     if d == COSTS {

@@ -10,7 +10,7 @@ use borrow.Author.Needs.{needs}
 use lib.Dec.{ltb}
 use lib.ListN.{take}
 use lib.Pow.{pow-mono}
-use Rattle.zorder.specs.Address.{costsOf, padded}
+use Rattle.zorder.specs.Address.{rowCosts, costsOf, padded}
 use Rattle.zorder.specs.Promise.{RegionPromise, RefusedRegion, numberOf}
 use Rattle.zorder.specs.Refusal.{orZero, orZeros, costCountBad, addressBad, regionRefusal, refusal}
 use Rattle.zorder.specs.Region.{unkept, zerosBelow, onesBelow, nearCorner, farCorner, side}
@@ -133,7 +133,7 @@ unkept-requires c κs =
     let also = address-right (a .d) (a .b) (second-good (c .before)) in
     (omega arith, right .1, below, also)
 
-right-at : (c : tie.After-unkept) → c .before .before .before .before .before .before .before .before .args .d ≤ 4
+right-at : (c : tie.After-unkept) → c .before .before .before .before .before .before .before .before .args .d ≤ rowCosts
 right-at c = count-right (c .before .before .before .before .before .before .before .before .args .d) (right-count (c .before .before .before .before .before .before)) .1
 
 separated-requires : tie.Need-separated-requires

@@ -9,6 +9,7 @@ use borrow.Author.Needs.{needs}
 use lib.Bits.{bitXor}
 use lib.Count.{leadingZeros, leading-le}
 use lib.Pow.{pow-mono}
+use Rattle.zorder.specs.Address.{rowCosts}
 use Rattle.zorder.specs.Region.{unkept}
 use Rattle.zorder.specs.Laws.Region.{unkept-unique}
 use Rattle.zorder.proofs.Bits.{round-up-iff, shr-eq-leading}
@@ -21,7 +22,7 @@ record Counted (d a b zeros : ℕ) : Type 0 where
   most : (zeros - (64 - 16 * d)) / d ≤ 16
   count : 16 - (zeros - (64 - 16 * d)) / d ≡ unkept d a b
 
-counted : (d a b : ℕ) → 1 ≤ d → d ≤ 4 → a < 2 ^ (16 * d) → b < 2 ^ (16 * d) → Counted d a b (leadingZeros 64 (bitXor a b))
+counted : (d a b : ℕ) → 1 ≤ d → d ≤ rowCosts → a < 2 ^ (16 * d) → b < 2 ^ (16 * d) → Counted d a b (leadingZeros 64 (bitXor a b))
 counted d a b some few f h =
     let zeros : ℕ = leadingZeros 64 (bitXor a b) in
     let m : ℕ = 64 - zeros in

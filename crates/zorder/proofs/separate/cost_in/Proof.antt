@@ -4,7 +4,7 @@ use Prim.Native.Nat.{ℕ, _+_, _-_, _*_, _^_, _≤_, _<_}
 use mathlib.Core.Path.{refl, sym, ap}
 use native.Mathlib.Nat.{one-mul, mul-le-mul}
 use native.Mathlib.Omega.{arith}
-use Rattle.zorder.specs.Address.{bit, costIn}
+use Rattle.zorder.specs.Address.{rowCosts, bit, costIn}
 use Rattle.zorder.proofs.Digits.{Digits, Whole, digit-in, digits-end}
 use Rattle.zorder.proofs.separate.cost_in.Statement.{statement}
 use Rattle.zorder.proofs.separate.cost_in.Tie as tie
@@ -25,7 +25,7 @@ abbrev μ-loop : tie.MeasureT-loop
 μ-loop d a e c₀ j₀ c j = j
 
 -- The place of a bit is below 64.
-place-lt : (d e j : ℕ) → e < d → d ≤ 4 → 0 < j → j ≤ 16 → d * (j - 1) + e < 64
+place-lt : (d e j : ℕ) → e < d → d ≤ rowCosts → 0 < j → j ≤ 16 → d * (j - 1) + e < 64
 place-lt d e j inside few some most =
     let low : j - 1 ≤ 15 = omega arith in
     omega (arith, mul-le-mul few low)

@@ -6,7 +6,7 @@ use mathlib.Core.Path.{_≡_, sym, ap, ap₂, _∙_}
 use native.Mathlib.Nat.{le-of-suc-le-suc}
 use native.Mathlib.Omega.{arith}
 use lib.ListN.{length, getD, set}
-use Rattle.zorder.specs.Address.{costIn, costsFrom, costsOf}
+use Rattle.zorder.specs.Address.{rowCosts, costIn, costsFrom, costsOf}
 use Rattle.zorder.specs.Laws.Inverse.{costsOf-costs}
 use Rattle.zorder.proofs.Fill.{filled, filled-none, filled-more, filled-all}
 use Rattle.zorder.proofs.separate.separated.Statement.{statement}
@@ -19,7 +19,7 @@ cost-at d (suc n) zero a h = ap (λ (e : ℕ). costIn d e 16 a) (omega arith)
 cost-at d (suc n) (suc i) a h = cost-at d n i a (le-of-suc-le-suc h) ∙ ap (λ (e : ℕ). costIn d e 16 a) (omega arith)
 
 -- A turn at e - 1 writes at d - e.
-cost-more : (d a e : ℕ) → 0 < e → e ≤ d → d ≤ 4 → set (filled (costsOf d a) (d - e)) (d - 1 - (e - 1)) (costIn d (e - 1) 16 a) ≡ filled (costsOf d a) (d - (e - 1))
+cost-more : (d a e : ℕ) → 0 < e → e ≤ d → d ≤ rowCosts → set (filled (costsOf d a) (d - e)) (d - 1 - (e - 1)) (costIn d (e - 1) 16 a) ≡ filled (costsOf d a) (d - (e - 1))
 unfolding costsOf
 cost-more d a e some most room =
     let t : List ℕ = costsOf d a in

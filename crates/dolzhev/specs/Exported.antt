@@ -1,0 +1,61 @@
+-- The exported calls keep the promises of `promises`, with rows as structs and the verdict by number and detail.
+use Prim.Native.Nat.{ℕ, _<_, _≤_}
+use mathlib.Core.List.{List, map}
+use mathlib.Core.Path.{_≡_}
+use lib.ListN.{length}
+use Rattle.model.specs.Moves as model
+use Rattle.model.specs.Calls as calls
+use Rattle.promises.specs.Answers.{numberOf, detailOf, resultRow}
+use Rattle.promises.specs.Promise.{LoadPromise, ChangePromise, ListPromise, QueryPromise}
+use Rattle.promises.specs.declared.Verdict.{Verdict}
+use Rattle.upkeep.specs.Telling.{TellingAsked, filledRows}
+use Rattle.rows.specs.Rows.{rowNumbers}
+use Rattle.rows.specs.declared.Row.{Row}
+use Rattle.board.specs.Plan.{Able, CarriedOut}
+use Rattle.board.specs.declared.plan.Plan.{Plan}
+use Rattle.dolzhev.specs.declared.answer.Answer.{Answer}
+
+-- A verdict handed on: its number and detail, and what is told.
+pub record Handed (v : Verdict) (told nodes : ℕ) (r : Answer) : Type 0 where
+  pub number : r .number ≡ numberOf v
+  pub detail : r .detail ≡ detailOf v
+  pub count : r .count ≡ told
+  pub opened : r .opened ≡ nodes
+
+-- Lent rows as the definitions speak of them.
+unfoldable pub rowsOf : List Row → List model.Row
+rowsOf rows = map resultRow (map rowNumbers rows)
+
+-- ---- what is promised
+
+pub record LoadExported (c d : ℕ) (rows : List model.InputRow) (m : List ℕ) (r : Answer) (m' : List ℕ) : Type 0 where
+  pub verdict : Verdict
+  pub handed : Handed verdict 0 0 r
+  pub promise : LoadPromise c d rows m verdict m'
+
+pub record ChangeExported (x : calls.Change) (m : List ℕ) (lent : List Row) (r : Answer) (m' : List ℕ) (lent' : List Row) : Type 0 where
+  pub verdict : Verdict
+  pub handed : Handed verdict (r .count) 0 r
+  pub promise : ChangePromise x m (rowsOf lent) (record { verdict = verdict; count = r .count }) m' (rowsOf lent')
+
+pub record ListExported (m : List ℕ) (lent : List Row) (r : Answer) (lent' : List Row) : Type 0 where
+  pub verdict : Verdict
+  pub handed : Handed verdict (r .count) (r .opened) r
+  pub promise : ListPromise m (rowsOf lent) (record { verdict = verdict; count = r .count; opened = r .opened }) (rowsOf lent')
+
+pub record QueryExported (q : calls.Query) (m : List ℕ) (lent : List Row) (r : Answer) (lent' : List Row) : Type 0 where
+  pub verdict : Verdict
+  pub handed : Handed verdict (r .count) 0 r
+  pub promise : QueryPromise q m (rowsOf lent) (record { verdict = verdict; count = r .count }) (rowsOf lent')
+
+-- ---- a plan told and carried out
+
+pub record DoneAsked (p : Plan) (m : List ℕ) (lent : List Row) : Type 0 where
+  pub asked : 0 < p .count → TellingAsked (p .telling) m
+  pub enough : p .count ≤ length lent
+  pub able : Able p m
+
+pub record Done (p : Plan) (m : List ℕ) (lent : List Row) (r : Answer) (m' : List ℕ) (lent' : List Row) : Type 0 where
+  pub tells : map rowNumbers lent' ≡ filledRows (p .telling) m (p .count) (map rowNumbers lent)
+  pub out : CarriedOut p m m'
+  pub handed : Handed (p .verdict) (p .count) 0 r

@@ -1,0 +1,31 @@
+// What the exported calls take and hand back, by value.
+use promises::Verdict;
+use promises::detail_of;
+use promises::number_of;
+use zorder::COSTS;
+ghost use Rattle.dolzhev.specs.Exported.{Handed};
+
+#[repr(C)]
+pub struct Costs {
+    pub costs: [u16; COSTS],
+}
+
+// Document 01's number and detail; the rows told; of list the nodes opened, else 0.
+#[repr(C)]
+pub struct Answer {
+    pub number: usize,
+    pub detail: usize,
+    pub count: usize,
+    pub opened: usize,
+}
+
+pub fn handed(verdict: Verdict, count: usize, opened: usize) -> Answer
+    ensures { λ r. ⌜ Handed verdict count opened r ⌝ }
+{
+    Answer {
+        number: number_of(verdict) as usize,
+        detail: detail_of(verdict),
+        count,
+        opened,
+    }
+}

@@ -1,0 +1,57 @@
+// Enter, withdraw and re-cost: planned, then the rows are filled; only then is the memory written.
+use crate::answer::Answer;
+use crate::answer::Costs;
+use crate::answer::handed;
+use board::Plan;
+use board::carry_out;
+use board::plan_enter;
+use board::plan_recost;
+use board::plan_withdraw;
+use rows::Row;
+use rows::fill;
+ghost use Rattle.model.specs.Calls as calls;
+ghost use Rattle.dolzhev.specs.Exported.{ChangeExported, DoneAsked, Done};
+
+// A plan told and carried out.
+pub fn done(memory: &mut [u8], p: Plan, rows: &mut [Row]) -> Answer
+    requires { ⌜ DoneAsked p (now memory) (now rows) ⌝ }
+    ensures { λ r. ⌜ Done p (now (memory .entry)) (now (rows .entry)) r (now (memory .exit)) (now (rows .exit)) ⌝ }
+{
+    fill(rows, memory, p.telling, p.count);
+    carry_out(memory, p);
+    handed(p.verdict, p.count, 0)
+}
+
+#[no_mangle]
+pub extern "C" fn dolzhev_enter(
+    memory: &mut [u8],
+    number: u16,
+    costs: Costs,
+    rows: &mut [Row],
+) -> Answer
+    ensures { λ r. ⌜ ChangeExported (calls.enter number (costs .costs)) (now (memory .entry)) (now (rows .entry)) r (now (memory .exit)) (now (rows .exit)) ⌝ }
+{
+    let p = plan_enter(memory, number, costs.costs, rows.len());
+    done(memory, p, rows)
+}
+
+#[no_mangle]
+pub extern "C" fn dolzhev_withdraw(memory: &mut [u8], number: u16, rows: &mut [Row]) -> Answer
+    ensures { λ r. ⌜ ChangeExported (calls.withdraw number) (now (memory .entry)) (now (rows .entry)) r (now (memory .exit)) (now (rows .exit)) ⌝ }
+{
+    let p = plan_withdraw(memory, number, rows.len());
+    done(memory, p, rows)
+}
+
+#[no_mangle]
+pub extern "C" fn dolzhev_recost(
+    memory: &mut [u8],
+    number: u16,
+    costs: Costs,
+    rows: &mut [Row],
+) -> Answer
+    ensures { λ r. ⌜ ChangeExported (calls.recost number (costs .costs)) (now (memory .entry)) (now (rows .entry)) r (now (memory .exit)) (now (rows .exit)) ⌝ }
+{
+    let p = plan_recost(memory, number, costs.costs, rows.len());
+    done(memory, p, rows)
+}

@@ -1,0 +1,93 @@
+// Addresses and regions for C and Rust: the calls of `zorder` with plain structs. They refuse as those do.
+use zorder::COSTS;
+use zorder::Verdict;
+ghost use mathlib.Core.Path.{_≡_};
+ghost use Rattle.zorder.specs.Promise.{numberOf};
+ghost use Rattle.dolzhev_zorder.specs.Exported.{AddressExported, CostsExported, RegionExported};
+
+#[repr(C)]
+pub struct Costs {
+    pub costs: [u16; COSTS],
+}
+
+// Each answer: document 01's number and detail, then what is told, zero where refused.
+#[repr(C)]
+pub struct AddressOf {
+    pub number: usize,
+    pub detail: usize,
+    pub address: u64,
+}
+
+#[repr(C)]
+pub struct CostsOf {
+    pub number: usize,
+    pub detail: usize,
+    pub costs: Costs,
+}
+
+#[repr(C)]
+pub struct RegionOf {
+    pub number: usize,
+    pub detail: usize,
+    pub near: Costs,
+    pub far: Costs,
+    pub side: usize,
+}
+
+fn number_of(v: Verdict) -> usize
+    ensures { λ r. ⌜ r ≡ numberOf v ⌝ }
+{
+    match v {
+        Verdict::Accepted => 0,
+        Verdict::BadCostCount => 2,
+        Verdict::BadArgument => 7,
+    }
+}
+
+#[no_mangle]
+pub extern "C" fn dolzhev_address(d: usize, costs: Costs) -> AddressOf
+    ensures { λ r. ⌜ AddressExported d (costs .costs) r ⌝ }
+{
+    let cs = costs.costs;
+    let r = zorder::address(d, cs);
+    let v = r.verdict;
+    AddressOf {
+        number: number_of(v),
+        detail: 0,
+        address: r.address,
+    }
+}
+
+#[no_mangle]
+pub extern "C" fn dolzhev_costs_of(d: usize, address: u64) -> CostsOf
+    ensures { λ r. ⌜ CostsExported d address r ⌝ }
+{
+    let r = zorder::costs(d, address);
+    let v = r.verdict;
+    let cs = r.costs;
+    let costs = Costs { costs: cs };
+    CostsOf {
+        number: number_of(v),
+        detail: 0,
+        costs,
+    }
+}
+
+#[no_mangle]
+pub extern "C" fn dolzhev_region(d: usize, a: u64, b: u64) -> RegionOf
+    ensures { λ r. ⌜ RegionExported d a b r ⌝ }
+{
+    let r = zorder::region(d, a, b);
+    let v = r.verdict;
+    let n = r.near;
+    let f = r.far;
+    let near = Costs { costs: n };
+    let far = Costs { costs: f };
+    RegionOf {
+        number: number_of(v),
+        detail: 0,
+        near,
+        far,
+        side: r.side as usize,
+    }
+}
