@@ -20,7 +20,7 @@ use Rattle.promises.specs.Promise.{Kept}
 use Rattle.promises.specs.declared.Verdict.{Verdict}
 use Rattle.dominance.specs.Move.{asMove}
 use Rattle.dominance.specs.declared.Move.{Move}
-use Rattle.upkeep.specs.Change.{Asked, Upkept, changedMoves}
+use Rattle.upkeep.specs.Change.{Asked, Upkept, movesAfter}
 use Rattle.upkeep.specs.declared.change.Change.{Change}
 use Rattle.upkeep.specs.declared.change.Upkeep.{Upkeep}
 
@@ -48,7 +48,7 @@ pub record Other (c d n : ℕ) (k : Change) (m : List ℕ) : Type 0 where
 unfoldable pub noticeBy : ℕ → ℕ → ℕ → Change → List ℕ → List Row
 noticeBy c d n k m =
     let ms = movesIn (lineFrom c d n m) in
-    noticeOf (skyline d ms) (skyline d (changedMoves d k ms))
+    noticeOf (skyline d ms) (skyline d (movesAfter d k ms))
 
 -- What each change leaves of sound memory.
 pub record Made (x : calls.Change) (m m' : List ℕ) : Type 0 where

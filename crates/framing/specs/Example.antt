@@ -5,7 +5,7 @@ use mathlib.Core.Path.{_≡_, refl}
 use Rattle.model.specs.Computing.{computing}
 use Rattle.model.specs.Changing.{changeTree}
 use Rattle.framing.specs.Digits.{isDigit, valueOf, digitOf, joined, bytesOf, numbersOf}
-use Rattle.framing.specs.Frames.{sized, numberIn, costsIn, onBoard, callCodes, frameIn, wholeBytes, frameOf}
+use Rattle.framing.specs.Frames.{sized, frameNumber, frameCosts, boardFrame, callCodes, frameIn, wholeBytes, frameOf}
 use Rattle.framing.specs.Text.{byteText, wordText, rowText, rowsText, saidText, lineEnd, answerText}
 use Rattle.framing.specs.Session.{unloaded, dimensionOf, saidBy, heldBy, loadSays, said, held, answerTo, after, answersTo, linesFrom, output}
 
@@ -18,7 +18,7 @@ pub ended : List (List ℕ) → List ℕ
 ended lines = flatMap (λ l. l ++ lineEnd ∷ []) lines
 
 computes : Unit {0}
-unfolding computing changeTree isDigit valueOf digitOf joined bytesOf numbersOf sized numberIn costsIn onBoard callCodes frameIn wholeBytes frameOf byteText wordText rowText rowsText saidText answerText dimensionOf saidBy heldBy loadSays said held answerTo after answersTo linesFrom output spelled ended
+unfolding computing changeTree isDigit valueOf digitOf joined bytesOf numbersOf sized frameNumber frameCosts boardFrame callCodes frameIn wholeBytes frameOf byteText wordText rowText rowsText saidText answerText dimensionOf saidBy heldBy loadSays said held answerTo after answersTo linesFrom output spelled ended
 computes = tt
 
 -- The last line without its line end.

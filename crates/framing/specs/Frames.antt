@@ -22,18 +22,18 @@ unfoldable pub sized : ℕ → List ℕ → Frame → Frame
 sized n rest f = cond (eqb (length rest) n) f wrong
 
 -- A number, and the costs after it as a row holds them.
-unfoldable pub numberIn : List ℕ → ℕ
-numberIn rest = getD (numbersOf rest) 0 0
+unfoldable pub frameNumber : List ℕ → ℕ
+frameNumber rest = getD (numbersOf rest) 0 0
 
-unfoldable pub costsIn : ℕ → List ℕ → List ℕ
-costsIn d rest = padded d (drop 1 (numbersOf rest))
+unfoldable pub frameCosts : ℕ → List ℕ → List ℕ
+frameCosts d rest = padded d (drop 1 (numbersOf rest))
 
 -- "20, number, d costs: enter. 30, number: withdraw. 40, number, d costs: re-cost. 50: list."
-unfoldable pub onBoard : ℕ → ℕ → List ℕ → Frame
-onBoard d code rest =
-    cond (eqb code 0x20) (sized (2 + 2 * d) rest (change (enter (numberIn rest) (costsIn d rest))))
-    (cond (eqb code 0x30) (sized 2 rest (change (withdraw (numberIn rest))))
-    (cond (eqb code 0x40) (sized (2 + 2 * d) rest (change (recost (numberIn rest) (costsIn d rest))))
+unfoldable pub boardFrame : ℕ → ℕ → List ℕ → Frame
+boardFrame d code rest =
+    cond (eqb code 0x20) (sized (2 + 2 * d) rest (change (enter (frameNumber rest) (frameCosts d rest))))
+    (cond (eqb code 0x30) (sized 2 rest (change (withdraw (frameNumber rest))))
+    (cond (eqb code 0x40) (sized (2 + 2 * d) rest (change (recost (frameNumber rest) (frameCosts d rest))))
     (sized 0 rest list)))
 
 -- The first bytes of the calls but load.
@@ -46,7 +46,7 @@ unfoldable pub frameIn : ℕ → List ℕ → Frame
 frameIn d [] = wrong
 frameIn d (code ∷ rest) =
     cond (eqb code 0x10) (sized 1 rest (load (getD rest 0 0)))
-    (cond (has code callCodes) (cond (eqb d 0) early (onBoard d code rest)) wrong)
+    (cond (has code callCodes) (cond (eqb d 0) early (boardFrame d code rest)) wrong)
 
 unfoldable pub wholeBytes : List ℕ → Bool
 wholeBytes line = all isDigit line && eqb (length line % 2) 0

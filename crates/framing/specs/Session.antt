@@ -11,7 +11,7 @@ use Rattle.model.specs.Changing.{changeTree}
 use Rattle.model.specs.Calls as calls
 use Rattle.model.specs.Calls.{Board, Change, memoryNeed, loadAnswer, changeAnswer, changeNotice, changed, queryAnswer, queryRows}
 use Rattle.framing.specs.Frames.{Frame, load, change, list, early, wrong, frameOf}
-use Rattle.framing.specs.Text.{Said, refused, told, listed, answerText, lineEnd}
+use Rattle.framing.specs.Text.{Reply, refused, notice, listed, answerText, lineEnd}
 
 abbrev pub boardSize : ℕ
 boardSize = 256
@@ -29,7 +29,7 @@ dimensionOf unloaded = 0
 dimensionOf (holds b t) = b .dimension
 
 -- What is said where a call gives this answer: a refusal, or else this.
-unfoldable pub saidBy : calls.Answer → Said → Said
+unfoldable pub saidBy : calls.Answer → Reply → Reply
 saidBy a s = cond (eqb (a .number) 0) s (refused (a .number) (a .detail))
 
 -- .. and what is held then.
@@ -40,10 +40,10 @@ heldBy a new old = cond (eqb (a .number) 0) new old
 unfoldable pub loadSays : ℕ → calls.Answer
 loadSays d = loadAnswer (memoryNeed boardSize) boardSize d []
 
-unfoldable pub said : Frame → State → Said
-said (load d) s = saidBy (loadSays d) (told [])
+unfoldable pub said : Frame → State → Reply
+said (load d) s = saidBy (loadSays d) (notice [])
 said (change x) unloaded = refused 3 0
-said (change x) (holds b t) = saidBy (changeAnswer b x lentRows) (told (changeNotice b x))
+said (change x) (holds b t) = saidBy (changeAnswer b x lentRows) (notice (changeNotice b x))
 said list unloaded = refused 3 0
 said list (holds b t) =
     saidBy (queryAnswer b calls.list lentRows) (listed (nodesOpened (b .dimension) t) (queryRows b calls.list))

@@ -20,21 +20,21 @@ unfoldable pub rowsText : ℕ → List Row → List ℕ
 rowsText d rows = flatMap (rowText d) rows
 
 -- What an answer says: a refusal and its detail; rows; rows, and the nodes opened.
-pub data Said : Type 0 where
-  refused : ℕ → ℕ → Said
-  told : List Row → Said
-  listed : ℕ → List Row → Said
+pub data Reply : Type 0 where
+  refused : ℕ → ℕ → Reply
+  notice : List Row → Reply
+  listed : ℕ → List Row → Reply
 
 -- "An answer line is the refusal (one byte), then a two-byte detail if refused, else a two-byte row count, for 50 the
 -- two-byte count of nodes opened, then rows."
-unfoldable pub saidText : ℕ → Said → List ℕ
+unfoldable pub saidText : ℕ → Reply → List ℕ
 saidText d (refused number detail) = byteText number ++ wordText detail
-saidText d (told rows) = byteText 0 ++ wordText (length rows) ++ rowsText d rows
+saidText d (notice rows) = byteText 0 ++ wordText (length rows) ++ rowsText d rows
 saidText d (listed opened rows) = byteText 0 ++ wordText (length rows) ++ wordText opened ++ rowsText d rows
 
 -- A line feed.
 abbrev pub lineEnd : ℕ
 lineEnd = 10
 
-unfoldable pub answerText : ℕ → Said → List ℕ
+unfoldable pub answerText : ℕ → Reply → List ℕ
 answerText d s = saidText d s ++ lineEnd ∷ []

@@ -8,7 +8,7 @@ use lib.ListN.{length}
 use Rattle.zorder.specs.Refusal.{refusal, costCountBad, costPastBad}
 use Rattle.model.specs.Basics.{any, has, within}
 use Rattle.model.specs.Moves.{Move, InputRow, Row, moveOf, insert, inZOrder}
-use Rattle.model.specs.Lists.{skyline, band, rank, onK, chosen, costsIn, listedRows}
+use Rattle.model.specs.Lists.{skyline, band, rank, onK, chosen, chosenCosts, listedRows}
 use Rattle.model.specs.Withdrawing.{without}
 use Rattle.model.specs.Notice.{noticeOf}
 
@@ -127,7 +127,7 @@ queryRows b list = listedRows (listOf b)
 queryRows b (bandQuery n) = listedRows (band (b .dimension) n (b .moves))
 queryRows b (rankQuery t) = rank (b .dimension) t (b .moves)
 queryRows b (onKQuery k) = listedRows (onK (b .dimension) k (b .moves))
-queryRows b (chosenQuery set) = listedRows (chosen (costsIn (b .dimension) set) (b .moves))
+queryRows b (chosenQuery set) = listedRows (chosen (chosenCosts (b .dimension) set) (b .moves))
 
 unfoldable pub queryAnswer : Board → Query → ℕ → Answer
 queryAnswer b q lent = orElse (refusedWith (queryRefusal b q)) (rowsAnswer (length (queryRows b q)) lent)

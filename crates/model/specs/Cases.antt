@@ -34,8 +34,8 @@ unfoldable pub notices : Board → List Change → List (List ℕ)
 notices b [] = []
 notices b (c ∷ cs) = marks (changeNotice b c) ∷ notices (changed b c) cs
 
-unfoldable pub told : List (List ℕ)
-told =
+unfoldable pub results : List (List ℕ)
+results =
     map (λ m. address 2 (m .costs)) moves
     ∷ corners (2 ∷ 2 ∷ []) (1 ∷ 6 ∷ [])
     ∷ corners (5 ∷ 1 ∷ []) (6 ∷ 2 ∷ [])
@@ -63,6 +63,6 @@ expected =
     ∷ (1 ∷ 3 ∷ 2 ∷ 4 ∷ [])
     ∷ []
 
-pub cases : told ≡ expected
-unfolding computing told expected moves move worked corners numbers marks notices
+pub cases : results ≡ expected
+unfolding computing results expected moves move worked corners numbers marks notices
 cases = refl

@@ -65,16 +65,16 @@ heldAfter d held e other = held
 
 -- "After that list call and after every later call of the run, his rows equal Definition 2's list of the plain board, in
 -- order."
-unfoldable pub Holds : Board → List Row → List Event → Type 0
-Holds b held [] = held ≡ listedRows (listOf b)
-Holds b held (e ∷ es) =
+unfoldable pub HoldsList : Board → List Row → List Event → Type 0
+HoldsList b held [] = held ≡ listedRows (listOf b)
+HoldsList b held (e ∷ es) =
     (held ≡ listedRows (listOf b))
-    × Holds (plainNext b (e .call) (e .lent)) (heldAfter (b .dimension) held e (e .call)) es
+    × HoldsList (plainNext b (e .call) (e .lent)) (heldAfter (b .dimension) held e (e .call)) es
 
 -- "The holder starts with the rows of any one accepted list call in the run."
 unfoldable pub Starts : Board → Event → Call → List Event → Type 0
 Starts b e (change c) es = Unit {0}
-Starts b e listCall es = isAccepted (e .answer) ≡ Bool.true → Holds b (e .rows) es
+Starts b e listCall es = isAccepted (e .answer) ≡ Bool.true → HoldsList b (e .rows) es
 Starts b e other es = Unit {0}
 
 -- The claim of demand 3 about a whole run, from the plain board of the accepted load on.

@@ -43,8 +43,8 @@ unfoldable pub chosen : List ℕ → List Move → List Move
 chosen s ms = select (λ m. not (any (λ p. dominatesAt s (p .costs) (m .costs)) ms)) ms
 
 -- A set of the first d costs, given as a number: bit i stands for cost i.
-unfoldable pub costsIn : ℕ → ℕ → List ℕ
-costsIn d set = select (λ i. eqb (set / 2 ^ i % 2) 1) (numbersFrom 0 d)
+unfoldable pub chosenCosts : ℕ → ℕ → List ℕ
+chosenCosts d set = select (λ i. eqb (set / 2 ^ i % 2) 1) (numbersFrom 0 d)
 
 -- The rows that list, band, on k and chosen costs tell.
 unfoldable pub listedRows : List Move → List Row

@@ -13,24 +13,24 @@ unfoldable pub without : ℕ → List Move → List Move
 without n ms = select (λ m. not (eqb (m .number) n)) ms
 
 -- What is left of a node that a move was taken out of, and the moves under nodes that were removed.
-pub record Left (h : ℕ) : Type 0 where
+pub record Remainder (h : ℕ) : Type 0 where
   pub entries : List (Entry h)
   pub moves : List Move
 
 -- "a node other than the root with fewer than 3 entries is removed": one child of a node, put before what is left of the
 -- others.
-unfoldable pub keepChild : (h : ℕ) → Left h → Left (suc h) → Left (suc h)
+unfoldable pub keepChild : (h : ℕ) → Remainder h → Remainder (suc h) → Remainder (suc h)
 keepChild h c rest =
     cond (ltb (length (c .entries)) 3)
     (record { entries = rest .entries; moves = movesUnder (suc h) (c .entries) ++ c .moves ++ rest .moves })
     (record { entries = c .entries ∷ rest .entries; moves = c .moves ++ rest .moves })
 
-unfoldable pub keepChildren : (h : ℕ) → (List (Entry h) → Left h) → List (List (Entry h)) → Left (suc h)
+unfoldable pub keepChildren : (h : ℕ) → (List (Entry h) → Remainder h) → List (List (Entry h)) → Remainder (suc h)
 keepChildren h f [] = record { entries = []; moves = [] }
 keepChildren h f (c ∷ cs) = keepChild h (f c) (keepChildren h f cs)
 
 -- ".. then its parent is looked at likewise": from the leaves up.
-unfoldable pub withdrawNode : ℕ → (h : ℕ) → List (Entry h) → Left h
+unfoldable pub withdrawNode : ℕ → (h : ℕ) → List (Entry h) → Remainder h
 withdrawNode n zero ms = record { entries = without n ms; moves = [] }
 withdrawNode n (suc h) es = keepChildren h (withdrawNode n h) es
 

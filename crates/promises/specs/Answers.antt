@@ -45,6 +45,6 @@ counted zero n = n
 counted (suc k) n = 0
 
 -- The lent rows afterwards: those told first, then those that were there; refused, all as they were.
-unfoldable pub told : ℕ → List Row → List Row → List Row
-told zero new old = new ++ drop (length new) old
-told (suc k) new old = old
+unfoldable pub rowsAfter : ℕ → List Row → List Row → List Row
+rowsAfter zero new old = new ++ drop (length new) old
+rowsAfter (suc k) new old = old

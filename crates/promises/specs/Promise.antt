@@ -13,7 +13,7 @@ use Rattle.model.specs.Calls.{Board, memoryNeed, loadAnswer, loaded, refusedWit
 use Rattle.model.specs.Changing.{changeTree}
 use Rattle.promises.specs.Layout.{dimensionIn, boardIn}
 use Rattle.promises.specs.Sound.{Stands, Sound, Holding}
-use Rattle.promises.specs.Answers.{answerOf, numberOf, counted, told}
+use Rattle.promises.specs.Answers.{answerOf, numberOf, counted, rowsAfter}
 use Rattle.promises.specs.declared.Verdict.{Verdict}
 use Rattle.promises.specs.declared.Answer.{Answer}
 use Rattle.promises.specs.declared.ListAnswer.{ListAnswer}
@@ -25,20 +25,20 @@ pub record Kept (m m' : List ℕ) (b : Board) (t : Tree) : Type 0 where
   pub length : length m' ≡ length m
   pub past : drop (memoryNeed (b .size)) m' ≡ drop (memoryNeed (b .size)) m
 
-unfoldable pub Left : ℕ → List ℕ → List ℕ → Board → Tree → Type 0
-Left zero m m' b t = Kept m m' b t
-Left (suc k) m m' b t = m' ≡ m
+unfoldable pub MemoryAfter : ℕ → List ℕ → List ℕ → Board → Tree → Type 0
+MemoryAfter zero m m' b t = Kept m m' b t
+MemoryAfter (suc k) m m' b t = m' ≡ m
 
 -- Load.
 pub record LoadPromise (c d : ℕ) (rows : List InputRow) (m : List ℕ) (v : Verdict) (m' : List ℕ) : Type 0 where
   pub said : answerOf v ≡ loadAnswer (length m) c d rows
-  pub left : Left (numberOf v) m m' (loaded c d rows) (loadTree d (map moveOf rows))
+  pub left : MemoryAfter (numberOf v) m m' (loaded c d rows) (loadTree d (map moveOf rows))
 
 -- What is said: the answer, how many rows were told, and the lent rows afterwards.
 pub record Said (answer : calls.Answer) (rows lent : List Row) (v : Verdict) (n : ℕ) (lent' : List Row) : Type 0 where
   pub answers : answerOf v ≡ answer
   pub counts : n ≡ counted (numberOf v) (length rows)
-  pub tells : lent' ≡ told (numberOf v) rows lent
+  pub tells : lent' ≡ rowsAfter (numberOf v) rows lent
 
 -- Of memory that is not sound every call but load says 3 and nothing else.
 abbrev pub UnsoundSaid : List Row → Verdict → ℕ → List Row → Type 0
@@ -68,5 +68,5 @@ pub record ChangePromise (x : Change) (m : List ℕ) (lent : List Row) (r : Answ
   pub left :
       (t : Tree)
       → Stands m t
-      → Left (numberOf (r .verdict)) m m' (changed (boardIn m) x) (changeTree (dimensionIn m) x t)
+      → MemoryAfter (numberOf (r .verdict)) m m' (changed (boardIn m) x) (changeTree (dimensionIn m) x t)
   pub unsound : (Sound m → ⊥) → UnsoundSaid lent (r .verdict) (r .count) lent' × (m' ≡ m)

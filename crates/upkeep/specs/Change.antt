@@ -25,13 +25,13 @@ use Rattle.upkeep.specs.declared.change.Upkeep.{Upkeep}
 unfoldable pub dropAt : ℕ → List Move → List Move
 dropAt i ms = take i ms ++ drop (suc i) ms
 
-unfoldable pub changedMoves : ℕ → Change → List Move → List Move
-changedMoves d k ms = cond (k .comes) (insert d (asMove (k .coming)) (dropAt (k .goes) ms)) (dropAt (k .goes) ms)
+unfoldable pub movesAfter : ℕ → Change → List Move → List Move
+movesAfter d k ms = cond (k .comes) (insert d (asMove (k .coming)) (dropAt (k .goes) ms)) (dropAt (k .goes) ms)
 
 -- Whether the move at place i is in the list afterwards.
 unfoldable pub stays : ℕ → ℕ → ℕ → Change → List ℕ → ℕ → Bool
 stays c d n k m i =
-    not (eqb i (k .goes)) && not (hidden d (changedMoves d k (movesIn (lineFrom c d n m))) (moveIn c d m i))
+    not (eqb i (k .goes)) && not (hidden d (movesAfter d k (movesIn (lineFrom c d n m))) (moveIn c d m i))
 
 pub record Asked (c d n : ℕ) (k : Change) (m : List ℕ) : Type 0 where
   pub sound : SoundAt c d n m
@@ -45,7 +45,7 @@ pub record Upkept (c d n : ℕ) (k : Change) (m : List ℕ) (u : Upkeep) : Type 
   pub entering : (i : ℕ) → i < n → inSet (u .entering) (numberIn c m i) ≡ (not (isListed c d m i) && stays c d n k m i)
   pub left : u .left ≡ count (λ i. isListed c d m i && not (stays c d n k m i)) (numbersFrom 0 n)
   pub entered : u .entered ≡ count (λ i. not (isListed c d m i) && stays c d n k m i) (numbersFrom 0 n)
-  pub listed : u .listed ≡ (k .comes && not (hidden d (changedMoves d k (movesIn (lineFrom c d n m))) (asMove (k .coming))))
+  pub listed : u .listed ≡ (k .comes && not (hidden d (movesAfter d k (movesIn (lineFrom c d n m))) (asMove (k .coming))))
 
 -- What the steps compute.
 unfoldable pub hiddenByOthers : ℕ → ℕ → ℕ → ℕ → Move → List ℕ → Bool

@@ -12,22 +12,22 @@ use Rattle.numbers.specs.Set.{inSet}
 use Rattle.upkeep.specs.declared.change.Upkeep.{Upkeep}
 
 -- A row as numbers: mark, number, costs.
-unfoldable pub rowNumbers : ℕ → Move → List ℕ
-rowNumbers mark x = mark ∷ x .number ∷ x .costs
+unfoldable pub moveNumbers : ℕ → Move → List ℕ
+moveNumbers mark x = mark ∷ x .number ∷ x .costs
 
 -- The places from one up to another whose number is in a set.
-unfoldable pub chosen : ℕ → ℕ → ℕ → List ℕ → List ℕ → List ℕ
-chosen c from to set m = select (λ i. inSet set (numberIn c m i)) (numbersFrom from (to - from))
+unfoldable pub placesIn : ℕ → ℕ → ℕ → List ℕ → List ℕ → List ℕ
+placesIn c from to set m = select (λ i. inSet set (numberIn c m i)) (numbersFrom from (to - from))
 
-unfoldable pub rowsOf : ℕ → ℕ → ℕ → List ℕ → List ℕ → List (List ℕ)
-rowsOf c d mark places m = map (λ i. rowNumbers mark (moveIn c d m i)) places
+unfoldable pub rowsAt : ℕ → ℕ → ℕ → List ℕ → List ℕ → List (List ℕ)
+rowsAt c d mark places m = map (λ i. moveNumbers mark (moveIn c d m i)) places
 
 -- The rows that leave, with a mark, then those that enter, the coming move at its place.
 abbrev pub rowsTold : ℕ → ℕ → ℕ → ℕ → ℕ → Move → Upkeep → List ℕ → List (List ℕ)
 rowsTold c d n p mark x u m =
-    rowsOf c d mark (chosen c 0 n (u .leaving) m) m
-    ++ (rowsOf c d entered (chosen c 0 p (u .entering) m) m
-    ++ (cond (u .listed) (rowNumbers entered x ∷ []) [] ++ rowsOf c d entered (chosen c p n (u .entering) m) m))
+    rowsAt c d mark (placesIn c 0 n (u .leaving) m) m
+    ++ (rowsAt c d entered (placesIn c 0 p (u .entering) m) m
+    ++ (cond (u .listed) (moveNumbers entered x ∷ []) [] ++ rowsAt c d entered (placesIn c p n (u .entering) m) m))
 
 -- The whole notice: left, then entered.
 unfoldable pub noticeRows : ℕ → ℕ → ℕ → ℕ → Move → Upkeep → List ℕ → List (List ℕ)

@@ -22,7 +22,7 @@ use Rattle.promises.specs.Run.{Bytes}
 use Rattle.promises.specs.declared.Verdict.{Verdict}
 use Rattle.promises.specs.declared.Verdict.the-variants.{Accepted, FewRows}
 use Rattle.dominance.specs.Move.{asMove}
-use Rattle.upkeep.specs.Change.{dropAt, changedMoves}
+use Rattle.upkeep.specs.Change.{dropAt, movesAfter}
 use Rattle.upkeep.specs.declared.change.Change.{Change}
 use Rattle.board.specs.Change.{Judges, noticeBy}
 use Rattle.board.specs.Plan.{callOf, Ready}
@@ -99,8 +99,8 @@ module _ {c d n : ℕ} {k : Change} {m : List ℕ} (r : Ready c d n k m) (b : By
       ap (insert d (asMove (k .coming))) (ap (λ (i : ℕ). dropAt i ms) last ∙ entering-moves c d n m)
   moves-by false inside e f = rest-without c d n (k .goes) m (r .asked .sound) b (r .place e)
 
-  call-moves : changedMoves d k ms ≡ calls.changedMoves d (callOf c n k m) ms
-  unfolding changedMoves callOf
+  call-moves : movesAfter d k ms ≡ calls.changedMoves d (callOf c n k m) ms
+  unfolding movesAfter callOf
   call-moves = moves-by (k .comes) (ltb (k .goes) n) refl refl
 
   pub call-notice : noticeBy c d n k m ≡ changeNotice (boardIn m) (callOf c n k m)

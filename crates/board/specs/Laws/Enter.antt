@@ -27,7 +27,7 @@ use Rattle.memory.specs.Laws.Frames.{frame-trans, frame-widen}
 use Rattle.memory.specs.Laws.Fields.{mark-over-rows, mark-over-costs}
 use Rattle.tree.specs.Hold.{RowsHold}
 use Rattle.tree.specs.Enter as tree
-use Rattle.upkeep.specs.Change.{changedMoves}
+use Rattle.upkeep.specs.Change.{movesAfter}
 use Rattle.upkeep.specs.Notice.{SetMarks}
 use Rattle.upkeep.specs.declared.change.Upkeep.{Upkeep}
 use Rattle.board.specs.Change.{EnterAsked, EnterMade}
@@ -71,7 +71,7 @@ module _ {c d n : ℕ} {x : Move} {u : Upkeep} {m m₁ m₂ m₃ : List ℕ} (a 
     costs = stored-frame (marked-holds t stands) (a .asked .fit refl) (off t stands) e₃
 
     enter-kept : Kept m m₅ (changed (boardIn m) (calls.enter (x .number) (x .costs))) (changeTree (dimensionIn m) (calls.enter (x .number) (x .costs)) t)
-    unfolding changeTree calls.changedMoves changedMoves
+    unfolding changeTree calls.changedMoves movesAfter
     enter-kept =
         let h = holds-sound s b t stands in
         made s (calls.enter (x .number) (x .costs)) t

@@ -29,7 +29,7 @@ use Rattle.memory.specs.Laws.Frames.{room-over}
 use Rattle.memory.specs.Laws.Stored.{mark-setListed-other, listed-setListed}
 use Rattle.memory.specs.Laws.Lines.{length-line}
 use Rattle.memory.specs.Laws.Held.{held-room, held-numbers, held-once}
-use Rattle.upkeep.specs.Change.{dropAt, changedMoves, stays, Asked, Upkept}
+use Rattle.upkeep.specs.Change.{dropAt, movesAfter, stays, Asked, Upkept}
 use Rattle.upkeep.specs.Notice.{listedThen, SetMarks}
 use Rattle.upkeep.specs.Laws.Places.{each-place, anyTo-places}
 use Rattle.upkeep.specs.Laws.Change.{line-places, rest-places}
@@ -111,7 +111,7 @@ module _ {c d n : ℕ} {k : Change} {m : List ℕ} {u : Upkeep} (up : Upkept c d
   before = movesIn (lineFrom c d n m)
 
   abbrev after : List Move
-  after = changedMoves d k before
+  after = movesAfter d k before
 
   then-stays : (i : ℕ) → i < n → listedThen c (u .leaving) (u .entering) m i ≡ stays c d n k m i
   unfolding listedThen isListed moveIn
@@ -127,7 +127,7 @@ module _ {c d n : ℕ} {k : Change} {m : List ℕ} {u : Upkeep} (up : Upkept c d
       → ((i : ℕ) → i < n → i ≢ k .goes → eqb (markIn c m₁ (numberIn c m i)) 1 ≡ stays c d n k m i)
       → (k .comes ≡ true → eqb (markIn c m₁ (k .coming .number)) 1 ≡ u .listed)
       → MarksRight c d m₁ after
-  unfolding changedMoves insert stays moveIn
+  unfolding movesAfter insert stays moveIn
   marks-right m₁ old new =
       condCases (Each Right) (k .comes)
       (λ e. each-insert (moveBefore d) Right (asMove (k .coming)) (dropAt (k .goes) before) (fresh e) rest)
@@ -147,14 +147,14 @@ module _ {c d n : ℕ} {k : Change} {m : List ℕ} {u : Upkeep} (up : Upkept c d
 -- Of memory whose marks were set, and whatever else was written afterwards.
 module _ {c d n : ℕ} {k : Change} {m m₁ : List ℕ} {u : Upkeep} (asked : Asked c d n k m) (up : Upkept c d n k m u)
     (set : SetMarks c n (u .leaving) (u .entering) m m₁) (m' : List ℕ) where
-  pub marks-gone : k .comes ≡ false → ((v : ℕ) → v < c → markIn c m' v ≡ markIn c m₁ v) → MarksRight c d m' (changedMoves d k (movesIn (lineFrom c d n m)))
+  pub marks-gone : k .comes ≡ false → ((v : ℕ) → v < c → markIn c m' v ≡ markIn c m₁ v) → MarksRight c d m' (movesAfter d k (movesIn (lineFrom c d n m)))
   marks-gone none same =
       marks-right up m'
       (λ i l ne. ap (λ (v : ℕ). eqb v 1) (same (numberIn c m i) (held-numbers c d n m (asked .sound) i l)) ∙ marks-stay up set i l)
       (λ e. both-ways e none)
 
   pub marks-come : k .comes ≡ true → ((v : ℕ) → v < c → markIn c m' v ≡ markIn c (setListed c (k .coming .number) (u .listed) m₁) v)
-      → MarksRight c d m' (changedMoves d k (movesIn (lineFrom c d n m)))
+      → MarksRight c d m' (movesAfter d k (movesIn (lineFrom c d n m)))
   marks-come one same =
       marks-right up m'
       (λ i l ne.

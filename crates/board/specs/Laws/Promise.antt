@@ -12,8 +12,8 @@ use Rattle.model.specs.Calls.{refusedWith, changeAnswer, changeNotice, changed}
 use Rattle.model.specs.Changing.{changeTree}
 use Rattle.promises.specs.Layout.{dimensionIn, boardIn}
 use Rattle.promises.specs.Sound.{Stands}
-use Rattle.promises.specs.Answers.{answerOf, numberOf, detailOf, counted, told, resultRow}
-use Rattle.promises.specs.Promise.{Left, ChangePromise}
+use Rattle.promises.specs.Answers.{answerOf, numberOf, detailOf, counted, rowsAfter, resultRow}
+use Rattle.promises.specs.Promise.{MemoryAfter, ChangePromise}
 use Rattle.promises.specs.declared.Answer.{Answer}
 use Rattle.upkeep.specs.Telling.{toldRows}
 use Rattle.upkeep.specs.Laws.Telling.{length-none}
@@ -32,8 +32,8 @@ module _ {x : calls.Change} {m m' : List ℕ} {lent : ℕ} {p : Plan} (plan : Pl
   accepted-made e true f = subst (λ (y : calls.Change). Made y m m') (plan .makes f) (out .made f)
   accepted-made e false f = subst (Made x m) (sym (out .idle f)) (plan .idle f e)
 
-  plan-left : (k : ℕ) → numberOf (p .verdict) ≡ k → (t : Tree) → Stands m t → Left k m m' (changed (boardIn m) x) (changeTree (dimensionIn m) x t)
-  unfolding Left
+  plan-left : (k : ℕ) → numberOf (p .verdict) ≡ k → (t : Tree) → Stands m t → MemoryAfter k m m' (changed (boardIn m) x) (changeTree (dimensionIn m) x t)
+  unfolding MemoryAfter
   plan-left zero e = accepted-made e (p .makes) refl .kept
   plan-left (suc k) e = λ t _. refused-idle k e (p .makes) refl
 
@@ -46,15 +46,15 @@ module _ {x : calls.Change} {m m' : List ℕ} {lent : ℕ} {p : Plan} (plan : Pl
         ∙ ap₂ (λ (new : List (List ℕ)) (i : ℕ). map resultRow new ++ drop i rows)
         (length-none (toldRows (p .telling) m) (plan .rows ∙ zero-count)) zero-count
 
-    plan-tells : (k : ℕ) → numberOf (p .verdict) ≡ k → rows' ≡ told k (changeNotice (boardIn m) x) rows
-    unfolding told counted
+    plan-tells : (k : ℕ) → numberOf (p .verdict) ≡ k → rows' ≡ rowsAfter k (changeNotice (boardIn m) x) rows
+    unfolding rowsAfter counted
     plan-tells zero e =
         let count = plan .counts ∙ ap (λ (i : ℕ). counted i (length (changeNotice (boardIn m) x))) e in
         tells ∙ ap₂ (λ (new : List Row) (i : ℕ). new ++ drop i rows) (plan .notice e) count
     plan-tells (suc k) e = refused-rows k e
 
     pub plan-promise : lent ≡ length rows → ChangePromise x m rows (answerIn p) m' rows'
-    unfolding answerOf numberOf detailOf refusedWith counted told
+    unfolding answerOf numberOf detailOf refusedWith counted rowsAfter
     plan-promise enough =
         record {
           sound = λ t stands.
@@ -69,7 +69,7 @@ module _ {x : calls.Change} {m m' : List ℕ} {lent : ℕ} {p : Plan} (plan : Pl
                 record {
                   answers = ap answerOf (plan .unsound bad);
                   counts = plan .counts ∙ ap (λ (i : ℕ). counted i (length (changeNotice (boardIn m) x))) three ∙ ap (λ (i : ℕ). counted i 0) (sym three);
-                  tells = refused-rows 2 three ∙ ap (λ (i : ℕ). told i [] rows) (sym three);
+                  tells = refused-rows 2 three ∙ ap (λ (i : ℕ). rowsAfter i [] rows) (sym three);
                 },
                 refused-idle 2 three (p .makes) refl,
               );

@@ -40,7 +40,7 @@ use Rattle.memory.specs.Laws.Held.{held-few}
 use Rattle.tree.specs.Hold.{RowsHold}
 use Rattle.tree.specs.Enter as tree
 use Rattle.tree.specs.Withdraw as withdraw
-use Rattle.upkeep.specs.Change.{dropAt, changedMoves}
+use Rattle.upkeep.specs.Change.{dropAt, movesAfter}
 use Rattle.upkeep.specs.Notice.{SetMarks}
 use Rattle.upkeep.specs.declared.change.Upkeep.{Upkeep}
 use Rattle.board.specs.Change.{RecostAsked, RecostMade}
@@ -146,7 +146,7 @@ module _ {c d n p : ℕ} {x : Move} {u : Upkeep} {m m₁ m₂ : List ℕ} (a : R
           (entered .holds (withdrawTree d (numberIn c m p) t) (stored-holds (gone t stands) fit (off t stands) e₄))
 
       recost-kept : Kept m m₆ (changed (boardIn m) (calls.recost (x .number) (x .costs))) (changeTree (dimensionIn m) (calls.recost (x .number) (x .costs)) t)
-      unfolding changeTree calls.changedMoves changedMoves
+      unfolding changeTree calls.changedMoves movesAfter
       recost-kept =
           made s (calls.recost (x .number) (x .costs)) t
           (frame-trans (recost-written w)

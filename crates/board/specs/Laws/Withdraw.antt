@@ -12,7 +12,7 @@ use Rattle.memory.specs.Held.{SoundAt}
 use Rattle.memory.specs.Stores.{setCount}
 use Rattle.memory.specs.Laws.Frames.{frame-trans, frame-widen}
 use Rattle.tree.specs.Withdraw as withdraw
-use Rattle.upkeep.specs.Change.{changedMoves}
+use Rattle.upkeep.specs.Change.{movesAfter}
 use Rattle.upkeep.specs.Notice.{SetMarks}
 use Rattle.upkeep.specs.declared.change.Upkeep.{Upkeep}
 use Rattle.board.specs.Change.{WithdrawAsked, WithdrawMade}
@@ -38,7 +38,7 @@ module _ {c d n p : ℕ} {u : Upkeep} {m m₁ : List ℕ} (a : WithdrawAsked c d
   withdraw-count-asked w = holds-counted (gone-holds w s b (a .place) (set .frame) (s .sound .tree) (s .sound .stands))
 
   pub withdraw-made : {m₂ m₃ : List ℕ} → withdraw.Withdrawn c d n p m₁ m₂ → m₃ ≡ setCount (n - 1) m₂ → WithdrawMade c p m m₃
-  unfolding changeTree calls.changedMoves changedMoves
+  unfolding changeTree calls.changedMoves movesAfter
   withdraw-made {m₂} w e₃ =
       record {
         kept = λ t stands.

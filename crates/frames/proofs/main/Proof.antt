@@ -3,7 +3,7 @@ use borrow.Author.Needs.{needs}
 use mathlib.Core.Path.{refl}
 use Rattle.model.specs.Calls.{memoryNeed}
 use Rattle.framing.specs.Session.{unloaded}
-use Rattle.framing.specs.Serving.{Holds, Ready, Lent}
+use Rattle.framing.specs.Serving.{StateIn, Ready, Lent}
 use native.Mathlib.Omega.{arith}
 use Rattle.frames.proofs.main.Statement.{statement}
 use Rattle.frames.proofs.main.Tie as tie
@@ -18,7 +18,7 @@ new-requires : tie.Need-new-requires Inv-loop μ-loop
 new-requires c κs = search needs
 
 loop-holds : tie.Need-loop-holds Inv-loop μ-loop
-unfolding Holds memoryNeed
+unfolding StateIn memoryNeed
 loop-holds c = (
   record { state = unloaded; holds = refl },
   record { memory = refl; table = refl; text = refl },

@@ -9,7 +9,7 @@ use lib.ListN.{length, take, drop}
 use lib.Seq.{take-append-seam, drop-append-seam, drop-append-add}
 use Rattle.model.specs.Moves.{Move}
 use Rattle.model.specs.Tree.{Entry, rooted, movesUnder, movesOf, filledTree}
-use Rattle.model.specs.Withdrawing.{without, Left, withdrawNode, settled}
+use Rattle.model.specs.Withdrawing.{without, Remainder, withdrawNode, settled}
 use Rattle.model.specs.Laws.Tree.{tree-full}
 use Rattle.model.specs.Laws.Withdrawing.{settled-moves}
 use Rattle.line.specs.Line.{Placed, lineAt, lineOf, movesIn}
@@ -98,13 +98,13 @@ module _ (n h : ℕ) (es : List (Entry h)) (f : filledTree (rooted h es) ≡ tru
 
   pub flat-remove : lineOf (settled h (withdrawNode n h es .entries)) ≡ lowered (heightAt rows 0) (cutOut (rangeOf n rows) rows)
   flat-remove =
-      ap (λ (l : Left h). lineOf (settled h (l .entries))) (node .withdrawn)
+      ap (λ (l : Remainder h). lineOf (settled h (l .entries))) (node .withdrawn)
       ∙ sym (lowered-settled h (node .left) (suc h) (node .full) (omega arith))
       ∙ ap₂ lowered (sym root-height) (sym line-left)
 
   pub flat-remove-own : lineOf (settled h (withdrawNode n h es .entries)) ≡ lowered (heightAt (cutOut (rangeOf n rows) rows) 0) (cutOut (rangeOf n rows) rows)
   flat-remove-own =
-      ap (λ (l : Left h). lineOf (settled h (l .entries))) (node .withdrawn)
+      ap (λ (l : Remainder h). lineOf (settled h (l .entries))) (node .withdrawn)
       ∙ sym (lowered-own h (node .left) (node .full))
       ∙ ap (λ (rs : List Placed). lowered (heightAt rs 0) rs) (sym line-left)
 
@@ -122,11 +122,11 @@ module _ (n h : ℕ) (es : List (Entry h)) (f : filledTree (rooted h es) ≡ tru
             ∙ ap (λ (ms : List Move). movesIn (c .front) ++ ms) (movesIn-append (c .range) (c .back));
         left =
             settled-moves h (withdrawNode n h es .entries)
-            ∙ ap (λ (l : Left h). movesUnder (suc h) (l .entries)) (node .withdrawn)
+            ∙ ap (λ (l : Remainder h). movesUnder (suc h) (l .entries)) (node .withdrawn)
             ∙ sym (line-moves (suc h) (suc h) (node .left))
             ∙ ap movesIn (sym parts-left)
             ∙ movesIn-append (c .front) (lifted (heightAt (c .range) 0) (c .back))
             ∙ ap (λ (ms : List Move). movesIn (c .front) ++ ms) (moves-lifted (heightAt (c .range) 0) (c .back));
         range = ap movesIn rows-taken;
-        taken = subst (λ (ms : List Move). List·Permᴰ ms (without n (movesIn (c .range)))) (sym (ap (λ (l : Left h). l .moves) (node .withdrawn))) (c .moves);
+        taken = subst (λ (ms : List Move). List·Permᴰ ms (without n (movesIn (c .range)))) (sym (ap (λ (l : Remainder h). l .moves) (node .withdrawn))) (c .moves);
       }

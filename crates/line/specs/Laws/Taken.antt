@@ -11,7 +11,7 @@ use lib.ListN.{length}
 use Rattle.model.specs.Basics.{Each, consIf, select, count}
 use Rattle.model.specs.Moves.{Move}
 use Rattle.model.specs.Tree.{Entry, movesUnder}
-use Rattle.model.specs.Withdrawing.{without, Left, keepChild, keepChildren, withdrawNode}
+use Rattle.model.specs.Withdrawing.{without, Remainder, keepChild, keepChildren, withdrawNode}
 use Rattle.model.specs.Laws.Bool.{not-flip}
 use Rattle.model.specs.Laws.Basics.{each-mono, count-append, select-append, select-all}
 use Rattle.model.specs.Laws.Tree.{flatMap-append, Filled, filled-full}
@@ -33,7 +33,7 @@ module _ (n : ℕ) where
   holds-cons h e es = count-append numbered (movesUnder h e) (movesUnder (suc h) es)
 
   -- One entry of a node, put before what is left of the others.
-  unfoldable pub withdrawEntry : (h : ℕ) → Entry h → Left h → Left h
+  unfoldable pub withdrawEntry : (h : ℕ) → Entry h → Remainder h → Remainder h
   withdrawEntry zero m rest = record { entries = consIf (not (numbered m)) m (rest .entries); moves = rest .moves }
   withdrawEntry (suc h) c rest = keepChild h (withdrawNode n h c) rest
 
@@ -49,7 +49,7 @@ module _ (n : ℕ) where
 
   -- An entry gives way to the entries c, and the moves ms are taken out.
   abbrev pub Becomes : (h : ℕ) → Entry h → List (Entry h) → List Move → Type 0
-  Becomes h e c ms = (rest : Left h) → withdrawEntry h e rest ≡ record { entries = c ++ rest .entries; moves = ms ++ rest .moves }
+  Becomes h e c ms = (rest : Remainder h) → withdrawEntry h e rest ≡ record { entries = c ++ rest .entries; moves = ms ++ rest .moves }
 
   abbrev pub Stays : (h : ℕ) → Entry h → Type 0
   Stays h e = Becomes h e (e ∷ []) []
@@ -60,34 +60,34 @@ module _ (n : ℕ) where
     all-stay (e ∷ es) (s, ss) =
         withdraw-cons h e es
         ∙ s (withdrawNode n h es)
-        ∙ ap (λ (l : Left h). record { entries = e ∷ l .entries; moves = l .moves }) (all-stay es ss)
+        ∙ ap (λ (l : Remainder h). record { entries = e ∷ l .entries; moves = l .moves }) (all-stay es ss)
 
     pub one-becomes : (front back c : List (Entry h)) (e : Entry h) (ms : List Move) → Each (Stays h) front → Each (Stays h) back
         → Becomes h e c ms → withdrawNode n h (front ++ e ∷ back) ≡ record { entries = front ++ (c ++ back); moves = ms }
     one-becomes [] back c e ms s t b =
         withdraw-cons h e back
         ∙ b (withdrawNode n h back)
-        ∙ ap (λ (l : Left h). record { entries = c ++ l .entries; moves = ms ++ l .moves }) (all-stay back t)
+        ∙ ap (λ (l : Remainder h). record { entries = c ++ l .entries; moves = ms ++ l .moves }) (all-stay back t)
         ∙ ap (λ (ns : List Move). record { entries = c ++ back; moves = ns }) (append-nil ms)
     one-becomes (f ∷ front) back c e ms (s, ss) t b =
         withdraw-cons h f (front ++ e ∷ back)
         ∙ s (withdrawNode n h (front ++ e ∷ back))
-        ∙ ap (λ (l : Left h). record { entries = f ∷ l .entries; moves = l .moves }) (one-becomes front back c e ms ss t b)
+        ∙ ap (λ (l : Remainder h). record { entries = f ∷ l .entries; moves = l .moves }) (one-becomes front back c e ms ss t b)
 
     -- A node by what is left of it.
     module _ (es c : List (Entry h)) (ms : List Move) (w : withdrawNode n h es ≡ record { entries = c; moves = ms }) where
-      abbrev kept : Left (suc h) → Bool → Left (suc h)
+      abbrev kept : Remainder (suc h) → Bool → Remainder (suc h)
       kept rest few =
           cond few (record { entries = rest .entries; moves = movesUnder (suc h) c ++ ms ++ rest .moves })
           (record { entries = c ∷ rest .entries; moves = ms ++ rest .moves })
 
       pub node-goes : length c < 3 → Becomes (suc h) es [] (movesUnder (suc h) c ++ ms)
       unfolding withdrawEntry keepChild
-      node-goes l rest = ap (λ (x : Left h). keepChild h x rest) w ∙ ap (kept rest) (lt-ltb (length c) 3 l)
+      node-goes l rest = ap (λ (x : Remainder h). keepChild h x rest) w ∙ ap (kept rest) (lt-ltb (length c) 3 l)
 
       pub node-stays : 3 ≤ length c → Becomes (suc h) es (c ∷ []) ms
       unfolding withdrawEntry keepChild
-      node-stays l rest = ap (λ (x : Left h). keepChild h x rest) w ∙ ap (kept rest) (le-ltb (length c) 3 l)
+      node-stays l rest = ap (λ (x : Remainder h). keepChild h x rest) w ∙ ap (kept rest) (le-ltb (length c) 3 l)
 
   -- ---- entries that do not hold the move
 

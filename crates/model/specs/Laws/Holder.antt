@@ -13,7 +13,7 @@ use Rattle.model.specs.Lists.{hidden, skyline, listedRows}
 use Rattle.model.specs.Notice.{missing, noticeOf}
 use Rattle.model.specs.Calls.{Board, Change, changed, listOf, changeNotice}
 use Rattle.model.specs.Sound.{Fit, SoundBoard}
-use Rattle.model.specs.Holder.{Call, change, listCall, other, Event, isAccepted, plainNext, Answered, marked, putIn, takeOut, followed, heldAfter, Holds, Starts, Demand3}
+use Rattle.model.specs.Holder.{Call, change, listCall, other, Event, isAccepted, plainNext, Answered, marked, putIn, takeOut, followed, heldAfter, HoldsList, Starts, Demand3}
 use Rattle.model.specs.Laws.Bool.{cond-map}
 use Rattle.model.specs.Laws.Basics.{Once, mem-each, each-select, each-map, select-append, select-all, select-none}
 use Rattle.model.specs.Laws.Sorting.{insert-mem, mem-insert-new, mem-insert-old, each-insert, rising-insert, rising-select, rising-once, rising-ext}
@@ -207,17 +207,17 @@ abbrev pub EachKeeps : Board → List Event → Type 0
 EachKeeps b [] = Unit {0}
 EachKeeps b (e ∷ es) = Keeps b e × EachKeeps (plainNext b (e .call) (e .lent)) es
 
-keeps-holds : (b : Board) (es : List Event) → EachKeeps b es → Holds b (listedRows (listOf b)) es
-unfolding Holds
+keeps-holds : (b : Board) (es : List Event) → EachKeeps b es → HoldsList b (listedRows (listOf b)) es
+unfolding HoldsList
 keeps-holds b [] k = refl
 keeps-holds b (e ∷ es) k =
     let next = plainNext b (e .call) (e .lent) in
-    (refl, subst (λ (held : List Row). Holds next held es) (sym (k .0 .held)) (keeps-holds next es (k .1)))
+    (refl, subst (λ (held : List Row). HoldsList next held es) (sym (k .0 .held)) (keeps-holds next es (k .1)))
 
 keeps-starts : (b : Board) (e : Event) (c : Call) (es : List Event) → Reads b e c → EachKeeps (plainNext b c (e .lent)) es → Starts b e c es
 unfolding Starts Reads plainNext
 keeps-starts b e (change x) es r k = tt
-keeps-starts b e listCall es r k = λ a. subst (λ (held : List Row). Holds b held es) (sym (r a)) (keeps-holds b es k)
+keeps-starts b e listCall es r k = λ a. subst (λ (held : List Row). HoldsList b held es) (sym (r a)) (keeps-holds b es k)
 keeps-starts b e other es r k = tt
 
 pub keeps-demand3 : (b : Board) (es : List Event) → EachKeeps b es → Demand3 b es

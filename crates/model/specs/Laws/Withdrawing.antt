@@ -13,7 +13,7 @@ use Rattle.model.specs.Basics.{Each, select, sortBy}
 use Rattle.model.specs.Moves.{Move, moveBefore, insert, inZOrder, ordered}
 use Rattle.model.specs.Tree.{Entry, Tree, empty, rooted, movesUnder, movesOf, rootLeast, filledTree, ruled}
 use Rattle.model.specs.Entering.{enterTree}
-use Rattle.model.specs.Withdrawing.{without, Left, keepChild, keepChildren, withdrawNode, settled, enterAll, withdrawTree}
+use Rattle.model.specs.Withdrawing.{without, Remainder, keepChild, keepChildren, withdrawNode, settled, enterAll, withdrawTree}
 use Rattle.model.specs.Calls.{onBoard}
 use Rattle.model.specs.Laws.Bool.{condCases, both-ways, not-flip, not-back}
 use Rattle.model.specs.Laws.Basics.{select-append, select-all, select-mem, any-false, each-mono, each-left, each-right}
@@ -43,7 +43,7 @@ without-gone m ms k =
     both-ways (eq-eqb n n refl) (not-back (eqb n n) (select-mem (λ m. not (eqb (m .number) n)) ms k .1))
 
 -- Nothing is lost and nothing stands twice: what is left and what was taken out make up the moves of other numbers.
-record Kept (n h : ℕ) (es : List (Entry h)) (l : Left h) : Type 0 where
+record Kept (n h : ℕ) (es : List (Entry h)) (l : Remainder h) : Type 0 where
   same : List·Permᴰ (movesUnder (suc h) (l .entries) ++ l .moves) (without n (movesUnder (suc h) es))
   part : Sublistᴰ (movesUnder (suc h) (l .entries)) (movesUnder (suc h) es)
   under : Each (Filled h) (l .entries)
@@ -60,7 +60,7 @@ module _ (n : ℕ) where
         most = sublist-length (without-sublist n ms);
       }
 
-  module _ (h : ℕ) (c : List (Entry h)) (cs : List (List (Entry h))) (k : Left h) (rest : Left (suc h)) (m : length c ≤ 8)
+  module _ (h : ℕ) (c : List (Entry h)) (cs : List (List (Entry h))) (k : Remainder h) (rest : Remainder (suc h)) (m : length c ≤ 8)
       (f : Kept n h c k) (g : Kept n (suc h) cs rest) where
     abbrev below : List (Entry h) → List Move
     below = movesUnder (suc h)
@@ -95,7 +95,7 @@ module _ (n : ℕ) where
           most = omega (arith, g .most);
         })
 
-  keep-children : (h : ℕ) (f : List (Entry h) → Left h) → ((c : List (Entry h)) → Filled (suc h) c → Kept n h c (f c))
+  keep-children : (h : ℕ) (f : List (Entry h) → Remainder h) → ((c : List (Entry h)) → Filled (suc h) c → Kept n h c (f c))
       → (cs : List (List (Entry h))) → Each (Filled (suc h)) cs → Kept n (suc h) cs (keepChildren h f cs)
   unfolding keepChildren movesUnder flatMap without select
   keep-children h f step [] a = record { same = List·Permᴰ·nil; part = Sublistᴰ·slnil; under = tt; most = omega arith }
@@ -149,7 +149,7 @@ module _ (d : ℕ) (P : Move → Type 0) (o : StrictOrder P (moveBefore d)) wher
       let k = Permᴰ·append-right ms (List·Permᴰ·trans (perm-equal e) (perm-insert lt m ns)) in
       (List·Permᴰ·trans (r .0) (List·Permᴰ·trans k (Permᴰ·symm (Permᴰ·middle m ns ms))), r .1)
 
-  again-moves : (n h : ℕ) (es : List (Entry h)) (l : Left h) → Kept n h es l → filledTree (settled h (l .entries)) ≡ true
+  again-moves : (n h : ℕ) (es : List (Entry h)) (l : Remainder h) → Kept n h es l → filledTree (settled h (l .entries)) ≡ true
       → Each P (movesUnder (suc h) es) → Sorted lt (movesUnder (suc h) es)
       → movesOf (enterAll d (inZOrder d (l .moves)) (settled h (l .entries))) ≡ without n (movesUnder (suc h) es)
   unfolding inZOrder

@@ -19,8 +19,8 @@ use Rattle.model.specs.Holder.{change, isAccepted, plainNext, Answered, followe
 use Rattle.model.specs.Laws.Holder.{Reads, Keeps, EachKeeps, change-held, keeps-demand3}
 use Rattle.promises.specs.Layout.{dimensionIn}
 use Rattle.promises.specs.Sound.{Holding}
-use Rattle.promises.specs.Answers.{answerOf, numberOf, counted, told}
-use Rattle.promises.specs.Promise.{Left, LoadPromise, Said, ListPromise, QuerySaid, ChangePromise, ChangeSaid}
+use Rattle.promises.specs.Answers.{answerOf, numberOf, counted, rowsAfter}
+use Rattle.promises.specs.Promise.{MemoryAfter, LoadPromise, Said, ListPromise, QuerySaid, ChangePromise, ChangeSaid}
 use Rattle.promises.specs.Run.{Bytes, Step, changes, lists, loadRefused, leaves, Steps, done, then, eventOf, eventsOf, History, end, call, load, runOf, EachRun}
 use Rattle.promises.specs.Laws.Stands.{holding-board}
 use Rattle.promises.specs.declared.Verdict.{Verdict}
@@ -30,8 +30,8 @@ use Rattle.promises.specs.declared.ListAnswer.{ListAnswer}
 -- ---- what a call says
 
 -- The rows that a call tells are the first of the lent ones; refused, it tells none.
-told-rows : (n : ℕ) (rows lent : List Row) → take (counted n (length rows)) (told n rows lent) ≡ cond (eqb n 0) rows []
-unfolding counted told
+told-rows : (n : ℕ) (rows lent : List Row) → take (counted n (length rows)) (rowsAfter n rows lent) ≡ cond (eqb n 0) rows []
+unfolding counted rowsAfter
 told-rows zero rows lent = take-append-seam rows (drop (length rows) lent)
 told-rows (suc k) rows lent = ap (λ (b : Bool). cond b rows []) (sym (eqb·suc-zero k))
 
@@ -52,16 +52,16 @@ at-board {m} {b} a = holding-board m b (a .tree) (a .holding) (a .bytes)
 
 -- What is left by a call that answered with this number.
 module _ (m m' : List ℕ) (b' : Board) (t : Tree) where
-  left-accepted : (n : ℕ) → n ≡ 0 → Left n m m' b' t → Bytes m' → At m' b'
-  unfolding Left
-  left-accepted n e l k = record { tree = t; holding = subst (λ (n : ℕ). Left n m m' b' t) e l .holding; bytes = k }
+  left-accepted : (n : ℕ) → n ≡ 0 → MemoryAfter n m m' b' t → Bytes m' → At m' b'
+  unfolding MemoryAfter
+  left-accepted n e l k = record { tree = t; holding = subst (λ (n : ℕ). MemoryAfter n m m' b' t) e l .holding; bytes = k }
 
-  left-refused : (n : ℕ) → ¬ (n ≡ 0) → Left n m m' b' t → m' ≡ m
-  unfolding Left
+  left-refused : (n : ℕ) → ¬ (n ≡ 0) → MemoryAfter n m m' b' t → m' ≡ m
+  unfolding MemoryAfter
   left-refused zero f l = absurd (f refl)
   left-refused (suc n) f l = l
 
-  left-at : (n : ℕ) {b : Board} → Left n m m' b' t → Bytes m' → At m b → At m' (cond (eqb n 0) b' b)
+  left-at : (n : ℕ) {b : Board} → MemoryAfter n m m' b' t → Bytes m' → At m b → At m' (cond (eqb n 0) b' b)
   left-at zero l k a = left-accepted 0 refl l k
   left-at (suc n) {b} l k a =
       subst (λ (c : Bool). At m' (cond c b' b)) (sym (eqb·suc-zero n))
@@ -72,9 +72,9 @@ module _ (x : Change) (m m' : List ℕ) (lent lent' : List Row) (r : Answer) (p 
   change-said =
       subst (λ (b : Board). ChangeSaid x b lent (r .verdict) (r .count) lent') (a .holding .board) (p .sound (a .tree) (a .holding .stands))
 
-  change-left : Left (numberOf (r .verdict)) m m' (changed b x) (changeTree (dimensionIn m) x (a .tree))
+  change-left : MemoryAfter (numberOf (r .verdict)) m m' (changed b x) (changeTree (dimensionIn m) x (a .tree))
   change-left =
-      subst (λ (b : Board). Left (numberOf (r .verdict)) m m' (changed b x) (changeTree (dimensionIn m) x (a .tree))) (a .holding .board)
+      subst (λ (b : Board). MemoryAfter (numberOf (r .verdict)) m m' (changed b x) (changeTree (dimensionIn m) x (a .tree))) (a .holding .board)
       (p .left (a .tree) (a .holding .stands))
 
   -- the answer is the plain board's, so what becomes of it is known

@@ -11,7 +11,7 @@ use lib.ListN.{getD}
 use borrow.Author.Tests.{leb-true, le-leb, ltb-true, le-ltb}
 use Rattle.model.specs.Basics.{consIf, select, any, all, count, parts, numbersFrom}
 use Rattle.model.specs.Dominance.{less, nowhereGreater, somewhereLess, better, at, dominatesAt, dominatesOn}
-use Rattle.model.specs.Lists.{costsIn}
+use Rattle.model.specs.Lists.{chosenCosts}
 use Rattle.model.specs.Laws.Bool.{same-test, or-cases, or-left, and-left, and-both, both-ways, not-flip, condCases}
 use Rattle.model.specs.Laws.Basics.{any-append, any-map, any-witness, count-cons, count-pos}
 
@@ -226,11 +226,11 @@ module _ (d set : ℕ) (p q : List ℕ) where
   pub decided : Bool → ℕ → Bool
   decided s i = all (fits p q) (select chosen (from d i)) && (s || any (lower p q) (select chosen (from d i)))
 
-  pub decided-none : decided false 0 ≡ dominatesAt (costsIn d set) p q
-  unfolding decided costsIn
+  pub decided-none : decided false 0 ≡ dominatesAt (chosenCosts d set) p q
+  unfolding decided chosenCosts
   decided-none =
       ap (λ (s : List ℕ). all (fits p q) (select chosen s) && any (lower p q) (select chosen s)) (from-all d)
-      ∙ sym (dominates-at p q (costsIn d set))
+      ∙ sym (dominates-at p q (chosenCosts d set))
 
   module _ (s : Bool) (i : ℕ) (h : i < d) where
     decided-cons : decided s i ≡ (all (fits p q) (consIf (chosen i) i (select chosen (from d (i + 1)))) && (s || any (lower p q) (consIf (chosen i) i (select chosen (from d (i + 1))))))

@@ -25,7 +25,7 @@ use Rattle.memory.specs.Laws.Lines.{movesIn-line}
 use Rattle.memory.specs.Laws.Places.{anyTo-found}
 use Rattle.memory.specs.Laws.Held.{held-dimension, held-order, held-listed, held-fit, held-fit-at, held-once}
 use Rattle.numbers.specs.Set.{inSet}
-use Rattle.upkeep.specs.Change.{dropAt, changedMoves, stays, hiddenByOthers, hiddenByComing, comesUp, leaves, leavesAt, entersAt, LookedTo, Upkept}
+use Rattle.upkeep.specs.Change.{dropAt, movesAfter, stays, hiddenByOthers, hiddenByComing, comesUp, leaves, leavesAt, entersAt, LookedTo, Upkept}
 use Rattle.upkeep.specs.Laws.Places.{each-place, tab-places, anyTo-places, drop-places}
 use Rattle.upkeep.specs.declared.change.Change.{Change}
 use Rattle.upkeep.specs.declared.change.Upkeep.{Upkeep}
@@ -83,8 +83,8 @@ module _ (c d n : ℕ) (m : List ℕ) where
         ∙ any-mono (λ j. not (eqb j g) && hides d (moveIn c d m j) x) (λ j. hides d (moveIn c d m j) x) (numbersFrom 0 n)
         (λ j _. and-right (not (eqb j g)) (hides d (moveIn c d m j) x)) (sym hidden-rest ∙ e)
 
-changed-hidden : (d : ℕ) (k : Change) (ms : List Move) (x : Move) → hidden d (changedMoves d k ms) x ≡ (hidden d (dropAt (k .goes) ms) x || hiddenByComing d k x)
-unfolding changedMoves hiddenByComing
+changed-hidden : (d : ℕ) (k : Change) (ms : List Move) (x : Move) → hidden d (movesAfter d k ms) x ≡ (hidden d (dropAt (k .goes) ms) x || hiddenByComing d k x)
+unfolding movesAfter hiddenByComing
 changed-hidden d k ms x =
     let rest = dropAt (k .goes) ms in
     let y = asMove (k .coming) in
@@ -165,17 +165,17 @@ module _ (c d n : ℕ) (k : Change) (m : List ℕ) (s : SoundAt c d n m) (b : By
 
   -- The coming move's test, whether one comes or not.
   abbrev comingListed : Bool
-  comingListed = k .comes && not (hidden d (changedMoves d k before) (asMove (k .coming)))
+  comingListed = k .comes && not (hidden d (movesAfter d k before) (asMove (k .coming)))
 
   pub listed-law : k .comes ≡ true → Fit c d (asMove (k .coming)) → not (hiddenByOthers c d n (k .goes) (asMove (k .coming)) m) ≡ comingListed
-  unfolding changedMoves
+  unfolding movesAfter
   listed-law e fit =
       let y = asMove (k .coming) in
       ap not (others-hide c d n m (k .goes) y ∙ sym (enter-hidden-self d c (held-dimension c d n m s) y rest fit))
       ∙ ap (λ (t : Bool). t && not (hidden d (cond t (insert d y rest) rest) y)) (sym e)
 
   pub unlisted-law : k .comes ≡ false → false ≡ comingListed
-  unlisted-law e = ap (λ (t : Bool). t && not (hidden d (changedMoves d k before) (asMove (k .coming)))) (sym e)
+  unlisted-law e = ap (λ (t : Bool). t && not (hidden d (movesAfter d k before) (asMove (k .coming)))) (sym e)
 
   -- ---- the sets and the counts
 

@@ -19,7 +19,7 @@ use Rattle.promises.specs.Answers.{resultRow}
 use Rattle.memory.specs.Held.{SoundAt}
 use Rattle.memory.specs.Laws.Held.{held-dimension, held-room, held-few, held-numbers}
 use Rattle.numbers.specs.Set.{inSet, With}
-use Rattle.upkeep.specs.Notice.{rowNumbers, chosen, rowsOf}
+use Rattle.upkeep.specs.Notice.{moveNumbers, placesIn, rowsAt}
 use Rattle.upkeep.specs.Telling.{TellingAsked, toldRows}
 use Rattle.upkeep.specs.Planned.{Finds, TellsNumbers}
 use Rattle.upkeep.specs.Laws.Places.{each-place, count-more, count-le}
@@ -86,10 +86,10 @@ module _ (c : ℕ) (m : List ℕ) (test : ℕ → Bool) where
 -- ---- the rows
 
 module _ {c d n : ℕ} {numbers : List ℕ} {t : Telling} (s : TellsNumbers c d n numbers t) where
-  numbers-told : (m : List ℕ) → toldRows t m ≡ rowsOf c d listed (chosen c 0 n numbers m) m
+  numbers-told : (m : List ℕ) → toldRows t m ≡ rowsAt c d listed (placesIn c 0 n numbers m) m
   numbers-told m =
       told-first t m (s .entering) (s .alone)
-      ∙ (λ j. rowsOf (s .size j) (s .dimension j) (s .mark j) (chosen (s .size j) 0 (s .places j) (s .leaving j) m) m)
+      ∙ (λ j. rowsAt (s .size j) (s .dimension j) (s .mark j) (placesIn (s .size j) 0 (s .places j) (s .leaving j) m) m)
 
   pub numbers-asked : {m : List ℕ} → SoundAt c d n m → TellingAsked t m
   numbers-asked {m} h =
@@ -102,13 +102,13 @@ module _ {c d n : ℕ} {numbers : List ℕ} {t : Telling} (s : TellsNumbers c d 
       }
 
 pub nothing-told : {t : Telling} {numbers : List ℕ} → TellsNumbers 0 0 0 numbers t → (m : List ℕ) → toldRows t m ≡ []
-unfolding rowsOf chosen select numbersFrom
+unfolding rowsAt placesIn select numbersFrom
 nothing-told s m = numbers-told s m
 
-row-results : (c d : ℕ) (m is : List ℕ) → map resultRow (rowsOf c d listed is m) ≡ listedRows (map (moveIn c d m) is)
-unfolding rowsOf resultRow rowNumbers listedRows rowOf
+row-results : (c d : ℕ) (m is : List ℕ) → map resultRow (rowsAt c d listed is m) ≡ listedRows (map (moveIn c d m) is)
+unfolding rowsAt resultRow moveNumbers listedRows rowOf
 row-results c d m is =
-    map-map resultRow (λ i. rowNumbers listed (moveIn c d m i)) is ∙ sym (map-map (rowOf listed) (moveIn c d m) is)
+    map-map resultRow (λ i. moveNumbers listed (moveIn c d m i)) is ∙ sym (map-map (rowOf listed) (moveIn c d m) is)
 
 pub board-line : {c d n : ℕ} {m : List ℕ} → SoundAt c d n m → movesIn (lineFrom c d n m) ≡ boardIn m .moves
 unfolding boardIn lineIn
@@ -134,11 +134,11 @@ module _ (c d n : ℕ) (test : ℕ → Bool) (m : List ℕ) (r : Found) (f : Fin
       ∙ sym (length-map (foundMoves c d n test m) (rowOf listed))
 
   pub found-rows : (t : Telling) → TellsNumbers c d n (r .numbers) t → map resultRow (toldRows t m) ≡ listedRows (foundMoves c d n test m)
-  unfolding chosen
+  unfolding placesIn
   found-rows t s =
       let all : n - 0 ≡ n = omega arith in
       ap (map resultRow) (numbers-told s m)
-      ∙ row-results c d m (chosen c 0 n (r .numbers) m)
+      ∙ row-results c d m (placesIn c 0 n (r .numbers) m)
       ∙ ap (λ (k : ℕ). listedRows (map (moveIn c d m) (select (λ i. inSet (r .numbers) (numberIn c m i)) (numbersFrom 0 k)))) all
       ∙ ap (λ (is : List ℕ). listedRows (map (moveIn c d m) is))
       (select-ext (λ i. inSet (r .numbers) (numberIn c m i)) (λ i. test (numberIn c m i)) (numbersFrom 0 n)

@@ -11,7 +11,7 @@ use Rattle.model.specs.Calls as calls
 use Rattle.model.specs.Calls.{Query, accepted, refusedWith, orElse, rowsAnswer, queryRefusal, queryRows, queryAnswer}
 use Rattle.promises.specs.Layout.{boardIn}
 use Rattle.promises.specs.Sound.{Sound}
-use Rattle.promises.specs.Answers.{answerOf, numberOf, detailOf, counted, told, resultRow}
+use Rattle.promises.specs.Answers.{answerOf, numberOf, detailOf, counted, rowsAfter, resultRow}
 use Rattle.promises.specs.Promise.{QueryPromise}
 use Rattle.promises.specs.declared.Verdict.{Verdict}
 use Rattle.promises.specs.declared.Verdict.the-variants.{Accepted, Unsound, BadArgument, FewRows}
@@ -105,8 +105,8 @@ told-at {q} {m} {lent} {v' = v'} {k = k} {t = t} p e f =
 
 -- ---- the promise
 
-tells-at : (k count : ℕ) (new rows rows' : List Row) → count ≡ counted k (length new) → (k ≡ 0 → rows' ≡ new ++ drop count rows) → (count ≡ 0 → rows' ≡ rows) → rows' ≡ told k new rows
-unfolding told counted
+tells-at : (k count : ℕ) (new rows rows' : List Row) → count ≡ counted k (length new) → (k ≡ 0 → rows' ≡ new ++ drop count rows) → (count ≡ 0 → rows' ≡ rows) → rows' ≡ rowsAfter k new rows
+unfolding rowsAfter counted
 tells-at zero count new rows rows' e all none = all refl ∙ ap (λ (n : ℕ). new ++ drop n rows) e
 tells-at (suc k) count new rows rows' e all none = none e
 
@@ -115,7 +115,7 @@ module _ {q : Query} {m : List ℕ} {lent : ℕ} {v : Verdict} {count : ℕ} whe
     -- Where the list is accepted its rows are put first; where none is counted the rows are as they were.
     pub answered-promise : Answered q m lent v count → (numberOf v ≡ 0 → rows' ≡ queryRows (boardIn m) q ++ drop count rows) → (count ≡ 0 → rows' ≡ rows)
         → QueryPromise q m rows (record { verdict = v; count = count }) rows'
-    unfolding answerOf numberOf detailOf refusedWith counted told
+    unfolding answerOf numberOf detailOf refusedWith counted rowsAfter
     answered-promise a all none =
         record {
           sound = λ x s. record {
@@ -129,7 +129,7 @@ module _ {q : Query} {m : List ℕ} {lent : ℕ} {v : Verdict} {count : ℕ} whe
               record {
                 answers = ap answerOf three;
                 counts = zeros ∙ sym (ap (λ (w : Verdict). counted (numberOf w) 0) three);
-                tells = none zeros ∙ sym (ap (λ (w : Verdict). told (numberOf w) [] rows) three);
+                tells = none zeros ∙ sym (ap (λ (w : Verdict). rowsAfter (numberOf w) [] rows) three);
               };
         }
 

@@ -32,8 +32,8 @@ use Rattle.memory.specs.Tests.{isListed}
 use Rattle.memory.specs.Laws.Lines.{getD-line, length-line}
 use Rattle.memory.specs.Laws.Held.{held-dimension, held-order, held-listed, held-fit, held-fit-at, held-once}
 use Rattle.numbers.specs.Set.{inSet}
-use Rattle.upkeep.specs.Change.{dropAt, changedMoves, stays, Asked, Upkept}
-use Rattle.upkeep.specs.Notice.{rowNumbers, chosen, rowsOf, noticeRows}
+use Rattle.upkeep.specs.Change.{dropAt, movesAfter, stays, Asked, Upkept}
+use Rattle.upkeep.specs.Notice.{moveNumbers, placesIn, rowsAt, noticeRows}
 use Rattle.upkeep.specs.Laws.Places.{each-numbers, each-place, numbers-append}
 use Rattle.upkeep.specs.Laws.Change.{line-places, rest-places}
 use Rattle.upkeep.specs.Laws.Place.{place-low, place-high}
@@ -83,7 +83,7 @@ module _ (c d n : ℕ) (k : Change) (m : List ℕ) (s : SoundAt c d n m) (b : By
   rest = dropAt (k .goes) before
 
   abbrev after : List Move
-  after = changedMoves d k before
+  after = movesAfter d k before
 
   abbrev x : Move
   x = asMove (k .coming)
@@ -102,7 +102,7 @@ module _ (c d n : ℕ) (k : Change) (m : List ℕ) (s : SoundAt c d n m) (b : By
       (Memᴰ·map (moveIn c d m) (mem-select (λ j. not (eqb j (k .goes))) h (not-flip (eqb i (k .goes)) e)))
 
   pub places : Places d (moveIn c d m) (numbersFrom 0 n) (k .goes) after (isListed c d m)
-  unfolding changedMoves insert
+  unfolding movesAfter insert
   places =
       record {
         marks = λ i h. held-listed c d n m s i (place-below n h) ∙ ap (λ (ms : List Move). not (hidden d ms (moveIn c d m i))) (line-places c d n m);
@@ -207,7 +207,7 @@ module _ (c d n : ℕ) (k : Change) (m : List ℕ) (s : SoundAt c d n m) (b : By
     last = map (moveIn c d m) (select enters (numbersFrom p (n - p)))
 
     coming-part : k .comes ≡ true → gone (skyline d after) (skyline d (map (moveIn c d m) (numbersFrom 0 n))) ≡ first ++ (cond (k .comes && not (hidden d after x)) (x ∷ []) [] ++ last)
-    unfolding changedMoves insert
+    unfolding movesAfter insert
     coming-part e =
         entered-coming d (moveIn c d m) (numbersFrom 0 n) (k .goes) after (isListed c d m) places (Fit c d) order x (a .fit e) rest
         (sym (rest-places c d n m (k .goes))) rest-fits rest-rising
@@ -216,7 +216,7 @@ module _ (c d n : ℕ) (k : Change) (m : List ℕ) (s : SoundAt c d n m) (b : By
         ∙ ap (λ (t : Bool). first ++ (cond (t && not (hidden d after x)) (x ∷ []) [] ++ last)) (sym e)
 
     plain-part : k .comes ≡ false → gone (skyline d after) (skyline d (map (moveIn c d m) (numbersFrom 0 n))) ≡ first ++ (cond (k .comes && not (hidden d after x)) (x ∷ []) [] ++ last)
-    unfolding changedMoves insert
+    unfolding movesAfter insert
     plain-part e =
         let is = numbersFrom 0 n in
         let q = places in
@@ -236,51 +236,51 @@ module _ (c d n : ℕ) (k : Change) (m : List ℕ) (s : SoundAt c d n m) (b : By
 
     module _ (u : Upkeep) (v : Upkept c d n k m u) where
       chosen-places : (ws : List ℕ) (t : ℕ → Bool) → ((i : ℕ) → i < n → inSet ws (numberIn c m i) ≡ t i)
-          → (i j : ℕ) → i ≤ j → j ≤ n → chosen c i j ws m ≡ select t (numbersFrom i (j - i))
-      unfolding chosen
+          → (i j : ℕ) → i ≤ j → j ≤ n → placesIn c i j ws m ≡ select t (numbersFrom i (j - i))
+      unfolding placesIn
       chosen-places ws t h i j l r =
           select-ext (λ i. inSet ws (numberIn c m i)) t (numbersFrom i (j - i))
           (each-numbers (λ i. inSet ws (numberIn c m i) ≡ t i) i (j - i) (λ q _ g. h q (omega arith)))
 
-      left-chosen : chosen c 0 n (u .leaving) m ≡ select (λ i. isListed c d m i && not (stayAt i)) (numbersFrom 0 n)
+      left-chosen : placesIn c 0 n (u .leaving) m ≡ select (λ i. isListed c d m i && not (stayAt i)) (numbersFrom 0 n)
       unfolding stays stay
       left-chosen =
           chosen-places (u .leaving) (λ i. isListed c d m i && not (stayAt i)) (v .leaving) 0 n (omega arith) (omega arith)
           ∙ ap (λ (q : ℕ). select (λ i. isListed c d m i && not (stayAt i)) (numbersFrom 0 q)) (sub-zero n)
 
-      first-chosen : chosen c 0 p (u .entering) m ≡ select enters (numbersFrom 0 p)
+      first-chosen : placesIn c 0 p (u .entering) m ≡ select enters (numbersFrom 0 p)
       unfolding stays stay
       first-chosen =
           chosen-places (u .entering) enters (v .entering) 0 p (omega arith) f
           ∙ ap (λ (q : ℕ). select enters (numbersFrom 0 q)) (sub-zero p)
 
-      last-chosen : chosen c p n (u .entering) m ≡ select enters (numbersFrom p (n - p))
+      last-chosen : placesIn c p n (u .entering) m ≡ select enters (numbersFrom p (n - p))
       unfolding stays stay
       last-chosen = chosen-places (u .entering) enters (v .entering) p n f (omega arith)
 
-      rows-told : (mark : ℕ) (js : List ℕ) → map resultRow (rowsOf c d mark js m) ≡ map (rowOf mark) (map (moveIn c d m) js)
-      unfolding rowsOf resultRow rowNumbers rowOf
+      rows-told : (mark : ℕ) (js : List ℕ) → map resultRow (rowsAt c d mark js m) ≡ map (rowOf mark) (map (moveIn c d m) js)
+      unfolding rowsAt resultRow moveNumbers rowOf
       rows-told mark [] = refl
       rows-told mark (j ∷ js) = ap (λ (rs : List Row). rowOf mark (moveIn c d m j) ∷ rs) (rows-told mark js)
 
-      coming-told : (t : Bool) → map resultRow (cond t (rowNumbers entered x ∷ []) []) ≡ map (rowOf entered) (cond t (x ∷ []) [])
-      unfolding resultRow rowNumbers rowOf
+      coming-told : (t : Bool) → map resultRow (cond t (moveNumbers entered x ∷ []) []) ≡ map (rowOf entered) (cond t (x ∷ []) [])
+      unfolding resultRow moveNumbers rowOf
       coming-told true = refl
       coming-told false = refl
 
       pub notice-told : map resultRow (noticeRows c d n p x u m) ≡ noticeOf (skyline d before) (skyline d after)
       unfolding noticeRows
       notice-told =
-          let ls = chosen c 0 n (u .leaving) m in
-          let es = chosen c 0 p (u .entering) m in
-          let fs = chosen c p n (u .entering) m in
-          let own : List (List ℕ) = cond (u .listed) (rowNumbers entered x ∷ []) [] in
-          map-append resultRow (rowsOf c d left ls m) (rowsOf c d entered es m ++ (own ++ rowsOf c d entered fs m))
+          let ls = placesIn c 0 n (u .leaving) m in
+          let es = placesIn c 0 p (u .entering) m in
+          let fs = placesIn c p n (u .entering) m in
+          let own : List (List ℕ) = cond (u .listed) (moveNumbers entered x ∷ []) [] in
+          map-append resultRow (rowsAt c d left ls m) (rowsAt c d entered es m ++ (own ++ rowsAt c d entered fs m))
           ∙ ap₂ _++_
           (rows-told left ls ∙ ap (map (rowOf left)) (ap (map (moveIn c d m)) left-chosen ∙ sym left-part))
-          (map-append resultRow (rowsOf c d entered es m) (own ++ rowsOf c d entered fs m)
+          (map-append resultRow (rowsAt c d entered es m) (own ++ rowsAt c d entered fs m)
           ∙ ap₂ _++_ (rows-told entered es ∙ ap (λ (js : List ℕ). map (rowOf entered) (map (moveIn c d m) js)) first-chosen)
-          (map-append resultRow own (rowsOf c d entered fs m)
+          (map-append resultRow own (rowsAt c d entered fs m)
           ∙ ap₂ _++_ (coming-told (u .listed) ∙ ap (λ (t : Bool). map (rowOf entered) (cond t (x ∷ []) [])) (v .listed))
           (rows-told entered fs ∙ ap (λ (js : List ℕ). map (rowOf entered) (map (moveIn c d m) js)) last-chosen)
           ∙ sym (map-append (rowOf entered) (cond (k .comes && not (hidden d after x)) (x ∷ []) []) last))
@@ -290,11 +290,11 @@ module _ (c d n : ℕ) (k : Change) (m : List ℕ) (s : SoundAt c d n m) (b : By
 
       -- ---- how many rows it has
 
-      left-count : u .left ≡ length (chosen c 0 n (u .leaving) m)
+      left-count : u .left ≡ length (placesIn c 0 n (u .leaving) m)
       unfolding count stays stay
       left-count = v .left ∙ ap length (sym left-chosen)
 
-      entered-count : u .entered ≡ length (chosen c 0 p (u .entering) m) + length (chosen c p n (u .entering) m)
+      entered-count : u .entered ≡ length (placesIn c 0 p (u .entering) m) + length (placesIn c p n (u .entering) m)
       unfolding count stays stay
       entered-count =
           v .entered ∙ ap (λ (js : List ℕ). length (select enters js)) (whole p f)
@@ -302,30 +302,30 @@ module _ (c d n : ℕ) (k : Change) (m : List ℕ) (s : SoundAt c d n m) (b : By
           ∙ length-append (select enters (numbersFrom 0 p)) (select enters (numbersFrom p (n - p)))
           ∙ ap₂ _+_ (ap length (sym first-chosen)) (ap length (sym last-chosen))
 
-      coming-count : (t : Bool) (y : Move) → length (cond t (rowNumbers entered y ∷ []) []) ≡ cond t 1 0
+      coming-count : (t : Bool) (y : Move) → length (cond t (moveNumbers entered y ∷ []) []) ≡ cond t 1 0
       coming-count true y = refl
       coming-count false y = refl
 
-      rows-count : (mark : ℕ) (js : List ℕ) → length (rowsOf c d mark js m) ≡ length js
-      unfolding rowsOf
-      rows-count mark js = length-map js (λ i. rowNumbers mark (moveIn c d m i))
+      rows-count : (mark : ℕ) (js : List ℕ) → length (rowsAt c d mark js m) ≡ length js
+      unfolding rowsAt
+      rows-count mark js = length-map js (λ i. moveNumbers mark (moveIn c d m i))
 
       pub notice-count : (y : Move) → length (noticeRows c d n p y u m) ≡ u .left + u .entered + cond (u .listed) 1 0
       unfolding noticeRows
       notice-count y =
-          let ls = rowsOf c d left (chosen c 0 n (u .leaving) m) m in
-          let es = rowsOf c d entered (chosen c 0 p (u .entering) m) m in
-          let own : List (List ℕ) = cond (u .listed) (rowNumbers entered y ∷ []) [] in
-          let fs = rowsOf c d entered (chosen c p n (u .entering) m) m in
+          let ls = rowsAt c d left (placesIn c 0 n (u .leaving) m) m in
+          let es = rowsAt c d entered (placesIn c 0 p (u .entering) m) m in
+          let own : List (List ℕ) = cond (u .listed) (moveNumbers entered y ∷ []) [] in
+          let fs = rowsAt c d entered (placesIn c p n (u .entering) m) m in
           omega (
             arith,
             length-append ls (es ++ (own ++ fs)),
             length-append es (own ++ fs),
             length-append own fs,
             coming-count (u .listed) y,
-            rows-count left (chosen c 0 n (u .leaving) m),
-            rows-count entered (chosen c 0 p (u .entering) m),
-            rows-count entered (chosen c p n (u .entering) m),
+            rows-count left (placesIn c 0 n (u .leaving) m),
+            rows-count entered (placesIn c 0 p (u .entering) m),
+            rows-count entered (placesIn c p n (u .entering) m),
             left-count,
             entered-count,
           )

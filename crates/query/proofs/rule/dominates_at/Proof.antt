@@ -7,7 +7,7 @@ use borrow.Author.Tests.{eq-eqb, ne-eqb}
 use lib.Bits.{bitAnd, and-mask}
 use lib.Dec.{eqb}
 use Rattle.model.specs.Dominance.{dominatesAt}
-use Rattle.model.specs.Lists.{costsIn}
+use Rattle.model.specs.Lists.{chosenCosts}
 use Rattle.query.specs.Laws.Rule.{decided, decided-none, decided-passes, decided-more, decided-end}
 use native.Mathlib.Omega.{arith}
 use Rattle.query.proofs.rule.dominates_at.Statement.{statement}
@@ -20,7 +20,7 @@ not-in-set : (set i : ℕ) → (bitAnd (set / 2 ^ i) 1 ≡ 1 → ⊥) → eqb (s
 not-in-set set i n = ne-eqb (set / 2 ^ i % 2) 1 (λ e. n (and-mask (set / 2 ^ i) 1 ∙ e))
 
 abbrev Inv-loop : tie.InvT-loop
-Inv-loop d set p q somewhere₀ i₀ somewhere i = (i ≤ d) × (decided d set p q somewhere i ≡ dominatesAt (costsIn d set) p q)
+Inv-loop d set p q somewhere₀ i₀ somewhere i = (i ≤ d) × (decided d set p q somewhere i ≡ dominatesAt (chosenCosts d set) p q)
 
 abbrev μ-loop : tie.MeasureT-loop
 μ-loop d set p q somewhere₀ i₀ somewhere i = d - i

@@ -5,7 +5,7 @@ use native.Mathlib.Omega.{arith}
 use borrow.Author.Needs.{needs}
 use borrow.Author.Tests.{lt-ltb, le-ltb}
 use Rattle.model.specs.Moves.{entered}
-use Rattle.upkeep.specs.Notice.{rowNumbers}
+use Rattle.upkeep.specs.Notice.{moveNumbers}
 use Rattle.upkeep.specs.Laws.Telling.{place-below, coming-row, place-row}
 use Rattle.upkeep.proofs.telling.row_at.Statement.{statement}
 use Rattle.upkeep.proofs.telling.row_at.Tie as tie
@@ -39,7 +39,7 @@ returns-2 c =
     let read = c .before .before .before .before in
     let a = read .before .before .before .before .args in
     c .row-of2 .ensures
-    ∙ ap (rowNumbers (a .t .mark)) (c .before .before .before .move-at .ensures)
+    ∙ ap (moveNumbers (a .t .mark)) (c .before .before .before .move-at .ensures)
     ∙ sym (place-row (a .t) (a .m .now) (a .i) (read .before .if1 .left) (read .place-at .result) (sym (read .place-at .ensures)) (lt-ltb (a .i) (a .t .count) (c .before .if2 .taken)))
 
 row-of-requires-3 : tie.Need-row-of-requires-3
@@ -50,7 +50,7 @@ returns-3 c =
     let read = c .before .before .before .before in
     let a = read .before .before .before .before .args in
     c .row-of3 .ensures
-    ∙ ap (rowNumbers entered) (c .before .before .before .move-at .ensures)
+    ∙ ap (moveNumbers entered) (c .before .before .before .move-at .ensures)
     ∙ sym (place-row (a .t) (a .m .now) (a .i) (read .before .if1 .left) (read .place-at .result) (sym (read .place-at .ensures)) (le-ltb (a .i) (a .t .count) (omega arith)))
 
 pub row-at-spec : {M : Type 1} → statement M
