@@ -56,7 +56,7 @@ use Rattle.dolzhev.specs.Laws.Exported.{query-exported}
 use Rattle.dolzhev.specs.declared.answer.Answer.{Answer}
 use Rattle.dolzhev.proofs.answer.Answer as N
 use Rattle.dolzhev.proofs.answer.Answer.Laws as N′
-use Rattle.dolzhev.proofs.answer.handed.Symbol.{name as #board-c·answer·handed}
+use Rattle.dolzhev.proofs.answer.handed.Symbol.{name as #dolzhev·answer·handed}
 use Rattle.dolzhev.proofs.Shared.{at-list}
 use Rattle.dolzhev.proofs.Filled.{FillC, HandC, calls-fill, calls-handed}
 use Rattle.dolzhev.proofs.lists.dolzhev_band as f
@@ -78,7 +78,7 @@ function name = record {
       (seq (assign (place 7 []) (addrOf (place 3 (field 0 ∷ deref T′.mir ∷ []))))
       (seq (assign (place 8 []) (aggregate (copy (place 7 []) ∷ copy (place 3 (field 1 ∷ [])) ∷ [])))
       (seq (call #rows·fill (copy (place 8 []) ∷ copy (place 1 []) ∷ copy (place 4 (field 2 ∷ [])) ∷ copy (place 4 (field 1 ∷ [])) ∷ []) (place 6 []))
-      (seq (call #board-c·answer·handed (copy (place 4 (field 0 ∷ [])) ∷ copy (place 4 (field 1 ∷ [])) ∷ int w64 0 ∷ []) (place 0 []))
+      (seq (call #dolzhev·answer·handed (copy (place 4 (field 0 ∷ [])) ∷ copy (place 4 (field 1 ∷ [])) ∷ int w64 0 ∷ []) (place 0 []))
       return)))));
 }
 
@@ -134,7 +134,7 @@ module _ {M : Type 1} (𝓤 : URA M) (H : Heap 𝓤) (A : Atoms 𝓤) (W : Given
       qed W (‵ (flft κ q) ∷ Bytes ∷ []) ∵ nothing ! $ nothing ! $ owned ! usize (Is usize) (uint-makes 𝓤 H A W w64) (length ys) _ (refl, r-room .0) $ fjoin ! $ owned ! usize (Is usize) (uint-makes 𝓤 H A W w64) x _ (refl, x-fits) $ fjoin ! $
       move ! (3 ∷ 0 ∷ []) $ fjoin ! $ nothing ! $ move ! (3 ∷ 0 ∷ []) $ join ! $ join ! $ done !
 
-  module _ (𝓣 : Tables 𝓤 H) (fm : FmC 𝓤 H (W .laws) (𝓣 .C)) (name : Name) (known-plan : Triple 𝓤 (𝓣 .C name) (PlanOf 𝓤 H A ask)) (known-fill : Triple 𝓤 (𝓣 .C #rows·fill) (FillC 𝓤 H A mem run)) (known-handed : Triple 𝓤 (𝓣 .C #board-c·answer·handed) (HandC 𝓤 H A mem run)) where
+  module _ (𝓣 : Tables 𝓤 H) (fm : FmC 𝓤 H (W .laws) (𝓣 .C)) (name : Name) (known-plan : Triple 𝓤 (𝓣 .C name) (PlanOf 𝓤 H A ask)) (known-fill : Triple 𝓤 (𝓣 .C #rows·fill) (FillC 𝓤 H A mem run)) (known-handed : Triple 𝓤 (𝓣 .C #dolzhev·answer·handed) (HandC 𝓤 H A mem run)) where
     walk : Room u8 (length m) → Room T.the-row (length ys) → ent 𝓤 (onEntry 𝓤 H A f.signature (κ, (κr, tt)) (q, (qr, tt)) a vals) (WpFn 𝓤 H (𝓣 .C) (𝓣 .Λ) (function name) (s ∷ vint w64 x ∷ sr ∷ []) Post)
     walk room r-room =
         qed W ((‵ (flft κ q) ⊛ (‵ (flft κr qr) ⊛ ‵ ftrue)) ∷ ‵ (owns (ShrSlice (named 0) κ u8 ∷ usize ∷ MutSlice (named 1) κr T.the-row ∷ []) a vals) ∷ []) ∵ enter ! (𝓣 .C) (𝓣 .Λ) (function name) (s ∷ vint w64 x ∷ sr ∷ []) _ $
@@ -168,7 +168,7 @@ module _ {M : Type 1} (𝓤 : URA M) (H : Heap 𝓤) (A : Atoms 𝓤) (W : Given
         move ! (20 ∷ 21 ∷ 18 ∷ 19 ∷ 16 ∷ 17 ∷ 14 ∷ 15 ∷ 12 ∷ 13 ∷ 10 ∷ 11 ∷ 8 ∷ 9 ∷ 6 ∷ 7 ∷ 4 ∷ 5 ∷ []) $ free-all ! (envOf 𝓤 H (function name .locals) (l₀ ∷ l₁ ∷ l₂ ∷ l₃ ∷ l₄ ∷ l₅ ∷ l₆ ∷ l₇ ∷ l₈ ∷ [])) $
         by ! (exits r w₂ zs (query-exported ys zs e e₁ e₂) l is₂))))))))))))))
 
-module _ {M : Type 1} (𝓤 : URA M) (H : Heap 𝓤) (A : Atoms 𝓤) (W : Given 𝓤 H A) (mem : Memory → SProp 𝓤) (run : Routine → Fun 𝓤) (ask : ℕ → Query) (𝓣 : Tables 𝓤 H) (name : Name) (known-plan : Triple 𝓤 (𝓣 .C name) (PlanOf 𝓤 H A ask)) (known-fill : Triple 𝓤 (𝓣 .C #rows·fill) (FillC 𝓤 H A mem run)) (known-handed : Triple 𝓤 (𝓣 .C #board-c·answer·handed) (HandC 𝓤 H A mem run)) where
+module _ {M : Type 1} (𝓤 : URA M) (H : Heap 𝓤) (A : Atoms 𝓤) (W : Given 𝓤 H A) (mem : Memory → SProp 𝓤) (run : Routine → Fun 𝓤) (ask : ℕ → Query) (𝓣 : Tables 𝓤 H) (name : Name) (known-plan : Triple 𝓤 (𝓣 .C name) (PlanOf 𝓤 H A ask)) (known-fill : Triple 𝓤 (𝓣 .C #rows·fill) (FillC 𝓤 H A mem run)) (known-handed : Triple 𝓤 (𝓣 .C #dolzhev·answer·handed) (HandC 𝓤 H A mem run)) where
   asked-walks : Walks 𝓤 H A f.ended stayed (WpFn 𝓤 H (𝓣 .C) (𝓣 .Λ) (function name)) (clausesOf 𝓤 ask)
   asked-walks = walked 𝓤 H A f.ended stayed (clausesOf 𝓤 ask) (WpFn 𝓤 H (𝓣 .C) (𝓣 .Λ) (function name))
       (λ κs. (slice-vals, (uint-vals w64, (slice-vals, tt)))) (λ κs. (shr-slice-tells (named 0) (κs .0) u8, (uint-tells w64, (mut-slice-tells (named 1) (κs .1 .0) T.the-row, tt))))

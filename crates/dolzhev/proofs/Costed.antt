@@ -62,7 +62,7 @@ use Rattle.dolzhev.proofs.answer.Answer as N
 use Rattle.dolzhev.proofs.answer.Answer.Laws as N′
 use Rattle.dolzhev.proofs.Shared.{at-list, shares-out, shares-back}
 use Rattle.dolzhev.proofs.Passed.{DoneC, calls-done}
-use Rattle.dolzhev.proofs.change.done.Symbol.{name as #board-c·change·done}
+use Rattle.dolzhev.proofs.change.done.Symbol.{name as #dolzhev·change·done}
 use Rattle.dolzhev.proofs.change.dolzhev_enter as f
 
 abbrev row : Ty
@@ -86,7 +86,7 @@ function name = record {
       (seq (assign (place 10 []) (aggregate (copy (place 9 []) ∷ copy (place 1 (field 1 ∷ [])) ∷ [])))
       (seq (assign (place 11 []) (addrOf (place 4 (field 0 ∷ deref T′.mir ∷ []))))
       (seq (assign (place 12 []) (aggregate (copy (place 11 []) ∷ copy (place 4 (field 1 ∷ [])) ∷ [])))
-      (seq (call #board-c·change·done (copy (place 10 []) ∷ copy (place 5 []) ∷ copy (place 12 []) ∷ []) (place 0 []))
+      (seq (call #dolzhev·change·done (copy (place 10 []) ∷ copy (place 5 []) ∷ copy (place 12 []) ∷ []) (place 0 []))
       return))))))));
 }
 
@@ -144,7 +144,7 @@ module _ {M : Type 1} (𝓤 : URA M) (H : Heap 𝓤) (A : Atoms 𝓤) (W : Given
       nothing ! $ owned ! usize (Is usize) (uint-makes 𝓤 H A W w64) (length ys) _ (refl, r-room .0) $ fjoin ! $
       owned ! (Array u16 tt rowCosts) (Is (Array u16 tt rowCosts)) (array-makes 𝓤 H A W u16 (uint-makes 𝓤 H A W w16) rowCosts) (costs .costs) _ (subst (λ (ns : List ℕ). Is (Array u16 tt rowCosts) ns (LL.array-laws u16-field LL.u16-laws rowCosts .val (B.the-type .to costs .0) ∷ [])) (map-id (costs .costs)) (LL.owed B.the-type B′.the-laws costs _ c-is .0)) $ fjoin ! $ owned ! u16 (Is u16) (uint-makes 𝓤 H A W w16) number _ (refl, n-fits) $ fjoin ! $ move ! (3 ∷ 0 ∷ []) $ fjoin ! $ nothing ! $ move ! (3 ∷ 0 ∷ []) $ join ! $ join ! $ done !
 
-  module _ (𝓣 : Tables 𝓤 H) (fm : FmC 𝓤 H (W .laws) (𝓣 .C)) (name : Name) (known-plan : Triple 𝓤 (𝓣 .C name) (PlanOf 𝓤 H A ask)) (known-done : Triple 𝓤 (𝓣 .C #board-c·change·done) (DoneC 𝓤 H A mem run)) where
+  module _ (𝓣 : Tables 𝓤 H) (fm : FmC 𝓤 H (W .laws) (𝓣 .C)) (name : Name) (known-plan : Triple 𝓤 (𝓣 .C name) (PlanOf 𝓤 H A ask)) (known-done : Triple 𝓤 (𝓣 .C #dolzhev·change·done) (DoneC 𝓤 H A mem run)) where
     walk : Room u8 (length m) → Room T.the-row (length ys) → ent 𝓤 (onEntry 𝓤 H A f.signature (κ, (κr, tt)) (q, (qr, tt)) a vals) (WpFn 𝓤 H (𝓣 .C) (𝓣 .Λ) (function name) (s ∷ vint w16 number ∷ sc ∷ sr ∷ []) Post)
     walk room r-room =
         qed W ((‵ (flft κ q) ⊛ (‵ (flft κr qr) ⊛ ‵ ftrue)) ∷ ‵ (owns (MutSlice (named 0) κ u8 ∷ u16 ∷ B.the-row ∷ MutSlice (named 1) κr T.the-row ∷ []) a vals) ∷ []) ∵ enter ! (𝓣 .C) (𝓣 .Λ) (function name) (s ∷ vint w16 number ∷ sc ∷ sr ∷ []) _ $
@@ -179,7 +179,7 @@ module _ {M : Type 1} (𝓤 : URA M) (H : Heap 𝓤) (A : Atoms 𝓤) (W : Given
         move ! (28 ∷ 29 ∷ 26 ∷ 27 ∷ 24 ∷ 25 ∷ 22 ∷ 23 ∷ 20 ∷ 21 ∷ 18 ∷ 19 ∷ 16 ∷ 17 ∷ 14 ∷ 15 ∷ 12 ∷ 13 ∷ 10 ∷ 11 ∷ 8 ∷ 9 ∷ 6 ∷ 7 ∷ 4 ∷ 5 ∷ []) $ free-all ! (envOf 𝓤 H (function name .locals) (l₀ ∷ l₁ ∷ l₂ ∷ l₃ ∷ l₄ ∷ l₅ ∷ l₆ ∷ l₇ ∷ l₈ ∷ l₉ ∷ l₁₀ ∷ l₁₁ ∷ l₁₂ ∷ [])) $
         by ! (exits r w₁ ms zs (planned-exported e e₁) l lr is₁))))))))))))))))))
 
-module _ {M : Type 1} (𝓤 : URA M) (H : Heap 𝓤) (A : Atoms 𝓤) (W : Given 𝓤 H A) (mem : Memory → SProp 𝓤) (run : Routine → Fun 𝓤) (ask : ℕ → List ℕ → calls.Change) (𝓣 : Tables 𝓤 H) (name : Name) (known-plan : Triple 𝓤 (𝓣 .C name) (PlanOf 𝓤 H A ask)) (known-done : Triple 𝓤 (𝓣 .C #board-c·change·done) (DoneC 𝓤 H A mem run)) where
+module _ {M : Type 1} (𝓤 : URA M) (H : Heap 𝓤) (A : Atoms 𝓤) (W : Given 𝓤 H A) (mem : Memory → SProp 𝓤) (run : Routine → Fun 𝓤) (ask : ℕ → List ℕ → calls.Change) (𝓣 : Tables 𝓤 H) (name : Name) (known-plan : Triple 𝓤 (𝓣 .C name) (PlanOf 𝓤 H A ask)) (known-done : Triple 𝓤 (𝓣 .C #dolzhev·change·done) (DoneC 𝓤 H A mem run)) where
   costed-walks : Walks 𝓤 H A f.ended stayed (WpFn 𝓤 H (𝓣 .C) (𝓣 .Λ) (function name)) (clausesOf 𝓤 ask)
   costed-walks = walked 𝓤 H A f.ended stayed (clausesOf 𝓤 ask) (WpFn 𝓤 H (𝓣 .C) (𝓣 .Λ) (function name))
       (λ κs. (slice-vals, (uint-vals w16, (LL.vals B.the-type B′.the-laws, (slice-vals, tt))))) (λ κs. (mut-slice-tells (named 0) (κs .0) u8, (uint-tells w16, (LL.tells B.the-type B′.the-laws, (mut-slice-tells (named 1) (κs .1 .0) T.the-row, tt)))))

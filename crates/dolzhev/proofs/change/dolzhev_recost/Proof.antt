@@ -10,9 +10,9 @@ use Rattle.board.proofs.plan_recost.Met as plan-thm
 use Rattle.dolzhev.proofs.Passed.{DoneC}
 use Rattle.dolzhev.proofs.Costed.{PlanOf, costed-meets}
 use Rattle.dolzhev.proofs.change.done.Symbol as done-def
-use Rattle.dolzhev.proofs.change.done.Symbol.{name as #board-c·change·done}
+use Rattle.dolzhev.proofs.change.done.Symbol.{name as #dolzhev·change·done}
 use Rattle.dolzhev.proofs.change.done.Met as done-thm
-use Rattle.dolzhev.proofs.change.dolzhev_recost.Key.{name as #board-c·change·dolzhev-recost}
+use Rattle.dolzhev.proofs.change.dolzhev_recost.Key.{name as #dolzhev·change·dolzhev-recost}
 use Rattle.dolzhev.proofs.change.dolzhev_recost as f
 use Rattle.dolzhev.proofs.change.dolzhev_recost.Statement as stated
 use Rattle.dolzhev.proofs.change.dolzhev_recost.Code as code
@@ -21,7 +21,7 @@ pub dolzhev-recost-spec : {M : Type 1} → stated.statement M
 unfolding code.routine tablesOf
 dolzhev-recost-spec 𝓤 H 𝓜 𝓖 𝓡 =
     entered 𝓤 H (tripleOf 𝓤 H (𝓖 .A) f.signature (f.spec 𝓤 H (𝓖 .A) (𝓜 .mem) (𝓡 .run)))
-    (tables 𝓤 H 𝓜 𝓡 code.env .C) (tables 𝓤 H 𝓜 𝓡 code.env .Λ) #board-c·change·dolzhev-recost code.function (code.unfolded 𝓤 H 𝓜 𝓡)
+    (tables 𝓤 H 𝓜 𝓡 code.env .C) (tables 𝓤 H 𝓜 𝓡 code.env .Λ) #dolzhev·change·dolzhev-recost code.function (code.unfolded 𝓤 H 𝓜 𝓡)
     (costed-meets 𝓤 H (𝓖 .A) (givenOf 𝓤 H 𝓜 𝓖) (𝓜 .mem) (𝓡 .run) calls.recost (tablesOf 𝓤 H 𝓜 (tables 𝓤 H 𝓜 𝓡 code.env)) #board·plan-recost
     (cited 𝓤 H (PlanOf 𝓤 H (𝓖 .A) calls.recost) 𝓜 𝓡 code.env #board·plan-recost plan-def.routine code.calls-board·plan-recost (plan-thm.met 𝓤 H 𝓜 𝓖 𝓡))
-    (cited 𝓤 H (DoneC 𝓤 H (𝓖 .A) (𝓜 .mem) (𝓡 .run)) 𝓜 𝓡 code.env #board-c·change·done done-def.routine code.calls-board-c·change·done (done-thm.met 𝓤 H 𝓜 𝓖 𝓡)))
+    (cited 𝓤 H (DoneC 𝓤 H (𝓖 .A) (𝓜 .mem) (𝓡 .run)) 𝓜 𝓡 code.env #dolzhev·change·done done-def.routine code.calls-dolzhev·change·done (done-thm.met 𝓤 H 𝓜 𝓖 𝓡)))

@@ -56,9 +56,9 @@ use Rattle.dolzhev.proofs.answer.Answer.Laws as N′
 use Rattle.dolzhev.proofs.Shared.{at-list, shares-out, shares-back}
 use Rattle.dolzhev.proofs.Passed.{DoneC, calls-done}
 use Rattle.dolzhev.proofs.change.done.Symbol as done-def
-use Rattle.dolzhev.proofs.change.done.Symbol.{name as #board-c·change·done}
+use Rattle.dolzhev.proofs.change.done.Symbol.{name as #dolzhev·change·done}
 use Rattle.dolzhev.proofs.change.done.Met as done-thm
-use Rattle.dolzhev.proofs.change.dolzhev_withdraw.Key.{name as #board-c·change·dolzhev-withdraw}
+use Rattle.dolzhev.proofs.change.dolzhev_withdraw.Key.{name as #dolzhev·change·dolzhev-withdraw}
 use Rattle.dolzhev.proofs.change.dolzhev_withdraw as f
 use Rattle.dolzhev.proofs.change.dolzhev_withdraw.Statement as stated
 use Rattle.dolzhev.proofs.change.dolzhev_withdraw.Code as code
@@ -107,7 +107,7 @@ module _ {M : Type 1} (𝓤 : URA M) (H : Heap 𝓤) (A : Atoms 𝓤) (W : Given
       qed W (‵ (flft (ν ∷ []) fullShare) ∷ ‵ (ShrSlice (named 0) (ν ∷ []) u8 .own (at-list u8 b o δ m) (s ∷ [])) ∷ []) ∵ nothing ! $
       nothing ! $ owned ! usize (Is usize) (uint-makes 𝓤 H A W w64) (length ys) _ (refl, r-room .0) $ fjoin ! $ owned ! u16 (Is u16) (uint-makes 𝓤 H A W w16) number _ (refl, n-fits) $ fjoin ! $ move ! (3 ∷ 0 ∷ []) $ fjoin ! $ nothing ! $ move ! (3 ∷ 0 ∷ []) $ join ! $ join ! $ done !
 
-  module _ (𝓣 : Tables 𝓤 H) (fm : FmC 𝓤 H (W .laws) (𝓣 .C)) (known-plan : Triple 𝓤 (𝓣 .C #board·plan-withdraw) (PlanC 𝓤 H A mem run)) (known-done : Triple 𝓤 (𝓣 .C #board-c·change·done) (DoneC 𝓤 H A mem run)) where
+  module _ (𝓣 : Tables 𝓤 H) (fm : FmC 𝓤 H (W .laws) (𝓣 .C)) (known-plan : Triple 𝓤 (𝓣 .C #board·plan-withdraw) (PlanC 𝓤 H A mem run)) (known-done : Triple 𝓤 (𝓣 .C #dolzhev·change·done) (DoneC 𝓤 H A mem run)) where
     walk : Room u8 (length m) → Room T.the-row (length ys) → ent 𝓤 (onEntry 𝓤 H A f.signature (κ, (κr, tt)) (q, (qr, tt)) a vals) (WpFn 𝓤 H (𝓣 .C) (𝓣 .Λ) code.function (s ∷ vint w16 number ∷ sr ∷ []) Post)
     walk room r-room =
         qed W ((‵ (flft κ q) ⊛ (‵ (flft κr qr) ⊛ ‵ ftrue)) ∷ ‵ (owns (MutSlice (named 0) κ u8 ∷ u16 ∷ MutSlice (named 1) κr T.the-row ∷ []) a vals) ∷ []) ∵ enter ! (𝓣 .C) (𝓣 .Λ) code.function (s ∷ vint w16 number ∷ sr ∷ []) _ $
@@ -142,7 +142,7 @@ module _ {M : Type 1} (𝓤 : URA M) (H : Heap 𝓤) (A : Atoms 𝓤) (W : Given
         move ! (26 ∷ 27 ∷ 24 ∷ 25 ∷ 22 ∷ 23 ∷ 20 ∷ 21 ∷ 18 ∷ 19 ∷ 16 ∷ 17 ∷ 14 ∷ 15 ∷ 12 ∷ 13 ∷ 10 ∷ 11 ∷ 8 ∷ 9 ∷ 6 ∷ 7 ∷ 4 ∷ 5 ∷ []) $ free-all ! (envOf 𝓤 H (code.function .locals) (l₀ ∷ l₁ ∷ l₂ ∷ l₃ ∷ l₄ ∷ l₅ ∷ l₆ ∷ l₇ ∷ l₈ ∷ l₉ ∷ l₁₀ ∷ l₁₁ ∷ [])) $
         by ! (exits r w₁ ms zs (planned-exported e e₁) l lr is₁)))))))))))))))))
 
-module _ {M : Type 1} (𝓤 : URA M) (H : Heap 𝓤) (A : Atoms 𝓤) (W : Given 𝓤 H A) (mem : Memory → SProp 𝓤) (run : Routine → Fun 𝓤) (𝓣 : Tables 𝓤 H) (known-plan : Triple 𝓤 (𝓣 .C #board·plan-withdraw) (PlanC 𝓤 H A mem run)) (known-done : Triple 𝓤 (𝓣 .C #board-c·change·done) (DoneC 𝓤 H A mem run)) where
+module _ {M : Type 1} (𝓤 : URA M) (H : Heap 𝓤) (A : Atoms 𝓤) (W : Given 𝓤 H A) (mem : Memory → SProp 𝓤) (run : Routine → Fun 𝓤) (𝓣 : Tables 𝓤 H) (known-plan : Triple 𝓤 (𝓣 .C #board·plan-withdraw) (PlanC 𝓤 H A mem run)) (known-done : Triple 𝓤 (𝓣 .C #dolzhev·change·done) (DoneC 𝓤 H A mem run)) where
   dolzhev-withdraw-walks : Walks 𝓤 H A f.ended stayed (WpFn 𝓤 H (𝓣 .C) (𝓣 .Λ) code.function) (f.clauses 𝓤 H A mem run)
   dolzhev-withdraw-walks = walked 𝓤 H A f.ended stayed (f.clauses 𝓤 H A mem run) (WpFn 𝓤 H (𝓣 .C) (𝓣 .Λ) code.function)
       (λ κs. (slice-vals, (uint-vals w16, (slice-vals, tt)))) (λ κs. (mut-slice-tells (named 0) (κs .0) u8, (uint-tells w16, (mut-slice-tells (named 1) (κs .1 .0) T.the-row, tt))))
@@ -159,7 +159,7 @@ pub dolzhev-withdraw-spec : {M : Type 1} → stated.statement M
 unfolding code.routine tablesOf
 dolzhev-withdraw-spec 𝓤 H 𝓜 𝓖 𝓡 =
     entered 𝓤 H (tripleOf 𝓤 H (𝓖 .A) f.signature (f.spec 𝓤 H (𝓖 .A) (𝓜 .mem) (𝓡 .run)))
-    (tables 𝓤 H 𝓜 𝓡 code.env .C) (tables 𝓤 H 𝓜 𝓡 code.env .Λ) #board-c·change·dolzhev-withdraw code.function (code.unfolded 𝓤 H 𝓜 𝓡)
+    (tables 𝓤 H 𝓜 𝓡 code.env .C) (tables 𝓤 H 𝓜 𝓡 code.env .Λ) #dolzhev·change·dolzhev-withdraw code.function (code.unfolded 𝓤 H 𝓜 𝓡)
     (dolzhev-withdraw-meets 𝓤 H (𝓖 .A) (givenOf 𝓤 H 𝓜 𝓖) (𝓜 .mem) (𝓡 .run) (tablesOf 𝓤 H 𝓜 (tables 𝓤 H 𝓜 𝓡 code.env))
     (cited 𝓤 H (PlanC 𝓤 H (𝓖 .A) (𝓜 .mem) (𝓡 .run)) 𝓜 𝓡 code.env #board·plan-withdraw plan-def.routine code.calls-board·plan-withdraw (plan-thm.met 𝓤 H 𝓜 𝓖 𝓡))
-    (cited 𝓤 H (DoneC 𝓤 H (𝓖 .A) (𝓜 .mem) (𝓡 .run)) 𝓜 𝓡 code.env #board-c·change·done done-def.routine code.calls-board-c·change·done (done-thm.met 𝓤 H 𝓜 𝓖 𝓡)))
+    (cited 𝓤 H (DoneC 𝓤 H (𝓖 .A) (𝓜 .mem) (𝓡 .run)) 𝓜 𝓡 code.env #dolzhev·change·done done-def.routine code.calls-dolzhev·change·done (done-thm.met 𝓤 H 𝓜 𝓖 𝓡)))

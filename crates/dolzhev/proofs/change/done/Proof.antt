@@ -59,9 +59,9 @@ use Rattle.dolzhev.proofs.answer.Answer.Laws as N′
 use Rattle.dolzhev.proofs.Shared.{at-list, shares-out, shares-back, ended, last-list}
 use Rattle.dolzhev.proofs.Filled.{FillC, HandC, calls-fill, calls-handed}
 use Rattle.dolzhev.proofs.answer.handed.Symbol as handed-def
-use Rattle.dolzhev.proofs.answer.handed.Symbol.{name as #board-c·answer·handed}
+use Rattle.dolzhev.proofs.answer.handed.Symbol.{name as #dolzhev·answer·handed}
 use Rattle.dolzhev.proofs.answer.handed.Met as handed-thm
-use Rattle.dolzhev.proofs.change.done.Key.{name as #board-c·change·done}
+use Rattle.dolzhev.proofs.change.done.Key.{name as #dolzhev·change·done}
 use Rattle.dolzhev.proofs.change.done as f
 use Rattle.dolzhev.proofs.change.done.Statement as stated
 use Rattle.dolzhev.proofs.change.done.Code as code
@@ -113,7 +113,7 @@ module _ {M : Type 1} (𝓤 : URA M) (H : Heap 𝓤) (A : Atoms 𝓤) (W : Given
       qed W (‵ (flft κ q) ∷ ‵ (MutSlice (named 0) κ u8 .own (at-list u8 b o γ m) (s ∷ [])) ∷ []) ∵ says ! (asked .able) $ nothing ! $ move ! (1 ∷ 0 ∷ []) $ join ! $ frame ! $
       nothing ! $ owned ! P.the-row (Is P.the-row) (LL.makes P.the-type P′.the-plain 𝓤 H A) p _ p-is $ fjoin ! $ move ! (1 ∷ 0 ∷ []) $ fjoin ! $ done !
 
-  module _ (𝓣 : Tables 𝓤 H) (fm : FmC 𝓤 H (W .laws) (𝓣 .C)) (known-fill : Triple 𝓤 (𝓣 .C #rows·fill) (FillC 𝓤 H A mem run)) (known-carry : Triple 𝓤 (𝓣 .C #board·carry-out) (CarryOut 𝓤 H A mem run)) (known-handed : Triple 𝓤 (𝓣 .C #board-c·answer·handed) (HandC 𝓤 H A mem run)) where
+  module _ (𝓣 : Tables 𝓤 H) (fm : FmC 𝓤 H (W .laws) (𝓣 .C)) (known-fill : Triple 𝓤 (𝓣 .C #rows·fill) (FillC 𝓤 H A mem run)) (known-carry : Triple 𝓤 (𝓣 .C #board·carry-out) (CarryOut 𝓤 H A mem run)) (known-handed : Triple 𝓤 (𝓣 .C #dolzhev·answer·handed) (HandC 𝓤 H A mem run)) where
     walk : Room u8 (length m) → Room T.the-row (length ys) → Is P.the-row p (planned ∷ []) → DoneAsked p m ys
         → ent 𝓤 (onEntry 𝓤 H A f.signature (κ, (κr, tt)) (q, (qr, tt)) a vals) (WpFn 𝓤 H (𝓣 .C) (𝓣 .Λ) code.function (s ∷ planned ∷ sr ∷ []) Post)
     walk room r-room p-is asked =
@@ -152,7 +152,7 @@ module _ {M : Type 1} (𝓤 : URA M) (H : Heap 𝓤) (A : Atoms 𝓤) (W : Given
         move ! (1 ∷ []) $ use1 W (‵ (flft κ q) ⊛ ‵ ftrue) (id⊢ 𝓤 _) $ split ! $ keep ! (0 ∷ 3 ∷ 2 ∷ 4 ∷ []) $
         by ! (exits r₂ w₂ (ws .0) zs (record { tells = e; out = e₁; handed = e₂ }) l lr p-is is₂))))))))))))))))))
 
-module _ {M : Type 1} (𝓤 : URA M) (H : Heap 𝓤) (A : Atoms 𝓤) (W : Given 𝓤 H A) (mem : Memory → SProp 𝓤) (run : Routine → Fun 𝓤) (𝓣 : Tables 𝓤 H) (known-fill : Triple 𝓤 (𝓣 .C #rows·fill) (FillC 𝓤 H A mem run)) (known-carry : Triple 𝓤 (𝓣 .C #board·carry-out) (CarryOut 𝓤 H A mem run)) (known-handed : Triple 𝓤 (𝓣 .C #board-c·answer·handed) (HandC 𝓤 H A mem run)) where
+module _ {M : Type 1} (𝓤 : URA M) (H : Heap 𝓤) (A : Atoms 𝓤) (W : Given 𝓤 H A) (mem : Memory → SProp 𝓤) (run : Routine → Fun 𝓤) (𝓣 : Tables 𝓤 H) (known-fill : Triple 𝓤 (𝓣 .C #rows·fill) (FillC 𝓤 H A mem run)) (known-carry : Triple 𝓤 (𝓣 .C #board·carry-out) (CarryOut 𝓤 H A mem run)) (known-handed : Triple 𝓤 (𝓣 .C #dolzhev·answer·handed) (HandC 𝓤 H A mem run)) where
   done-walks : Walks 𝓤 H A f.ended stayed (WpFn 𝓤 H (𝓣 .C) (𝓣 .Λ) code.function) (f.clauses 𝓤 H A mem run)
   done-walks = walked 𝓤 H A f.ended stayed (f.clauses 𝓤 H A mem run) (WpFn 𝓤 H (𝓣 .C) (𝓣 .Λ) code.function)
       (λ κs. (slice-vals, (LL.vals P.the-type P′.the-laws, (slice-vals, tt)))) (λ κs. (mut-slice-tells (named 0) (κs .0) u8, (LL.tells P.the-type P′.the-laws, (mut-slice-tells (named 1) (κs .1 .0) T.the-row, tt))))
@@ -169,8 +169,8 @@ pub done-spec : {M : Type 1} → stated.statement M
 unfolding code.routine tablesOf
 done-spec 𝓤 H 𝓜 𝓖 𝓡 =
     entered 𝓤 H (tripleOf 𝓤 H (𝓖 .A) f.signature (f.spec 𝓤 H (𝓖 .A) (𝓜 .mem) (𝓡 .run)))
-    (tables 𝓤 H 𝓜 𝓡 code.env .C) (tables 𝓤 H 𝓜 𝓡 code.env .Λ) #board-c·change·done code.function (code.unfolded 𝓤 H 𝓜 𝓡)
+    (tables 𝓤 H 𝓜 𝓡 code.env .C) (tables 𝓤 H 𝓜 𝓡 code.env .Λ) #dolzhev·change·done code.function (code.unfolded 𝓤 H 𝓜 𝓡)
     (done-meets 𝓤 H (𝓖 .A) (givenOf 𝓤 H 𝓜 𝓖) (𝓜 .mem) (𝓡 .run) (tablesOf 𝓤 H 𝓜 (tables 𝓤 H 𝓜 𝓡 code.env))
     (cited 𝓤 H (FillC 𝓤 H (𝓖 .A) (𝓜 .mem) (𝓡 .run)) 𝓜 𝓡 code.env #rows·fill fill-def.routine code.calls-rows·fill (fill-thm.met 𝓤 H 𝓜 𝓖 𝓡))
     (cited 𝓤 H (CarryOut 𝓤 H (𝓖 .A) (𝓜 .mem) (𝓡 .run)) 𝓜 𝓡 code.env #board·carry-out carry-out-def.routine code.calls-board·carry-out (carry-out-thm.met 𝓤 H 𝓜 𝓖 𝓡))
-    (cited 𝓤 H (HandC 𝓤 H (𝓖 .A) (𝓜 .mem) (𝓡 .run)) 𝓜 𝓡 code.env #board-c·answer·handed handed-def.routine code.calls-board-c·answer·handed (handed-thm.met 𝓤 H 𝓜 𝓖 𝓡)))
+    (cited 𝓤 H (HandC 𝓤 H (𝓖 .A) (𝓜 .mem) (𝓡 .run)) 𝓜 𝓡 code.env #dolzhev·answer·handed handed-def.routine code.calls-dolzhev·answer·handed (handed-thm.met 𝓤 H 𝓜 𝓖 𝓡)))

@@ -56,11 +56,11 @@ use Rattle.dolzhev.specs.declared.answer.Answer.{Answer}
 use Rattle.dolzhev.proofs.answer.Answer as N
 use Rattle.dolzhev.proofs.answer.Answer.Laws as N′
 use Rattle.dolzhev.proofs.answer.handed.Symbol as handed-def
-use Rattle.dolzhev.proofs.answer.handed.Symbol.{name as #board-c·answer·handed}
+use Rattle.dolzhev.proofs.answer.handed.Symbol.{name as #dolzhev·answer·handed}
 use Rattle.dolzhev.proofs.answer.handed.Met as handed-thm
 use Rattle.dolzhev.proofs.Shared.{at-list}
 use Rattle.dolzhev.proofs.Filled.{FillC, HandC, calls-fill, calls-handed}
-use Rattle.dolzhev.proofs.lists.dolzhev_list.Key.{name as #board-c·lists·dolzhev-list}
+use Rattle.dolzhev.proofs.lists.dolzhev_list.Key.{name as #dolzhev·lists·dolzhev-list}
 use Rattle.dolzhev.proofs.lists.dolzhev_list as f
 use Rattle.dolzhev.proofs.lists.dolzhev_list.Statement as stated
 use Rattle.dolzhev.proofs.lists.dolzhev_list.Code as code
@@ -111,7 +111,7 @@ module _ {M : Type 1} (𝓤 : URA M) (H : Heap 𝓤) (A : Atoms 𝓤) (W : Given
       qed W (‵ (flft κ q) ∷ Bytes ∷ []) ∵ nothing ! $ nothing ! $ owned ! usize (Is usize) (uint-makes 𝓤 H A W w64) (length ys) _ (refl, r-room .0) $ fjoin ! $
       move ! (3 ∷ 0 ∷ []) $ fjoin ! $ nothing ! $ move ! (3 ∷ 0 ∷ []) $ join ! $ join ! $ done !
 
-  module _ (𝓣 : Tables 𝓤 H) (fm : FmC 𝓤 H (W .laws) (𝓣 .C)) (known-plan : Triple 𝓤 (𝓣 .C #listing·plan-list) (PlanC 𝓤 H A mem run)) (known-fill : Triple 𝓤 (𝓣 .C #rows·fill) (FillC 𝓤 H A mem run)) (known-handed : Triple 𝓤 (𝓣 .C #board-c·answer·handed) (HandC 𝓤 H A mem run)) where
+  module _ (𝓣 : Tables 𝓤 H) (fm : FmC 𝓤 H (W .laws) (𝓣 .C)) (known-plan : Triple 𝓤 (𝓣 .C #listing·plan-list) (PlanC 𝓤 H A mem run)) (known-fill : Triple 𝓤 (𝓣 .C #rows·fill) (FillC 𝓤 H A mem run)) (known-handed : Triple 𝓤 (𝓣 .C #dolzhev·answer·handed) (HandC 𝓤 H A mem run)) where
     walk : Room u8 (length m) → Room T.the-row (length ys) → ent 𝓤 (onEntry 𝓤 H A f.signature (κ, (κr, tt)) (q, (qr, tt)) a vals) (WpFn 𝓤 H (𝓣 .C) (𝓣 .Λ) code.function (s ∷ sr ∷ []) Post)
     walk room r-room =
         qed W ((‵ (flft κ q) ⊛ (‵ (flft κr qr) ⊛ ‵ ftrue)) ∷ ‵ (owns (ShrSlice (named 0) κ u8 ∷ MutSlice (named 1) κr T.the-row ∷ []) a vals) ∷ []) ∵ enter ! (𝓣 .C) (𝓣 .Λ) code.function (s ∷ sr ∷ []) _ $
@@ -145,7 +145,7 @@ module _ {M : Type 1} (𝓤 : URA M) (H : Heap 𝓤) (A : Atoms 𝓤) (W : Given
         move ! (18 ∷ 19 ∷ 16 ∷ 17 ∷ 14 ∷ 15 ∷ 12 ∷ 13 ∷ 10 ∷ 11 ∷ 8 ∷ 9 ∷ 6 ∷ 7 ∷ 4 ∷ 5 ∷ []) $ free-all ! (envOf 𝓤 H (code.function .locals) (l₀ ∷ l₁ ∷ l₂ ∷ l₃ ∷ l₄ ∷ l₅ ∷ l₆ ∷ l₇ ∷ [])) $
         by ! (exits r w₂ zs (list-exported ys zs e e₁ e₂) l is₂)))))))))))))
 
-module _ {M : Type 1} (𝓤 : URA M) (H : Heap 𝓤) (A : Atoms 𝓤) (W : Given 𝓤 H A) (mem : Memory → SProp 𝓤) (run : Routine → Fun 𝓤) (𝓣 : Tables 𝓤 H) (known-plan : Triple 𝓤 (𝓣 .C #listing·plan-list) (PlanC 𝓤 H A mem run)) (known-fill : Triple 𝓤 (𝓣 .C #rows·fill) (FillC 𝓤 H A mem run)) (known-handed : Triple 𝓤 (𝓣 .C #board-c·answer·handed) (HandC 𝓤 H A mem run)) where
+module _ {M : Type 1} (𝓤 : URA M) (H : Heap 𝓤) (A : Atoms 𝓤) (W : Given 𝓤 H A) (mem : Memory → SProp 𝓤) (run : Routine → Fun 𝓤) (𝓣 : Tables 𝓤 H) (known-plan : Triple 𝓤 (𝓣 .C #listing·plan-list) (PlanC 𝓤 H A mem run)) (known-fill : Triple 𝓤 (𝓣 .C #rows·fill) (FillC 𝓤 H A mem run)) (known-handed : Triple 𝓤 (𝓣 .C #dolzhev·answer·handed) (HandC 𝓤 H A mem run)) where
   dolzhev-list-walks : Walks 𝓤 H A f.ended stayed (WpFn 𝓤 H (𝓣 .C) (𝓣 .Λ) code.function) (f.clauses 𝓤 H A mem run)
   dolzhev-list-walks = walked 𝓤 H A f.ended stayed (f.clauses 𝓤 H A mem run) (WpFn 𝓤 H (𝓣 .C) (𝓣 .Λ) code.function)
       (λ κs. (slice-vals, (slice-vals, tt))) (λ κs. (shr-slice-tells (named 0) (κs .0) u8, (mut-slice-tells (named 1) (κs .1 .0) T.the-row, tt)))
@@ -162,8 +162,8 @@ pub dolzhev-list-spec : {M : Type 1} → stated.statement M
 unfolding code.routine tablesOf
 dolzhev-list-spec 𝓤 H 𝓜 𝓖 𝓡 =
     entered 𝓤 H (tripleOf 𝓤 H (𝓖 .A) f.signature (f.spec 𝓤 H (𝓖 .A) (𝓜 .mem) (𝓡 .run)))
-    (tables 𝓤 H 𝓜 𝓡 code.env .C) (tables 𝓤 H 𝓜 𝓡 code.env .Λ) #board-c·lists·dolzhev-list code.function (code.unfolded 𝓤 H 𝓜 𝓡)
+    (tables 𝓤 H 𝓜 𝓡 code.env .C) (tables 𝓤 H 𝓜 𝓡 code.env .Λ) #dolzhev·lists·dolzhev-list code.function (code.unfolded 𝓤 H 𝓜 𝓡)
     (dolzhev-list-meets 𝓤 H (𝓖 .A) (givenOf 𝓤 H 𝓜 𝓖) (𝓜 .mem) (𝓡 .run) (tablesOf 𝓤 H 𝓜 (tables 𝓤 H 𝓜 𝓡 code.env))
     (cited 𝓤 H (PlanC 𝓤 H (𝓖 .A) (𝓜 .mem) (𝓡 .run)) 𝓜 𝓡 code.env #listing·plan-list plan-def.routine code.calls-listing·plan-list (plan-thm.met 𝓤 H 𝓜 𝓖 𝓡))
     (cited 𝓤 H (FillC 𝓤 H (𝓖 .A) (𝓜 .mem) (𝓡 .run)) 𝓜 𝓡 code.env #rows·fill fill-def.routine code.calls-rows·fill (fill-thm.met 𝓤 H 𝓜 𝓖 𝓡))
-    (cited 𝓤 H (HandC 𝓤 H (𝓖 .A) (𝓜 .mem) (𝓡 .run)) 𝓜 𝓡 code.env #board-c·answer·handed handed-def.routine code.calls-board-c·answer·handed (handed-thm.met 𝓤 H 𝓜 𝓖 𝓡)))
+    (cited 𝓤 H (HandC 𝓤 H (𝓖 .A) (𝓜 .mem) (𝓡 .run)) 𝓜 𝓡 code.env #dolzhev·answer·handed handed-def.routine code.calls-dolzhev·answer·handed (handed-thm.met 𝓤 H 𝓜 𝓖 𝓡)))

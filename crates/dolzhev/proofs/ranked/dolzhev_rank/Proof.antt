@@ -64,13 +64,13 @@ use Rattle.dolzhev.proofs.ranked.Ranked.Laws as S′
 use Rattle.dolzhev.proofs.Shared.{last-list}
 use Rattle.dolzhev.proofs.answer.handed as handed
 use Rattle.dolzhev.proofs.answer.handed.Symbol as handed-def
-use Rattle.dolzhev.proofs.answer.handed.Symbol.{name as #board-c·answer·handed}
+use Rattle.dolzhev.proofs.answer.handed.Symbol.{name as #dolzhev·answer·handed}
 use Rattle.dolzhev.proofs.answer.handed.Met as handed-thm
 use Rattle.dolzhev.proofs.ranked.ranked_of as plan
 use Rattle.dolzhev.proofs.ranked.ranked_of.Symbol as plan-def
-use Rattle.dolzhev.proofs.ranked.ranked_of.Symbol.{name as #board-c·ranked·ranked-of}
+use Rattle.dolzhev.proofs.ranked.ranked_of.Symbol.{name as #dolzhev·ranked·ranked-of}
 use Rattle.dolzhev.proofs.ranked.ranked_of.Met as plan-thm
-use Rattle.dolzhev.proofs.ranked.dolzhev_rank.Key.{name as #board-c·ranked·dolzhev-rank}
+use Rattle.dolzhev.proofs.ranked.dolzhev_rank.Key.{name as #dolzhev·ranked·dolzhev-rank}
 use Rattle.dolzhev.proofs.ranked.dolzhev_rank as f
 use Rattle.dolzhev.proofs.ranked.dolzhev_rank.Statement as stated
 use Rattle.dolzhev.proofs.ranked.dolzhev_rank.Code as code
@@ -156,7 +156,7 @@ module _ {M : Type 1} (𝓤 : URA M) (H : Heap 𝓤) (A : Atoms 𝓤) (W : Given
         qed W [] ∵ nothing ! $ nothing ! $ owned ! usize (Is usize) (uint-makes 𝓤 H A W w64) 0 _ (refl, lit< tt) $ fjoin ! $ owned ! usize (Is usize) (uint-makes 𝓤 H A W w64) (p .count) _ (fields .1 .0) $ fjoin ! $
         owned ! Vd.the-row (Is Vd.the-row) (EL.makes Vd.the-type Vd′.the-plain 𝓤 H A) (p .verdict) _ (fields .0) $ fjoin ! $ nothing ! $ join ! $ done !
 
-  module _ (𝓣 : Tables 𝓤 H) (fm : FmC 𝓤 H (W .laws) (𝓣 .C)) (known-plan : Triple 𝓤 (𝓣 .C #board-c·ranked·ranked-of) (PlanC 𝓤 H A mem run)) (known-put : Triple 𝓤 (𝓣 .C #ranking·put-ranked) (PutC 𝓤 H A mem run)) (known-handed : Triple 𝓤 (𝓣 .C #board-c·answer·handed) (HandOn 𝓤 H A mem run)) where
+  module _ (𝓣 : Tables 𝓤 H) (fm : FmC 𝓤 H (W .laws) (𝓣 .C)) (known-plan : Triple 𝓤 (𝓣 .C #dolzhev·ranked·ranked-of) (PlanC 𝓤 H A mem run)) (known-put : Triple 𝓤 (𝓣 .C #ranking·put-ranked) (PutC 𝓤 H A mem run)) (known-handed : Triple 𝓤 (𝓣 .C #dolzhev·answer·handed) (HandOn 𝓤 H A mem run)) where
     walk : length m < 2 ^ 64 → Room T.the-row (length ys) → ent 𝓤 (onEntry 𝓤 H A f.signature (κ, (κr, tt)) (q, (qr, tt)) a vals) (WpFn 𝓤 H (𝓣 .C) (𝓣 .Λ) code.function (only (slice-vals mem-at) ∷ vint w64 t ∷ sr ∷ []) Post)
     walk m-fits r-room =
         qed W ((‵ (flft κ q) ⊛ (‵ (flft κr qr) ⊛ ‵ ftrue)) ∷ ‵ (owns (ShrSlice (named 0) κ u8 ∷ usize ∷ MutSlice (named 1) κr T.the-row ∷ []) a vals) ∷ []) ∵ enter ! (𝓣 .C) (𝓣 .Λ) code.function (only (slice-vals mem-at) ∷ vint w64 t ∷ sr ∷ []) _ $
@@ -198,7 +198,7 @@ module _ {M : Type 1} (𝓤 : URA M) (H : Heap 𝓤) (A : Atoms 𝓤) (W : Given
         move ! (20 ∷ 21 ∷ 18 ∷ 19 ∷ 16 ∷ 17 ∷ 14 ∷ 15 ∷ 12 ∷ 13 ∷ 10 ∷ 11 ∷ 8 ∷ 9 ∷ 6 ∷ 7 ∷ 4 ∷ 5 ∷ []) $ free-all ! (envOf 𝓤 H (code.function .locals) (l₀ ∷ l₁ ∷ l₂ ∷ l₃ ∷ l₄ ∷ l₅ ∷ l₆ ∷ l₇ ∷ l₈ ∷ [])) $
         by ! (exits r w₂ (ws .0) (rank-exported ready e h) lr is₂)))))))))))))))))
 
-module _ {M : Type 1} (𝓤 : URA M) (H : Heap 𝓤) (A : Atoms 𝓤) (W : Given 𝓤 H A) (mem : Memory → SProp 𝓤) (run : Routine → Fun 𝓤) (𝓣 : Tables 𝓤 H) (known-plan : Triple 𝓤 (𝓣 .C #board-c·ranked·ranked-of) (PlanC 𝓤 H A mem run)) (known-put : Triple 𝓤 (𝓣 .C #ranking·put-ranked) (PutC 𝓤 H A mem run)) (known-handed : Triple 𝓤 (𝓣 .C #board-c·answer·handed) (HandOn 𝓤 H A mem run)) where
+module _ {M : Type 1} (𝓤 : URA M) (H : Heap 𝓤) (A : Atoms 𝓤) (W : Given 𝓤 H A) (mem : Memory → SProp 𝓤) (run : Routine → Fun 𝓤) (𝓣 : Tables 𝓤 H) (known-plan : Triple 𝓤 (𝓣 .C #dolzhev·ranked·ranked-of) (PlanC 𝓤 H A mem run)) (known-put : Triple 𝓤 (𝓣 .C #ranking·put-ranked) (PutC 𝓤 H A mem run)) (known-handed : Triple 𝓤 (𝓣 .C #dolzhev·answer·handed) (HandOn 𝓤 H A mem run)) where
   dolzhev-rank-walks : Walks 𝓤 H A f.ended stayed (WpFn 𝓤 H (𝓣 .C) (𝓣 .Λ) code.function) (f.clauses 𝓤 H A mem run)
   dolzhev-rank-walks = walked 𝓤 H A f.ended stayed (f.clauses 𝓤 H A mem run) (WpFn 𝓤 H (𝓣 .C) (𝓣 .Λ) code.function)
       (λ κs. (slice-vals, (uint-vals w64, (slice-vals, tt)))) (λ κs. (shr-slice-tells (named 0) (κs .0) u8, (uint-tells w64, (mut-slice-tells (named 1) (κs .1 .0) T.the-row, tt))))
@@ -215,8 +215,8 @@ pub dolzhev-rank-spec : {M : Type 1} → stated.statement M
 unfolding code.routine tablesOf
 dolzhev-rank-spec 𝓤 H 𝓜 𝓖 𝓡 =
     entered 𝓤 H (tripleOf 𝓤 H (𝓖 .A) f.signature (f.spec 𝓤 H (𝓖 .A) (𝓜 .mem) (𝓡 .run)))
-    (tables 𝓤 H 𝓜 𝓡 code.env .C) (tables 𝓤 H 𝓜 𝓡 code.env .Λ) #board-c·ranked·dolzhev-rank code.function (code.unfolded 𝓤 H 𝓜 𝓡)
+    (tables 𝓤 H 𝓜 𝓡 code.env .C) (tables 𝓤 H 𝓜 𝓡 code.env .Λ) #dolzhev·ranked·dolzhev-rank code.function (code.unfolded 𝓤 H 𝓜 𝓡)
     (dolzhev-rank-meets 𝓤 H (𝓖 .A) (givenOf 𝓤 H 𝓜 𝓖) (𝓜 .mem) (𝓡 .run) (tablesOf 𝓤 H 𝓜 (tables 𝓤 H 𝓜 𝓡 code.env))
-    (cited 𝓤 H (PlanC 𝓤 H (𝓖 .A) (𝓜 .mem) (𝓡 .run)) 𝓜 𝓡 code.env #board-c·ranked·ranked-of plan-def.routine code.calls-board-c·ranked·ranked-of (plan-thm.met 𝓤 H 𝓜 𝓖 𝓡))
+    (cited 𝓤 H (PlanC 𝓤 H (𝓖 .A) (𝓜 .mem) (𝓡 .run)) 𝓜 𝓡 code.env #dolzhev·ranked·ranked-of plan-def.routine code.calls-dolzhev·ranked·ranked-of (plan-thm.met 𝓤 H 𝓜 𝓖 𝓡))
     (cited 𝓤 H (PutC 𝓤 H (𝓖 .A) (𝓜 .mem) (𝓡 .run)) 𝓜 𝓡 code.env #ranking·put-ranked put-def.routine code.calls-ranking·put-ranked (put-thm.met 𝓤 H 𝓜 𝓖 𝓡))
-    (cited 𝓤 H (HandOn 𝓤 H (𝓖 .A) (𝓜 .mem) (𝓡 .run)) 𝓜 𝓡 code.env #board-c·answer·handed handed-def.routine code.calls-board-c·answer·handed (handed-thm.met 𝓤 H 𝓜 𝓖 𝓡)))
+    (cited 𝓤 H (HandOn 𝓤 H (𝓖 .A) (𝓜 .mem) (𝓡 .run)) 𝓜 𝓡 code.env #dolzhev·answer·handed handed-def.routine code.calls-dolzhev·answer·handed (handed-thm.met 𝓤 H 𝓜 𝓖 𝓡)))
