@@ -1,2 +1,2 @@
--- A list call's plan, for each of its answers; and that its promise follows.
-pub mod Promise
+-- The marked moves are Definition 2's list.
+pub mod List

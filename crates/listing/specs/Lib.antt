@@ -1,3 +1,2 @@
--- What a list call will say and tell, and its laws.
-pub mod Plan
+-- Laws of a list call's plan.
 pub mod Laws

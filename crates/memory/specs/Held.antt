@@ -4,6 +4,8 @@ use mathlib.Core.Path.{_≡_}
 use mathlib.Core.List.{List}
 use Rattle.promises.specs.Layout.{sizeIn, dimensionIn, countIn}
 use Rattle.promises.specs.Sound.{Sound}
+use Rattle.memory.specs.declared.sound.Held.{Held}
+use Rattle.memory.specs.declared.sound.Held.the-variants as held
 
 -- The memory is sound, and c, d and n are its own.
 pub record SoundAt (c d n : ℕ) (m : List ℕ) : Type 0 where
@@ -11,3 +13,8 @@ pub record SoundAt (c d n : ℕ) (m : List ℕ) : Type 0 where
   pub dimension : d ≡ dimensionIn m
   pub count : n ≡ countIn m
   pub sound : Sound m
+
+-- The memory is sound with this head, or it is not sound.
+unfoldable pub HeldIn : List ℕ → Held → Type 0
+HeldIn m (held.Sound h) = SoundAt (h .size) (h .dimension) (h .count) m
+HeldIn m held.Unsound = Sound m → ⊥

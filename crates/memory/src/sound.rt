@@ -10,6 +10,7 @@ use crate::order::stands_before;
 use zorder::COSTS;
 ghost use mathlib.Core.Path.{_≡_};
 ghost use Prim.Native.Nat.{_≤_, _<_};
+ghost use Rattle.memory.specs.Held.{HeldIn};
 ghost use Rattle.memory.specs.Room.{Room, Numbers};
 ghost use Rattle.memory.specs.Tests as tests;
 ghost use Rattle.zorder.specs.Address.{rowCosts};
@@ -82,4 +83,30 @@ pub fn is_sound(m: &[u8]) -> bool
         return false;
     }
     marks_right(m, c, d, n)
+}
+
+// C, d and the number of moves of a board.
+pub struct Head {
+    pub size: usize,
+    pub dimension: usize,
+    pub count: usize,
+}
+
+pub enum Held {
+    Sound(Head),
+    Unsound,
+}
+
+// The board that the memory holds, if it is sound.
+pub fn sound_head(m: &[u8]) -> Held
+    ensures { λ r. ⌜ HeldIn (now (m .entry)) r ⌝ }
+{
+    if !is_sound(m) {
+        return Held::Unsound;
+    }
+    Held::Sound(Head {
+        size: size(m),
+        dimension: dimension(m),
+        count: count(m),
+    })
 }

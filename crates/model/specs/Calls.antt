@@ -1,7 +1,7 @@
 -- Calls and what turns them down (document 01). Every answer has a number (0 accepted) and a detail; the refusal 3, for
 -- memory that is not sound, is judged elsewhere: here the board is given.
 use Prim.Native.Nat.{ℕ, zero, suc, _+_, _*_, _^_}
-use mathlib.Core.Bool.{Bool, cond, not, _||_}
+use mathlib.Core.Bool.{Bool, false, cond, not, _||_}
 use mathlib.Core.List.{List, [], _∷_, map}
 use lib.Dec.{ltb, leb, eqb}
 use lib.ListN.{length}
@@ -9,7 +9,7 @@ use Rattle.zorder.specs.Refusal.{refusal, costCountBad, costPastBad}
 use Rattle.model.specs.Basics.{any, has, within}
 use Rattle.model.specs.Moves.{Move, InputRow, Row, moveOf, insert, inZOrder}
 use Rattle.model.specs.Lists.{skyline, band, rank, onK, chosen, chosenCosts, listedRows}
-use Rattle.model.specs.Withdrawing.{without}
+use Rattle.model.specs.Withdrawing.{without, unchanged}
 use Rattle.model.specs.Notice.{noticeOf}
 
 pub record Answer : Type 0 where
@@ -94,6 +94,12 @@ changedMoves d (recost n costs) ms = insert d (record { number = n; costs = cost
 unfoldable pub changed : Board → Change → Board
 changed b c =
     record { size = b .size; dimension = b .dimension; moves = changedMoves (b .dimension) c (b .moves) }
+
+-- "Re-costing: .. unless the costs are equal, which changes nothing."
+unfoldable pub changesNothing : Board → Change → Bool
+changesNothing b (enter n costs) = false
+changesNothing b (withdraw n) = false
+changesNothing b (recost n costs) = unchanged n costs (b .moves)
 
 -- Definition 2's list of a board, and the notice of a change: the difference of the lists before and after it.
 unfoldable pub listOf : Board → List Move

@@ -1,22 +1,21 @@
 -- What each call promises, for every content of the lent memory: what is said (answer and rows), and what is left (memory).
 -- Free, and so named by no promise: the bytes not in use (docs/DECISIONS.md lists them).
 use Prim.Native.Nat.{ℕ, zero, suc}
+use mathlib.Core.Bool.{true}
 use mathlib.Core.List.{List, [], map}
 use mathlib.Core.Path.{_≡_}
 use lib.ListN.{length, drop}
 use Rattle.model.specs.Moves.{InputRow, Row, moveOf}
 use Rattle.model.specs.Tree.{Tree}
 use Rattle.model.specs.Loading.{loadTree}
-use Rattle.model.specs.Nodes.{nodesOpened}
 use Rattle.model.specs.Calls as calls
-use Rattle.model.specs.Calls.{Board, memoryNeed, loadAnswer, loaded, refusedWith, Query, list, queryAnswer, queryRows, Change, changeAnswer, changeNotice, changed}
-use Rattle.model.specs.Changing.{changeTree}
+use Rattle.model.specs.Calls.{Board, memoryNeed, loadAnswer, loaded, refusedWith, Query, queryAnswer, queryRows, Change, changeAnswer, changeNotice, changed, changesNothing}
+use Rattle.model.specs.Changing.{changeTree, queryOpens, changeOpens}
 use Rattle.promises.specs.Layout.{dimensionIn, boardIn}
 use Rattle.promises.specs.Sound.{Stands, Sound, Holding}
 use Rattle.promises.specs.Answers.{answerOf, numberOf, counted, rowsAfter}
 use Rattle.promises.specs.declared.Verdict.{Verdict}
 use Rattle.promises.specs.declared.Answer.{Answer}
-use Rattle.promises.specs.declared.ListAnswer.{ListAnswer}
 
 -- The memory after a call that answered with this number: refused, "every byte as before"; accepted, sound with this board and
 -- this tree, as long as before, and "Memory past the first 64·C + 1,024 bytes is never written."
@@ -34,39 +33,34 @@ pub record LoadPromise (c d : ℕ) (rows : List InputRow) (m : List ℕ) (v : Ve
   pub said : answerOf v ≡ loadAnswer (length m) c d rows
   pub left : MemoryAfter (numberOf v) m m' (loaded c d rows) (loadTree d (map moveOf rows))
 
--- What is said: the answer, how many rows were told, and the lent rows afterwards.
-pub record Said (answer : calls.Answer) (rows lent : List Row) (v : Verdict) (n : ℕ) (lent' : List Row) : Type 0 where
-  pub answers : answerOf v ≡ answer
-  pub counts : n ≡ counted (numberOf v) (length rows)
-  pub tells : lent' ≡ rowsAfter (numberOf v) rows lent
+-- What is said: the answer, how many rows were told, the nodes opened, and the lent rows afterwards.
+pub record Said (answer : calls.Answer) (rows : List Row) (nodes : ℕ) (lent : List Row) (r : Answer) (lent' : List Row) : Type 0 where
+  pub answers : answerOf (r .verdict) ≡ answer
+  pub counts : r .count ≡ counted (numberOf (r .verdict)) (length rows)
+  pub opens : r .opened ≡ counted (numberOf (r .verdict)) nodes
+  pub tells : lent' ≡ rowsAfter (numberOf (r .verdict)) rows lent
 
 -- Of memory that is not sound every call but load says 3 and nothing else.
-abbrev pub UnsoundSaid : List Row → Verdict → ℕ → List Row → Type 0
-UnsoundSaid = Said (refusedWith 3) []
+abbrev pub UnsoundSaid : List Row → Answer → List Row → Type 0
+UnsoundSaid = Said (refusedWith 3) [] 0
 
--- A list (Definition 2, 3, 4, 6 or 8), of sound memory: by its board.
-abbrev pub QuerySaid : Query → Board → List Row → Verdict → ℕ → List Row → Type 0
-QuerySaid q b lent = Said (queryAnswer b q (length lent)) (queryRows b q) lent
+-- The lists (Definitions 2, 3, 4, 6 and 8). Their memory is lent for reading only.
+abbrev pub QuerySaid : Query → Board → ℕ → List Row → Answer → List Row → Type 0
+QuerySaid q b nodes lent = Said (queryAnswer b q (length lent)) (queryRows b q) nodes lent
 
--- The call list reports the nodes opened besides. Its memory is lent for reading only.
-pub record ListPromise (m : List ℕ) (lent : List Row) (r : ListAnswer) (lent' : List Row) : Type 0 where
-  pub sound : (t : Tree) → Stands m t → QuerySaid list (boardIn m) lent (r .verdict) (r .count) lent'
-  pub opened : (t : Tree) → Stands m t → r .opened ≡ counted (numberOf (r .verdict)) (nodesOpened (dimensionIn m) t)
-  pub unsound : (Sound m → ⊥) → UnsoundSaid lent (r .verdict) (r .count) lent' × (r .opened ≡ 0)
-
--- The other lists. Their memory is lent for reading only.
 pub record QueryPromise (q : Query) (m : List ℕ) (lent : List Row) (r : Answer) (lent' : List Row) : Type 0 where
-  pub sound : (t : Tree) → Stands m t → QuerySaid q (boardIn m) lent (r .verdict) (r .count) lent'
-  pub unsound : (Sound m → ⊥) → UnsoundSaid lent (r .verdict) (r .count) lent'
+  pub sound : (t : Tree) → Stands m t → QuerySaid q (boardIn m) (queryOpens (dimensionIn m) q t) lent r lent'
+  pub unsound : (Sound m → ⊥) → UnsoundSaid lent r lent'
 
 -- Enter, withdraw and re-cost.
-abbrev pub ChangeSaid : Change → Board → List Row → Verdict → ℕ → List Row → Type 0
-ChangeSaid x b lent = Said (changeAnswer b x (length lent)) (changeNotice b x) lent
+abbrev pub ChangeSaid : Change → Board → ℕ → List Row → Answer → List Row → Type 0
+ChangeSaid x b nodes lent = Said (changeAnswer b x (length lent)) (changeNotice b x) nodes lent
 
 pub record ChangePromise (x : Change) (m : List ℕ) (lent : List Row) (r : Answer) (m' : List ℕ) (lent' : List Row) : Type 0 where
-  pub sound : (t : Tree) → Stands m t → ChangeSaid x (boardIn m) lent (r .verdict) (r .count) lent'
+  pub sound : (t : Tree) → Stands m t → ChangeSaid x (boardIn m) (changeOpens (dimensionIn m) x t) lent r lent'
   pub left :
       (t : Tree)
       → Stands m t
       → MemoryAfter (numberOf (r .verdict)) m m' (changed (boardIn m) x) (changeTree (dimensionIn m) x t)
-  pub unsound : (Sound m → ⊥) → UnsoundSaid lent (r .verdict) (r .count) lent' × (m' ≡ m)
+  pub nothing : Sound m → changesNothing (boardIn m) x ≡ true → m' ≡ m
+  pub unsound : (Sound m → ⊥) → UnsoundSaid lent r lent' × (m' ≡ m)

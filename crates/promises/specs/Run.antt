@@ -5,13 +5,12 @@ use mathlib.Core.List.{List, [], _∷_}
 use mathlib.Core.Path.{_≡_}
 use lib.ListN.{length, take, getD}
 use Rattle.model.specs.Moves.{InputRow, Row}
-use Rattle.model.specs.Calls.{Change, loaded}
+use Rattle.model.specs.Calls.{Change, list, loaded}
 use Rattle.model.specs.Holder.{change, listCall, other, Event, Demand3}
 use Rattle.promises.specs.Answers.{answerOf, numberOf}
-use Rattle.promises.specs.Promise.{LoadPromise, ListPromise, ChangePromise}
+use Rattle.promises.specs.Promise.{LoadPromise, QueryPromise, ChangePromise}
 use Rattle.promises.specs.declared.Verdict.{Verdict}
 use Rattle.promises.specs.declared.Answer.{Answer}
-use Rattle.promises.specs.declared.ListAnswer.{ListAnswer}
 
 -- The lent memory is a list of bytes, as its type in the code says.
 unfoldable pub Bytes : List ℕ → Type 0
@@ -20,7 +19,7 @@ Bytes m = (i : ℕ) → getD m i 0 < 256
 -- One call, from the memory before it to the memory after it. Rows are lent anew to each call, any number of them.
 pub data Step : List ℕ → List ℕ → Type 0 where
   changes : (x : Change) (lent lent' : List Row) (r : Answer) {m m' : List ℕ} → Bytes m' → ChangePromise x m lent r m' lent' → Step m m'
-  lists : (lent lent' : List Row) (r : ListAnswer) {m : List ℕ} → ListPromise m lent r lent' → Step m m
+  lists : (lent lent' : List Row) (r : Answer) {m : List ℕ} → QueryPromise list m lent r lent' → Step m m
   loadRefused : (c d : ℕ) (rows : List InputRow) (v : Verdict) {m m' : List ℕ} → LoadPromise c d rows m v m' → (numberOf v ≡ 0 → ⊥) → Step m m'
   leaves : {m : List ℕ} → Step m m
 

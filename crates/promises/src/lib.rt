@@ -19,14 +19,8 @@ pub enum Verdict {
     FewRows(usize),
 }
 
-// What enter, withdraw, re-cost and the lists but `list` answer: the verdict, and how many rows they told.
+// What every call on a board but load answers: the verdict, how many rows it told, and the nodes that it opened.
 pub struct Answer {
-    pub verdict: Verdict,
-    pub count: usize,
-}
-
-// What list answers: the nodes opened besides.
-pub struct ListAnswer {
     pub verdict: Verdict,
     pub count: usize,
     pub opened: usize,

@@ -6,6 +6,5 @@ pub mod Place
 pub mod Notified
 pub mod Told
 pub mod Telling
-pub mod Tell
 pub mod Found
 pub mod Planned

@@ -1,21 +1,29 @@
--- What a list will say and tell, found without writing.
+-- What a call will say and tell, found without writing.
 use Prim.Native.Nat.{ℕ, _≤_, _<_}
 use mathlib.Core.Bool.{Bool, false}
 use mathlib.Core.Path.{_≡_}
 use mathlib.Core.List.{List, [], map}
 use lib.Dec.{eqb}
 use lib.ListN.{length}
-use Rattle.model.specs.Basics.{count, numbersFrom}
-use Rattle.model.specs.Moves.{listed}
-use Rattle.model.specs.Calls.{Query, queryAnswer, queryRows}
-use Rattle.promises.specs.Layout.{numberIn, markIn, boardIn}
-use Rattle.promises.specs.Sound.{Sound}
+use Rattle.model.specs.Basics.{select, count, numbersFrom}
+use Rattle.model.specs.Moves.{Move, Row, listed}
+use Rattle.model.specs.Lists.{listedRows}
+use Rattle.model.specs.Tree.{Tree}
+use Rattle.model.specs.Calls as calls
+use Rattle.model.specs.Calls.{Query, queryRefusal, queryAnswer, queryRows}
+use Rattle.model.specs.Changing.{queryOpens}
+use Rattle.line.specs.Line.{movesIn}
+use Rattle.promises.specs.Layout.{dimensionIn, numberIn, markIn, lineFrom, boardIn}
+use Rattle.promises.specs.Sound.{Stands, Sound}
 use Rattle.promises.specs.Answers.{answerOf, numberOf, counted, resultRow}
 use Rattle.promises.specs.declared.Verdict.{Verdict}
 use Rattle.promises.specs.declared.Verdict.the-variants.{Unsound}
+use Rattle.promises.specs.declared.Answer.{Answer}
+use Rattle.memory.specs.Held.{SoundAt}
 use Rattle.numbers.specs.Set.{inSet}
 use Rattle.upkeep.specs.Telling.{TellingAsked, toldRows}
 use Rattle.upkeep.specs.declared.found.Found.{Found}
+use Rattle.upkeep.specs.declared.plan.Plan.{Plan}
 use Rattle.upkeep.specs.declared.telling.Telling.{Telling}
 
 -- Whether the move with this number is listed.
@@ -41,16 +49,50 @@ pub record TellsNumbers (c d n : ℕ) (numbers : List ℕ) (t : Telling) : Type 
 pub record TellsNothing (t : Telling) : Type 0 where
   pub rows : (m : List ℕ) → toldRows t m ≡ []
 
--- The answer to a list with so many lent rows, and how many of them are told. Of memory that is not sound it is 3.
-pub record Answered (q : Query) (m : List ℕ) (lent : ℕ) (v : Verdict) (count : ℕ) : Type 0 where
-  pub sound : Sound m → answerOf v ≡ queryAnswer (boardIn m) q lent
+-- Nothing told, nothing opened, nothing made.
+pub record Nothing (v : Verdict) (p : Plan) : Type 0 where
+  pub verdict : p .verdict ≡ v
+  pub count : p .count ≡ 0
+  pub opened : p .opened ≡ 0
+  pub makes : p .makes ≡ false
+  pub telling : TellsNothing (p .telling)
+
+abbrev pub answerIn : Plan → Answer
+answerIn p = record { verdict = p .verdict; count = p .count; opened = p .opened }
+
+-- The verdict of a call that answers so and tells these rows where the memory is sound, with so many lent rows, and how many
+-- it tells. Of memory that is not sound it is 3.
+pub record Answered (answer : calls.Answer) (rows : List Row) (m : List ℕ) (lent : ℕ) (v : Verdict) (count : ℕ) : Type 0 where
+  pub sound : Sound m → answerOf v ≡ answer
   pub unsound : (Sound m → ⊥) → v ≡ Unsound
-  pub counts : count ≡ counted (numberOf v) (length (queryRows (boardIn m) q))
+  pub counts : count ≡ counted (numberOf v) (length rows)
   pub enough : count ≤ lent
 
--- With the rows, as a telling has them: of a list that is accepted they are its rows, else there are none.
-pub record QueryTold (q : Query) (m : List ℕ) (lent : ℕ) (v : Verdict) (count : ℕ) (t : Telling) : Type 0 where
-  pub answered : Answered q m lent v count
-  pub rows : length (toldRows t m) ≡ count
-  pub tells : numberOf v ≡ 0 → map resultRow (toldRows t m) ≡ queryRows (boardIn m) q
-  pub asked : 0 < count → TellingAsked t m
+-- The plan of such a call: the nodes opened, and the rows as its telling has them; where none is told the memory may be any.
+pub record Plans (answer : calls.Answer) (rows : List Row) (nodes : Tree → ℕ) (m : List ℕ) (lent : ℕ) (p : Plan) : Type 0 where
+  pub answered : Answered answer rows m lent (p .verdict) (p .count)
+  pub opens : numberOf (p .verdict) ≡ 0 → (t : Tree) → Stands m t → p .opened ≡ nodes t
+  pub closed : 0 < numberOf (p .verdict) → p .opened ≡ 0
+  pub told : length (toldRows (p .telling) m) ≡ p .count
+  pub tells : numberOf (p .verdict) ≡ 0 → map resultRow (toldRows (p .telling) m) ≡ rows
+  pub asked : 0 < p .count → TellingAsked (p .telling) m
+
+-- The plan of a list.
+abbrev pub QueryPlanned : Query → List ℕ → ℕ → Plan → Type 0
+QueryPlanned q m lent = Plans (queryAnswer (boardIn m) q lent) (queryRows (boardIn m) q) (queryOpens (dimensionIn m) q) m lent
+
+-- Of the moves of a line those whose number passes a test.
+abbrev pub foundMoves : ℕ → ℕ → ℕ → (ℕ → Bool) → List ℕ → List Move
+foundMoves c d n test m = select (λ x. test (x .number)) (movesIn (lineFrom c d n m))
+
+-- The plan of each list that is not turned down and whose rows are the moves found.
+pub record PlansFound (c d n : ℕ) (found : Found) (opened lent : ℕ) (p : Plan) : Type 0 where
+  pub plans :
+      {m : List ℕ} {test : ℕ → Bool}
+      → SoundAt c d n m
+      → Finds c n test m found
+      → (q : Query)
+      → queryRefusal (boardIn m) q ≡ 0
+      → listedRows (foundMoves c d n test m) ≡ queryRows (boardIn m) q
+      → ((t : Tree) → Stands m t → opened ≡ queryOpens (dimensionIn m) q t)
+      → QueryPlanned q m lent p

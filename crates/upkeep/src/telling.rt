@@ -6,10 +6,8 @@ use dominance::Move;
 use memory::move_at;
 use memory::number_at;
 use numbers::has;
-ghost use mathlib.Core.List.{_++_};
 ghost use mathlib.Core.Path.{_≡_};
-ghost use Prim.Native.Nat.{_<_, _≤_};
-ghost use lib.ListN.{length, drop};
+ghost use Prim.Native.Nat.{_<_};
 ghost use Rattle.upkeep.specs.Telling as spec;
 
 // Told are the moves of `upkeep.leaving` with the mark, then those of `upkeep.entering` marked entered, each part in Z-order;
@@ -95,33 +93,4 @@ pub fn told_next(m: &[u8], t: Telling, i: usize) -> Step
         row: [0u16; ROW],
         next: end,
     }
-}
-
-// All told rows, put at the start of the lent ones, and how many they are.
-pub fn tell_all(m: &[u8], t: Telling, rows: &mut [[u16; ROW]]) -> usize
-    requires { ⌜ spec.TellingAsked t (now m) × (length (spec.toldRows t (now m)) ≤ length (now rows)) ⌝ }
-    ensures { λ r. ⌜ spec.TellsAll t (now (m .entry)) (now (rows .entry)) (now (rows .exit)) r ⌝ }
-{
-    let end = 2 * t.count + 1;
-    let mut k = 0;
-    let mut j = 0;
-    while j < end {
-        if is_told(m, t, j) {
-            rows[k] = row_at(m, t, j);
-            k += 1;
-        }
-        j += 1;
-    }
-    k
-}
-
-// The same for `count` rows; where there are none the memory may be any.
-pub fn tell_planned(m: &[u8], t: Telling, count: usize, rows: &mut [[u16; ROW]])
-    requires { ⌜ spec.PlannedAsked t count (now m) (now rows) ⌝ }
-    ensures { λ _. ⌜ now (rows .exit) ≡ spec.toldRows t (now (m .entry)) ++ drop count (now (rows .entry)) ⌝ }
-{
-    if count == 0 {
-        return;
-    }
-    tell_all(m, t, rows);
 }

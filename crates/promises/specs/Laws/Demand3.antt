@@ -13,19 +13,18 @@ use Rattle.model.specs.Loading.{loadTree}
 use Rattle.model.specs.Lists.{listedRows}
 use Rattle.model.specs.Calls as calls
 use Rattle.model.specs.Calls.{Board, loaded, Change, changed, listOf, list, queryRows}
-use Rattle.model.specs.Changing.{changeTree}
+use Rattle.model.specs.Changing.{changeTree, queryOpens, changeOpens}
 use Rattle.model.specs.Sound.{SoundBoard}
 use Rattle.model.specs.Holder.{change, isAccepted, plainNext, Answered, followed, heldAfter, Demand3}
 use Rattle.model.specs.Laws.Holder.{Reads, Keeps, EachKeeps, change-held, keeps-demand3}
 use Rattle.promises.specs.Layout.{dimensionIn}
 use Rattle.promises.specs.Sound.{Holding}
 use Rattle.promises.specs.Answers.{answerOf, numberOf, counted, rowsAfter}
-use Rattle.promises.specs.Promise.{MemoryAfter, LoadPromise, Said, ListPromise, QuerySaid, ChangePromise, ChangeSaid}
+use Rattle.promises.specs.Promise.{MemoryAfter, LoadPromise, Said, QueryPromise, QuerySaid, ChangePromise, ChangeSaid}
 use Rattle.promises.specs.Run.{Bytes, Step, changes, lists, loadRefused, leaves, Steps, done, then, eventOf, eventsOf, History, end, call, load, runOf, EachRun}
 use Rattle.promises.specs.Laws.Stands.{holding-board}
 use Rattle.promises.specs.declared.Verdict.{Verdict}
 use Rattle.promises.specs.declared.Answer.{Answer}
-use Rattle.promises.specs.declared.ListAnswer.{ListAnswer}
 
 -- ---- what a call says
 
@@ -35,10 +34,11 @@ unfolding counted rowsAfter
 told-rows zero rows lent = take-append-seam rows (drop (length rows) lent)
 told-rows (suc k) rows lent = ap (λ (b : Bool). cond b rows []) (sym (eqb·suc-zero k))
 
-said-rows : (a : calls.Answer) (rows lent : List Row) (v : Verdict) (n : ℕ) (lent' : List Row) → Said a rows lent v n lent'
-    → take n lent' ≡ cond (isAccepted (answerOf v)) rows []
+said-rows : (a : calls.Answer) (rows : List Row) (nodes : ℕ) (lent : List Row) (r : Answer) (lent' : List Row) → Said a rows nodes lent r lent'
+    → take (r .count) lent' ≡ cond (isAccepted (answerOf (r .verdict))) rows []
 unfolding isAccepted answerOf
-said-rows a rows lent v n lent' s = ap₂ (λ (k : ℕ) (rs : List Row). take k rs) (s .counts) (s .tells) ∙ told-rows (numberOf v) rows lent
+said-rows a rows nodes lent r lent' s =
+    ap₂ (λ (k : ℕ) (rs : List Row). take k rs) (s .counts) (s .tells) ∙ told-rows (numberOf (r .verdict)) rows lent
 
 -- ---- between two calls of a run
 
@@ -68,9 +68,10 @@ module _ (m m' : List ℕ) (b' : Board) (t : Tree) where
       (subst (λ (m : List ℕ). At m b) (sym (left-refused (suc n) (λ e. omega arith) l)) a)
 
 module _ (x : Change) (m m' : List ℕ) (lent lent' : List Row) (r : Answer) (p : ChangePromise x m lent r m' lent') (b : Board) (a : At m b) where
-  change-said : ChangeSaid x b lent (r .verdict) (r .count) lent'
+  change-said : ChangeSaid x b (changeOpens (dimensionIn m) x (a .tree)) lent r lent'
   change-said =
-      subst (λ (b : Board). ChangeSaid x b lent (r .verdict) (r .count) lent') (a .holding .board) (p .sound (a .tree) (a .holding .stands))
+      subst (λ (b : Board). ChangeSaid x b (changeOpens (dimensionIn m) x (a .tree)) lent r lent') (a .holding .board)
+      (p .sound (a .tree) (a .holding .stands))
 
   change-left : MemoryAfter (numberOf (r .verdict)) m m' (changed b x) (changeTree (dimensionIn m) x (a .tree))
   change-left =
@@ -102,10 +103,11 @@ module _ (x : Change) (m m' : List ℕ) (lent lent' : List Row) (r : Answer) (p 
             ∙ ap (λ (b : Board). listedRows (listOf b)) (sym change-next);
       }
 
-module _ (m : List ℕ) (lent lent' : List Row) (r : ListAnswer) (p : ListPromise m lent r lent') (b : Board) (a : At m b) where
-  list-said : QuerySaid list b lent (r .verdict) (r .count) lent'
+module _ (m : List ℕ) (lent lent' : List Row) (r : Answer) (p : QueryPromise list m lent r lent') (b : Board) (a : At m b) where
+  list-said : QuerySaid list b (queryOpens (dimensionIn m) list (a .tree)) lent r lent'
   list-said =
-      subst (λ (b : Board). QuerySaid list b lent (r .verdict) (r .count) lent') (a .holding .board) (p .sound (a .tree) (a .holding .stands))
+      subst (λ (b : Board). QuerySaid list b (queryOpens (dimensionIn m) list (a .tree)) lent r lent') (a .holding .board)
+      (p .sound (a .tree) (a .holding .stands))
 
   list-keeps : Keeps b (eventOf (lists lent lent' r p))
   unfolding eventOf Answered Reads heldAfter plainNext queryRows

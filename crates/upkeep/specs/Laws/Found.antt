@@ -21,7 +21,7 @@ use Rattle.memory.specs.Laws.Held.{held-dimension, held-room, held-few, held-nu
 use Rattle.numbers.specs.Set.{inSet, With}
 use Rattle.upkeep.specs.Notice.{moveNumbers, placesIn, rowsAt}
 use Rattle.upkeep.specs.Telling.{TellingAsked, toldRows}
-use Rattle.upkeep.specs.Planned.{Finds, TellsNumbers}
+use Rattle.upkeep.specs.Planned.{Finds, TellsNumbers, foundMoves}
 use Rattle.upkeep.specs.Laws.Places.{each-place, count-more, count-le}
 use Rattle.upkeep.specs.Laws.Change.{line-places}
 use Rattle.upkeep.specs.Laws.Telling.{told-first}
@@ -113,10 +113,6 @@ row-results c d m is =
 pub board-line : {c d n : ℕ} {m : List ℕ} → SoundAt c d n m → movesIn (lineFrom c d n m) ≡ boardIn m .moves
 unfolding boardIn lineIn
 board-line {m = m} h = λ j. movesIn (lineFrom (h .size j) (h .dimension j) (h .count j) m)
-
--- The moves found.
-abbrev pub foundMoves : ℕ → ℕ → ℕ → (ℕ → Bool) → List ℕ → List Move
-foundMoves c d n test m = select (λ x. test (x .number)) (movesIn (lineFrom c d n m))
 
 module _ (c d n : ℕ) (test : ℕ → Bool) (m : List ℕ) (r : Found) (f : Finds c n test m r) where
   found-places : foundMoves c d n test m ≡ map (moveIn c d m) (select (λ i. test (numberIn c m i)) (numbersFrom 0 n))

@@ -1,144 +1,217 @@
--- What is planned, for each refusal and for what is told; and the promise once it is told.
+-- What is planned, for each answer; and what is said once it is told.
 use Prim.Native.Nat.{ℕ, zero, suc, _≤_, _<_}
-use mathlib.Core.Bool.{Bool, cond}
+use mathlib.Core.Bool.{Bool, false, cond}
 use mathlib.Core.List.{List, [], _∷_, _++_, map, map-append}
 use mathlib.Core.Path.{_≡_, refl, sym, ap, ap₂, _∙_, subst}
 use native.Mathlib.Omega.{arith}
-use borrow.Author.Tests.{lt-ltb, le-ltb}
+use borrow.Author.Tests.{lt-ltb, le-ltb, ne-eqb}
 use lib.ListN.{length, drop, length-map}
 use Rattle.model.specs.Moves.{Row}
+use Rattle.model.specs.Lists.{listedRows}
+use Rattle.model.specs.Tree.{Tree}
 use Rattle.model.specs.Calls as calls
-use Rattle.model.specs.Calls.{Query, accepted, refusedWith, orElse, rowsAnswer, queryRefusal, queryRows, queryAnswer}
-use Rattle.promises.specs.Layout.{boardIn}
-use Rattle.promises.specs.Sound.{Sound}
+use Rattle.model.specs.Calls.{accepted, refusedWith, orElse, rowsAnswer, Query, queryRefusal, queryRows, queryAnswer}
+use Rattle.model.specs.Changing.{queryOpens}
+use Rattle.promises.specs.Layout.{dimensionIn, boardIn}
+use Rattle.promises.specs.Sound.{Stands, Sound}
 use Rattle.promises.specs.Answers.{answerOf, numberOf, detailOf, counted, rowsAfter, resultRow}
-use Rattle.promises.specs.Promise.{QueryPromise}
+use Rattle.promises.specs.Promise.{Said, UnsoundSaid, QueryPromise}
 use Rattle.promises.specs.declared.Verdict.{Verdict}
 use Rattle.promises.specs.declared.Verdict.the-variants.{Accepted, Unsound, BadArgument, FewRows}
-use Rattle.upkeep.specs.Telling.{TellingAsked, toldRows, PlannedAsked}
-use Rattle.upkeep.specs.Planned.{TellsNothing, Answered, QueryTold}
+use Rattle.memory.specs.Held.{SoundAt}
+use Rattle.upkeep.specs.Telling.{toldRows}
+use Rattle.upkeep.specs.Planned.{Finds, TellsNumbers, Nothing, answerIn, Answered, Plans, QueryPlanned, foundMoves, PlansFound}
 use Rattle.upkeep.specs.Laws.Telling.{length-none}
+use Rattle.upkeep.specs.Laws.Found.{found-count, found-rows, numbers-asked}
+use Rattle.upkeep.specs.declared.found.Found.{Found}
+use Rattle.upkeep.specs.declared.plan.Plan.{Plan}
 use Rattle.upkeep.specs.declared.telling.Telling.{Telling}
 
 -- ---- the answers
 
-module _ (q : Query) (m : List ℕ) (lent : ℕ) where
-  pub answered-unsound : (Sound m → ⊥) → Answered q m lent Unsound 0
+-- The answer of a call that is refused so, 3 and 8 apart, and has these rows.
+abbrev pub answerBy : ℕ → List Row → ℕ → calls.Answer
+answerBy refusal rows lent = orElse (refusedWith refusal) (rowsAnswer (length rows) lent)
+
+counted-none : (k n : ℕ) → 0 < k → 0 ≡ counted k n
+unfolding counted
+counted-none zero n h = absurd (omega arith)
+counted-none (suc k) n h = refl
+
+first-refuses : (a b : calls.Answer) → 0 < a .number → a ≡ orElse a b
+unfolding orElse
+first-refuses a b h = ap (λ (t : Bool). cond t b a) (sym (ne-eqb (a .number) 0 (λ e. omega arith)))
+
+module _ (refusal : ℕ) (rows : List Row) (m : List ℕ) (lent : ℕ) where
+  pub answered-unsound : (Sound m → ⊥) → Answered (answerBy refusal rows lent) rows m lent Unsound 0
   unfolding numberOf counted
   answered-unsound h = record { sound = λ s. absurd (h s); unsound = λ _. refl; counts = refl; enough = omega arith }
 
   module _ (s : Sound m) where
-    pub answered-bad : queryRefusal (boardIn m) q ≡ 7 → Answered q m lent (BadArgument 0) 0
-    unfolding answerOf numberOf detailOf counted refusedWith queryAnswer orElse
-    answered-bad f =
+    pub answered-refused : (v : Verdict) → answerOf v ≡ refusedWith refusal → 0 < numberOf v → Answered (answerBy refusal rows lent) rows m lent v 0
+    unfolding answerOf
+    answered-refused v e h =
         record {
-          sound = λ _. ap (λ (n : ℕ). orElse (refusedWith n) (rowsAnswer (length (queryRows (boardIn m) q)) lent)) (sym f);
+          sound = λ _. first-refuses (answerOf v) (rowsAnswer (length rows) lent) h ∙ ap (λ (a : calls.Answer). orElse a (rowsAnswer (length rows) lent)) e;
           unsound = λ n. absurd (n s);
-          counts = refl;
+          counts = counted-none (numberOf v) (length rows) h;
           enough = omega arith;
         }
 
-    module _ (f : queryRefusal (boardIn m) q ≡ 0) (need : ℕ) (e : need ≡ length (queryRows (boardIn m) q)) where
+    module _ (f : refusal ≡ 0) (need : ℕ) (e : need ≡ length rows) where
       -- by the rows that are needed
       by-rows : (b : Bool) → calls.Answer
       by-rows b = cond b (record { number = 8; detail = need }) accepted
 
-      rows-answer : queryAnswer (boardIn m) q lent ≡ rowsAnswer need lent
-      unfolding queryAnswer orElse refusedWith
-      rows-answer =
-          ap (λ (n : ℕ). orElse (refusedWith n) (rowsAnswer (length (queryRows (boardIn m) q)) lent)) f
-          ∙ ap (λ (n : ℕ). rowsAnswer n lent) (sym e)
+      rows-answer : rowsAnswer need lent ≡ answerBy refusal rows lent
+      unfolding orElse refusedWith
+      rows-answer = ap₂ (λ (k i : ℕ). orElse (refusedWith k) (rowsAnswer i lent)) (sym f) e
 
-      pub answered-few : lent < need → Answered q m lent (FewRows need) 0
+      pub answered-few : lent < need → Answered (answerBy refusal rows lent) rows m lent (FewRows need) 0
       unfolding answerOf numberOf detailOf counted rowsAnswer by-rows
       answered-few h =
           record {
-            sound = λ _. ap by-rows (sym (lt-ltb lent need h)) ∙ sym rows-answer;
+            sound = λ _. ap by-rows (sym (lt-ltb lent need h)) ∙ rows-answer;
             unsound = λ n. absurd (n s);
             counts = refl;
             enough = omega arith;
           }
 
-      pub answered-all : need ≤ lent → Answered q m lent Accepted need
+      pub answered-all : need ≤ lent → Answered (answerBy refusal rows lent) rows m lent Accepted need
       unfolding answerOf numberOf detailOf counted rowsAnswer accepted by-rows
       answered-all h =
           record {
-            sound = λ _. ap by-rows (sym (le-ltb lent need h)) ∙ sym rows-answer;
+            sound = λ _. ap by-rows (sym (le-ltb lent need h)) ∙ rows-answer;
             unsound = λ n. absurd (n s);
             counts = e;
             enough = h;
           }
 
--- ---- with the rows
+-- ---- plans that tell nothing
 
-module _ (q : Query) (m : List ℕ) (lent : ℕ) (t : Telling) where
-  none-told : (v : Verdict) (k : ℕ) → numberOf v ≡ suc k → Answered q m lent v 0 → TellsNothing t → QueryTold q m lent v 0 t
-  none-told v k e a n =
-      record { answered = a; rows = ap length (n .rows m); tells = λ f. absurd (omega (arith, e, f)); asked = λ h. absurd (omega arith) }
+module _ {answer : calls.Answer} {rows : List Row} {m : List ℕ} {lent : ℕ} {v : Verdict} {p : Plan} (e : Nothing v p) (a : Answered answer rows m lent v 0) where
+  nothing-answered : Answered answer rows m lent (p .verdict) (p .count)
+  nothing-answered =
+      subst (λ (n : ℕ). Answered answer rows m lent (p .verdict) n) (sym (e .count))
+      (subst (λ (w : Verdict). Answered answer rows m lent w 0) (sym (e .verdict)) a)
 
-  pub told-unsound : TellsNothing t → (Sound m → ⊥) → QueryTold q m lent Unsound 0 t
-  unfolding numberOf
-  told-unsound n h = none-told Unsound 2 refl (answered-unsound q m lent h) n
+  -- Of an accepted call that has no rows and opens nothing, or of a refused one.
+  pub nothing-plans : {nodes : Tree → ℕ} → (numberOf v ≡ 0 → [] ≡ rows) → (numberOf v ≡ 0 → (t : Tree) → Stands m t → 0 ≡ nodes t) → Plans answer rows nodes m lent p
+  nothing-plans none shut =
+      let v-is = ap numberOf (e .verdict) in
+      record {
+        answered = nothing-answered;
+        opens = λ z t s. e .opened ∙ shut (sym v-is ∙ z) t s;
+        closed = λ _. e .opened;
+        told = ap length (e .telling .rows m) ∙ sym (e .count);
+        tells = λ z. ap (map resultRow) (e .telling .rows m) ∙ none (sym v-is ∙ z);
+        asked = λ h. absurd (omega (arith, e .count));
+      }
 
-  module _ (s : Sound m) where
-    pub told-bad : TellsNothing t → queryRefusal (boardIn m) q ≡ 7 → QueryTold q m lent (BadArgument 0) 0 t
-    unfolding numberOf
-    told-bad n f = none-told (BadArgument 0) 6 refl (answered-bad q m lent s f) n
+  pub refused-plans : {nodes : Tree → ℕ} → 0 < numberOf v → Plans answer rows nodes m lent p
+  refused-plans h = nothing-plans (λ z. absurd (omega arith)) (λ z. absurd (omega arith))
 
-    module _ (f : queryRefusal (boardIn m) q ≡ 0) (need : ℕ) (e : need ≡ length (queryRows (boardIn m) q)) where
-      pub told-few : TellsNothing t → lent < need → QueryTold q m lent (FewRows need) 0 t
-      unfolding numberOf
-      told-few n h = none-told (FewRows need) 7 refl (answered-few q m lent s f need e h) n
+-- ---- lists
 
-      pub told-all : need ≤ lent → TellingAsked t m → map resultRow (toldRows t m) ≡ queryRows (boardIn m) q → QueryTold q m lent Accepted need t
-      told-all h a g =
-          record {
-            answered = answered-all q m lent s f need e h;
-            rows = sym (length-map (toldRows t m) resultRow) ∙ ap length g ∙ sym e;
-            tells = λ _. g;
-            asked = λ _. a;
-          }
+module _ (q : Query) (m : List ℕ) (lent : ℕ) {p : Plan} where
+  pub query-unsound : Nothing Unsound p → (Sound m → ⊥) → QueryPlanned q m lent p
+  unfolding queryAnswer numberOf
+  query-unsound e h = refused-plans e (answered-unsound (queryRefusal (boardIn m) q) (queryRows (boardIn m) q) m lent h) (omega arith)
 
-pub told-at : {q : Query} {m : List ℕ} {lent : ℕ} {v v' : Verdict} {k k' : ℕ} {t : Telling} → QueryTold q m lent v k t → v' ≡ v → k' ≡ k → QueryTold q m lent v' k' t
-told-at {q} {m} {lent} {v' = v'} {k = k} {t = t} p e f =
-    subst (λ (n : ℕ). QueryTold q m lent v' n t) (sym f) (subst (λ (w : Verdict). QueryTold q m lent w k t) (sym e) p)
+  pub query-bad : Nothing (BadArgument 0) p → Sound m → queryRefusal (boardIn m) q ≡ 7 → QueryPlanned q m lent p
+  unfolding queryAnswer answerOf numberOf detailOf refusedWith
+  query-bad e s f =
+      refused-plans e
+      (answered-refused (queryRefusal (boardIn m) q) (queryRows (boardIn m) q) m lent s (BadArgument 0) (ap refusedWith (sym f)) (omega arith))
+      (omega arith)
 
--- ---- the promise
+module _ (c d n : ℕ) (found : Found) (opened lent : ℕ) where
+  need-of : {m : List ℕ} {test : ℕ → Bool} {rows : List Row} → Finds c n test m found → listedRows (foundMoves c d n test m) ≡ rows → found .count ≡ length rows
+  need-of {m} {test} f e = found-count c d n test m found f ∙ ap length e
+
+  pub found-few : {p : Plan} → Nothing (FewRows (found .count)) p → lent < found .count → PlansFound c d n found opened lent p
+  unfolding queryAnswer numberOf
+  found-few e h =
+      record {
+        plans = λ {m} s f q ok rows _.
+            refused-plans e (answered-few (queryRefusal (boardIn m) q) (queryRows (boardIn m) q) m lent (s .sound) ok (found .count) (need-of f rows) h)
+            (omega arith);
+      }
+
+  pub found-all : (t : Telling) → TellsNumbers c d n (found .numbers) t → found .count ≤ lent
+      → PlansFound c d n found opened lent (record { verdict = Accepted; count = found .count; opened = opened; makes = false; goes = 0; comes = false; telling = t })
+  unfolding queryAnswer numberOf
+  found-all t g h =
+      record {
+        plans = λ {m} {test} s f q ok rows nodes.
+            let told = found-rows c d n test m found f t g ∙ rows in
+            record {
+              answered = answered-all (queryRefusal (boardIn m) q) (queryRows (boardIn m) q) m lent (s .sound) ok (found .count) (need-of f rows) h;
+              opens = λ _. nodes;
+              closed = λ z. absurd (omega arith);
+              told = sym (length-map (toldRows t m) resultRow) ∙ ap length told ∙ sym (need-of f rows);
+              tells = λ _. told;
+              asked = λ _. numbers-asked g s;
+            };
+      }
+
+-- ---- what is said
 
 tells-at : (k count : ℕ) (new rows rows' : List Row) → count ≡ counted k (length new) → (k ≡ 0 → rows' ≡ new ++ drop count rows) → (count ≡ 0 → rows' ≡ rows) → rows' ≡ rowsAfter k new rows
 unfolding rowsAfter counted
 tells-at zero count new rows rows' e all none = all refl ∙ ap (λ (n : ℕ). new ++ drop n rows) e
 tells-at (suc k) count new rows rows' e all none = none e
 
-module _ {q : Query} {m : List ℕ} {lent : ℕ} {v : Verdict} {count : ℕ} where
-  module _ (rows rows' : List Row) (few : lent ≡ length rows) where
-    -- Where the list is accepted its rows are put first; where none is counted the rows are as they were.
-    pub answered-promise : Answered q m lent v count → (numberOf v ≡ 0 → rows' ≡ queryRows (boardIn m) q ++ drop count rows) → (count ≡ 0 → rows' ≡ rows)
-        → QueryPromise q m rows (record { verdict = v; count = count }) rows'
-    unfolding answerOf numberOf detailOf refusedWith counted rowsAfter
-    answered-promise a all none =
-        record {
-          sound = λ x s. record {
-            answers = a .sound (record { tree = x; stands = s }) ∙ ap (queryAnswer (boardIn m) q) few;
-            counts = a .counts;
-            tells = tells-at (numberOf v) count (queryRows (boardIn m) q) rows rows' (a .counts) all none;
-          };
-          unsound = λ n.
-              let three = a .unsound n in
-              let zeros : count ≡ 0 = a .counts ∙ ap (λ (w : Verdict). counted (numberOf w) (length (queryRows (boardIn m) q))) three in
-              record {
-                answers = ap answerOf three;
-                counts = zeros ∙ sym (ap (λ (w : Verdict). counted (numberOf w) 0) three);
-                tells = none zeros ∙ sym (ap (λ (w : Verdict). rowsAfter (numberOf w) [] rows) three);
-              };
-        }
+opens-at : (k opened nodes : ℕ) → (k ≡ 0 → opened ≡ nodes) → (0 < k → opened ≡ 0) → opened ≡ counted k nodes
+unfolding counted
+opens-at zero opened nodes all none = all refl
+opens-at (suc k) opened nodes all none = none (omega arith)
 
-    pub told-promise : {t : Telling} → QueryTold q m lent v count t → rows' ≡ map resultRow (toldRows t m) ++ drop count rows
-        → QueryPromise q m rows (record { verdict = v; count = count }) rows'
-    told-promise {t} p e =
-        answered-promise (p .answered)
-        (λ z. e ∙ ap (λ (new : List Row). new ++ drop count rows) (p .tells z))
-        (λ z. e ∙ ap₂ (λ (new : List (List ℕ)) (n : ℕ). map resultRow new ++ drop n rows) (length-none (toldRows t m) (p .rows ∙ z)) z)
+-- Where the call is accepted its rows are put first; where none is counted the lent rows are as they were.
+module _ {answer : calls.Answer} {rows : List Row} {m : List ℕ} {lent : ℕ} {v : Verdict} {count opened : ℕ} (a : Answered answer rows m lent v count) (before after : List Row)
+    (all : numberOf v ≡ 0 → after ≡ rows ++ drop count before) (none : count ≡ 0 → after ≡ before) (shut : 0 < numberOf v → opened ≡ 0) where
+  pub answered-said : Sound m → (nodes : ℕ) → (numberOf v ≡ 0 → opened ≡ nodes) → Said answer rows nodes before (record { verdict = v; count = count; opened = opened }) after
+  answered-said s nodes e =
+      record {
+        answers = a .sound s;
+        counts = a .counts;
+        opens = opens-at (numberOf v) opened nodes e shut;
+        tells = tells-at (numberOf v) count rows before after (a .counts) all none;
+      }
+
+  pub answered-unsaid : (Sound m → ⊥) → UnsoundSaid before (record { verdict = v; count = count; opened = opened }) after
+  unfolding answerOf numberOf detailOf refusedWith counted rowsAfter
+  answered-unsaid n =
+      let three = a .unsound n in
+      let zeros : count ≡ 0 = a .counts ∙ ap (λ (w : Verdict). counted (numberOf w) (length rows)) three in
+      let refused : 0 < numberOf v = omega (arith, ap numberOf three) in
+      record {
+        answers = ap answerOf three;
+        counts = zeros ∙ sym (ap (λ (w : Verdict). counted (numberOf w) 0) three);
+        opens = shut refused ∙ sym (ap (λ (w : Verdict). counted (numberOf w) 0) three);
+        tells = none zeros ∙ sym (ap (λ (w : Verdict). rowsAfter (numberOf w) [] before) three);
+      }
+
+module _ {answer : calls.Answer} {rows : List Row} {nodes : Tree → ℕ} {m : List ℕ} {lent : ℕ} {p : Plan} (plan : Plans answer rows nodes m lent p) (before after : List Row)
+    (e : after ≡ map resultRow (toldRows (p .telling) m) ++ drop (p .count) before) where
+  put-all : numberOf (p .verdict) ≡ 0 → after ≡ rows ++ drop (p .count) before
+  put-all z = e ∙ ap (λ (new : List Row). new ++ drop (p .count) before) (plan .tells z)
+
+  put-none : p .count ≡ 0 → after ≡ before
+  put-none z = e ∙ ap₂ (λ (new : List (List ℕ)) (n : ℕ). map resultRow new ++ drop n before) (length-none (toldRows (p .telling) m) (plan .told ∙ z)) z
+
+  pub plans-said : (t : Tree) → Stands m t → Said answer rows (nodes t) before (answerIn p) after
+  plans-said t s =
+      answered-said (plan .answered) before after put-all put-none (plan .closed) (record { tree = t; stands = s }) (nodes t) (λ z. plan .opens z t s)
+
+  pub plans-unsaid : (Sound m → ⊥) → UnsoundSaid before (answerIn p) after
+  plans-unsaid = answered-unsaid (plan .answered) before after put-all put-none (plan .closed)
+
+-- ---- the promise of a list
+
+pub query-promise : {q : Query} {m : List ℕ} {p : Plan} (before after : List Row) → QueryPlanned q m (length before) p
+    → after ≡ map resultRow (toldRows (p .telling) m) ++ drop (p .count) before → QueryPromise q m before (answerIn p) after
+query-promise before after plan e = record { sound = plans-said plan before after e; unsound = plans-unsaid plan before after e }
 
 -- ---- rows as numbers
 
@@ -150,12 +223,3 @@ map-drop f (suc k) (x ∷ xs) = map-drop f k xs
 pub put-results : (new rows : List (List ℕ)) (k : ℕ) → map resultRow (new ++ drop k rows) ≡ map resultRow new ++ drop k (map resultRow rows)
 put-results new rows k =
     map-append resultRow new (drop k rows) ∙ ap (λ (l : List Row). map resultRow new ++ l) (map-drop resultRow k rows)
-
-module _ {q : Query} {m : List ℕ} {v : Verdict} {count : ℕ} {t : Telling} (rows : List (List ℕ)) (p : QueryTold q m (length rows) v count t) where
-  pub told-asked : PlannedAsked t count m rows
-  told-asked = record { told = p .rows; enough = p .answered .enough; asked = p .asked }
-
-  pub told-numbers : (rows' : List (List ℕ)) → rows' ≡ toldRows t m ++ drop count rows → QueryPromise q m (map resultRow rows) (record { verdict = v; count = count }) (map resultRow rows')
-  told-numbers rows' e =
-      told-promise (map resultRow rows) (map resultRow rows') (sym (length-map rows resultRow)) p
-      (ap (map resultRow) e ∙ put-results (toldRows t m) rows count)

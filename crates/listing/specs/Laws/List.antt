@@ -1,0 +1,33 @@
+-- The marked moves are Definition 2's list, so the plan of the moves found is that of a list call.
+use Prim.Native.Nat.{ℕ}
+use mathlib.Core.List.{List}
+use mathlib.Core.Path.{_≡_, refl, ap, _∙_, subst}
+use Rattle.model.specs.Lists.{skyline, listedRows}
+use Rattle.model.specs.Nodes.{nodesOpened}
+use Rattle.model.specs.Calls.{list, listOf, queryRefusal, queryRows}
+use Rattle.model.specs.Changing.{queryOpens}
+use Rattle.promises.specs.Layout.{boardIn, keptFrom}
+use Rattle.memory.specs.Room.{Room, Numbers}
+use Rattle.memory.specs.Held.{SoundAt}
+use Rattle.memory.specs.Laws.Held.{held-room, held-few, held-numbers, held-kept}
+use Rattle.tree.specs.Search.{Opened}
+use Rattle.upkeep.specs.Planned.{isMarked, Finds, QueryPlanned, foundMoves, PlansFound}
+use Rattle.upkeep.specs.Laws.Found.{board-line}
+use Rattle.upkeep.specs.declared.found.Found.{Found}
+use Rattle.upkeep.specs.declared.plan.Plan.{Plan}
+
+module _ {c d n : ℕ} {m : List ℕ} (s : SoundAt c d n m) where
+  list-rows : listedRows (foundMoves c d n (isMarked c m) m) ≡ queryRows (boardIn m) list
+  unfolding queryRows listOf keptFrom boardIn
+  list-rows =
+      ap listedRows (held-kept c d n m s ∙ (λ j. skyline (s .dimension j) (board-line s j)))
+
+  accepts : queryRefusal (boardIn m) list ≡ 0
+  unfolding queryRefusal
+  accepts = refl
+
+  pub list-planned : {found : Found} → Finds c n (isMarked c m) m found → {opened : ℕ} → Opened d m opened
+      → {lent : ℕ} {p : Plan} → PlansFound c d n found opened lent p → QueryPlanned list m lent p
+  unfolding queryOpens
+  list-planned f {opened} search plan =
+      plan .plans s f list accepts list-rows (λ t w. subst (λ (k : ℕ). opened ≡ nodesOpened k t) (s .dimension) (search .is t w))

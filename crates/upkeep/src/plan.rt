@@ -1,0 +1,55 @@
+// What a call will say and do, found without writing.
+use crate::found::Found;
+use crate::found::telling_none;
+use crate::found::telling_of;
+use crate::telling::Telling;
+use promises::Verdict;
+ghost use Rattle.upkeep.specs.Planned as spec;
+
+// `count` rows are told, those of the telling. `makes` says that there is a change to make: the move at place `goes` goes, if
+// there is one; `comes` says that the telling's coming move comes.
+pub struct Plan {
+    pub verdict: Verdict,
+    pub count: usize,
+    pub opened: usize,
+    pub makes: bool,
+    pub goes: usize,
+    pub comes: bool,
+    pub telling: Telling,
+}
+
+// Nothing to tell and nothing to make.
+pub fn nothing(verdict: Verdict) -> Plan
+    ensures { λ r. ⌜ spec.Nothing verdict r ⌝ }
+{
+    Plan {
+        verdict,
+        count: 0,
+        opened: 0,
+        makes: false,
+        goes: 0,
+        comes: false,
+        telling: telling_none(),
+    }
+}
+
+// The moves found are told, or how many rows they need.
+pub fn plan_found(c: usize, d: usize, n: usize, found: Found, opened: usize, lent: usize) -> Plan
+    ensures { λ r. ⌜ spec.PlansFound c d n found opened lent r ⌝ }
+{
+    let need = found.count;
+    if lent < need {
+        return nothing(Verdict::FewRows(need));
+    }
+    let numbers = found.numbers;
+    let telling = telling_of(c, d, n, numbers);
+    Plan {
+        verdict: Verdict::Accepted,
+        count: need,
+        opened,
+        makes: false,
+        goes: 0,
+        comes: false,
+        telling,
+    }
+}
