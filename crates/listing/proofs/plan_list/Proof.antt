@@ -1,18 +1,16 @@
 -- `plan_list` meets its contract. Assumes nothing.
-use mathlib.Core.Path.{subst}
 use borrow.Author.Needs.{needs}
 use native.Mathlib.Omega.{arith}
 use Rattle.model.specs.Calls.{list}
-use Rattle.memory.specs.Held.{SoundAt, HeldIn}
-use Rattle.memory.specs.Laws.Held.{held-room, held-few, held-numbers}
+use Rattle.memory.specs.Held.{SoundAt}
+use Rattle.memory.specs.Laws.Held.{held-room, held-few, held-numbers, sound-held, unsound-held}
 use Rattle.upkeep.specs.Laws.Planned.{query-unsound}
 use Rattle.listing.specs.Laws.List.{list-planned}
 use Rattle.listing.proofs.plan_list.Statement.{statement}
 use Rattle.listing.proofs.plan_list.Tie as tie
 
 sound-at : (c : tie.After-known-told) → SoundAt (c .before .h .given .0 .0 .size) (c .before .h .given .0 .0 .dimension) (c .before .h .given .0 .0 .count) (c .before .before .before .before .before .args .m .now)
-unfolding HeldIn
-sound-at c = subst (HeldIn (c .before .before .before .before .before .args .m .now)) (c .before .h .given .1) (c .before .before .before .sound-head .ensures)
+sound-at c = sound-held (c .before .before .before .sound-head .ensures) (c .before .h .given .1)
 
 sound-head-requires : tie.Need-sound-head-requires
 sound-head-requires c κs = search needs
@@ -27,11 +25,10 @@ nothing-requires : tie.Need-nothing-requires
 nothing-requires c κs = search needs
 
 returns : tie.Need-returns
-unfolding HeldIn
 returns c =
     let a = c .before .before .before .before .before .args in
     query-unsound list (a .m .now) (a .lent) (c .nothing .ensures)
-    (subst (HeldIn (a .m .now)) (c .before .enum-told .given .1) (c .before .before .before .sound-head .ensures))
+    (unsound-held (c .before .before .before .sound-head .ensures) (c .before .enum-told .given .1))
 
 find-listed-requires : tie.Need-find-listed-requires
 find-listed-requires c κs = let s = sound-at c in (held-room _ _ _ _ s, held-few _ _ _ _ s, held-numbers _ _ _ _ s)

@@ -18,15 +18,18 @@ use Rattle.model.specs.Laws.Bool.{same-test, and-left, and-right, not-back}
 use Rattle.model.specs.Laws.Basics.{mem-each, each-mem, select-mem, mem-select, any-false}
 use Rattle.line.specs.Line.{Placed, movesIn}
 use Rattle.promises.specs.Layout.{sizeIn, dimensionIn, countIn, numberIn, markIn, moveIn, placedIn, tab, lineFrom, lineIn, boardIn, keptFrom, keptIn}
-use Rattle.promises.specs.Sound.{Stands}
+use Rattle.promises.specs.Sound.{Stands, Sound}
 use Rattle.promises.specs.Run.{Bytes}
 use Rattle.promises.specs.Laws.Stands.{stands-dimension, stands-moves, stands-order, stands-fit, stands-once}
 use Rattle.memory.specs.Room.{Room, Numbers}
-use Rattle.memory.specs.Held.{SoundAt}
+use Rattle.memory.specs.Held.{SoundAt, HeldIn}
 use Rattle.memory.specs.Tests.{isListed}
 use Rattle.memory.specs.Laws.Tab.{length-tab, getD-tab, map-tab}
 use Rattle.memory.specs.Laws.Places.{tab-each}
 use Rattle.memory.specs.Laws.Lines.{movesIn-line}
+use Rattle.memory.specs.declared.sound.Head.{Head}
+use Rattle.memory.specs.declared.sound.Held.{Held}
+use Rattle.memory.specs.declared.sound.Held.the-variants as held
 
 -- Two tests that select the same entries agree at each.
 pub select-same : {A : Type 0} (p q : A → Bool) (xs : List A) → select p xs ≡ select q xs → Each (λ x. p x ≡ q x) xs
@@ -129,3 +132,13 @@ module _ (c d n : ℕ) (m : List ℕ) (s : SoundAt c d n m) where
         (omega (arith, length-tab (numberIn c m) n))
         (omega (arith, length-tab (numberIn c m) n))
         (getD-tab (numberIn c m) 0 n i h ∙ e ∙ sym (getD-tab (numberIn c m) 0 n j k))
+
+-- ---- what is held, by cases
+
+pub sound-held : {m : List ℕ} {r : Held} {h : Head} → HeldIn m r → r ≡ held.Sound h → SoundAt (h .size) (h .dimension) (h .count) m
+unfolding HeldIn
+sound-held {m} p e = subst (HeldIn m) e p
+
+pub unsound-held : {m : List ℕ} {r : Held} → HeldIn m r → r ≡ held.Unsound → Sound m → ⊥
+unfolding HeldIn
+unsound-held {m} p e = subst (HeldIn m) e p

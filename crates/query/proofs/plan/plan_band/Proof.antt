@@ -1,45 +1,70 @@
 -- `plan::plan_band` meets its contract. Assumes nothing.
-use borrow.Author.Tests.{not-true, not-false}
+use mathlib.Core.Path.{refl}
 use borrow.Author.Needs.{needs}
+use native.Mathlib.Omega.{arith}
 use Rattle.model.specs.Calls.{bandQuery}
+use Rattle.model.specs.Changing.{queryOpens}
+use Rattle.memory.specs.Held.{SoundAt}
+use Rattle.memory.specs.Laws.Held.{sound-held, unsound-held}
+use Rattle.upkeep.specs.Laws.Planned.{query-unsound, query-bad}
 use Rattle.query.specs.Rule.{Fair}
-use Rattle.query.specs.Laws.Plan.{plan-unsound, plan-bad}
 use Rattle.query.specs.Laws.Calls.{band-bad, band-right, band-rows}
 use Rattle.query.proofs.plan.plan_band.Statement.{statement}
 use Rattle.query.proofs.plan.plan_band.Tie as tie
 
-is-sound-requires : tie.Need-is-sound-requires
-is-sound-requires c κs = search needs
+-- Once the memory is known to be sound.
+sound-at : (c : tie.After-known-told) → SoundAt (c .before .h .given .0 .0 .size) (c .before .h .given .0 .0 .dimension) (c .before .h .given .0 .0 .count) (c .before .before .before .before .before .args .m .now)
+sound-at c = sound-held (c .before .before .before .sound-head .ensures) (c .before .h .given .1)
 
-refused-requires : tie.Need-refused-requires
-refused-requires c κs = search needs
+sound-head-requires : tie.Need-sound-head-requires
+sound-head-requires c κs = search needs
+
+enum-known-h : tie.Need-enum-known-h
+enum-known-h c = search needs
+
+enum-told : tie.Need-enum-told
+enum-told c = search needs
+
+nothing-requires : tie.Need-nothing-requires
+nothing-requires c κs = search needs
 
 returns : tie.Need-returns
 returns c =
-    let a = c .before .before .before .before .args in
-    let s = c .before .before .is-sound in
-    plan-unsound (bandQuery (a .b)) (a .m .now) (a .lent) (c .refused .result) (c .refused .ensures) (s .ensures .unsound (not-true (s .result) (c .before .if1 .taken)))
+    let a = c .before .before .before .before .before .args in
+    query-unsound (bandQuery (a .b)) (a .m .now) (a .lent) (c .nothing .ensures) (unsound-held (c .before .before .before .sound-head .ensures) (c .before .enum-told .given .1))
 
-refused-requires-2 : tie.Need-refused-requires-2
-refused-requires-2 c κs = search needs
+nothing-requires-2 : tie.Need-nothing-requires-2
+nothing-requires-2 c κs = search needs
 
 returns-2 : tie.Need-returns-2
 returns-2 c =
-    let a = c .before .before .before .before .before .args in
-    let s = c .before .before .before .is-sound in
-    plan-bad (bandQuery (a .b)) (a .m .now) (a .lent) (c .refused2 .result) (c .refused2 .ensures) (s .ensures .sound (not-false (s .result) (c .before .before .if1 .left)))
-    (band-bad (a .m .now) (a .b) (c .before .if2 .taken))
+    let a = c .before .before .before .before .before .before .before .args in
+    let s = sound-at (c .before .before) in
+    query-bad (bandQuery (a .b)) (a .m .now) (a .lent) (c .nothing2 .ensures) (s .sound)
+    (band-bad (a .m .now) (a .b) (c .before .if1 .taken))
 
 plan-kept-requires : tie.Need-plan-kept-requires
 unfolding Fair
-plan-kept-requires c κs = let s = c .before .before .is-sound in (s .ensures .sound (not-false (s .result) (c .before .if1 .left)), tt)
+plan-kept-requires c κs = (sound-at (c .before), tt)
 
 returns-3 : tie.Need-returns-3
+unfolding queryOpens
 returns-3 c =
-    let a = c .before .before .before .before .before .args in
-    c .plan-kept .ensures .plans (bandQuery (a .b)) (band-right (a .m .now) (a .b) (c .before .if2 .left)) (band-rows (a .m .now) (a .b))
+    let a = c .before .before .before .before .before .before .before .args in
+    c .plan-kept .ensures .plans (bandQuery (a .b))
+    (band-right (a .m .now) (a .b) (c .before .if1 .left))
+    (band-rows (a .m .now) (a .b)) (λ _. refl)
 
 pub plan-band-spec : {M : Type 1} → statement M
 plan-band-spec =
     tie.close
-    (tie.spec is-sound-requires refused-requires returns refused-requires-2 returns-2 plan-kept-requires returns-3)
+    (tie.spec
+    sound-head-requires
+    enum-known-h
+    enum-told
+    nothing-requires
+    returns
+    nothing-requires-2
+    returns-2
+    plan-kept-requires
+    returns-3)

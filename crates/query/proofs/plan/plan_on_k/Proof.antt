@@ -1,65 +1,73 @@
 -- `plan::plan_on_k` meets its contract. Assumes nothing.
 use mathlib.Core.Logic.{inl, inr, ⊎-elim}
-use borrow.Author.Tests.{not-true, not-false, ltb-true, ltb-false}
+use mathlib.Core.Path.{refl}
+use borrow.Author.Tests.{ltb-true, ltb-false}
 use borrow.Author.Needs.{needs}
 use native.Mathlib.Omega.{arith}
 use Rattle.model.specs.Calls.{onKQuery}
+use Rattle.model.specs.Changing.{queryOpens}
+use Rattle.memory.specs.Held.{SoundAt}
+use Rattle.memory.specs.Laws.Held.{sound-held, unsound-held}
+use Rattle.upkeep.specs.Laws.Planned.{query-unsound, query-bad}
 use Rattle.query.specs.Rule.{Fair}
-use Rattle.query.specs.Laws.Plan.{sound-readable, plan-unsound, plan-bad}
 use Rattle.query.specs.Laws.Calls.{on-bad, on-right, on-rows}
 use Rattle.query.proofs.plan.plan_on_k.Statement.{statement}
 use Rattle.query.proofs.plan.plan_on_k.Tie as tie
 
-is-sound-requires : tie.Need-is-sound-requires
-is-sound-requires c κs = search needs
+-- Once the memory is known to be sound.
+sound-at : (c : tie.After-known-told) → SoundAt (c .before .h .given .0 .0 .size) (c .before .h .given .0 .0 .dimension) (c .before .h .given .0 .0 .count) (c .before .before .before .before .before .args .m .now)
+sound-at c = sound-held (c .before .before .before .sound-head .ensures) (c .before .h .given .1)
 
-refused-requires : tie.Need-refused-requires
-refused-requires c κs = search needs
+sound-head-requires : tie.Need-sound-head-requires
+sound-head-requires c κs = search needs
+
+enum-known-h : tie.Need-enum-known-h
+enum-known-h c = search needs
+
+enum-told : tie.Need-enum-told
+enum-told c = search needs
+
+nothing-requires : tie.Need-nothing-requires
+nothing-requires c κs = search needs
 
 returns : tie.Need-returns
 returns c =
-    let a = c .before .before .before .before .args in
-    let s = c .before .before .is-sound in
-    plan-unsound (onKQuery (a .k)) (a .m .now) (a .lent) (c .refused .result) (c .refused .ensures) (s .ensures .unsound (not-true (s .result) (c .before .if1 .taken)))
+    let a = c .before .before .before .before .before .args in
+    query-unsound (onKQuery (a .k)) (a .m .now) (a .lent) (c .nothing .ensures) (unsound-held (c .before .before .before .sound-head .ensures) (c .before .enum-told .given .1))
 
-dimension-requires : tie.Need-dimension-requires
-dimension-requires c κs =
-    let s = c .before .before .is-sound in
-    omega (arith, sound-readable (c .before .before .before .before .args .m .now) (s .ensures .sound (not-false (s .result) (c .before .if1 .left))) .0 .0)
-
-refused-requires-2 : tie.Need-refused-requires-2
-refused-requires-2 c κs = search needs
+nothing-requires-2 : tie.Need-nothing-requires-2
+nothing-requires-2 c κs = search needs
 
 returns-2 : tie.Need-returns-2
 returns-2 c =
-    let a = c .before .before .before .before .before .args in
-    let s = c .before .before .before .is-sound in
-    plan-bad (onKQuery (a .k)) (a .m .now) (a .lent) (c .refused2 .result) (c .refused2 .ensures) (s .ensures .sound (not-false (s .result) (c .before .before .if1 .left)))
-    (on-bad (a .m .now) (a .k) (⊎-elim (λ w. inl (w .taken)) (λ w. inr (omega (arith, w .1 .ensures .0, ltb-true (w .1 .result) (a .k) (w .2 .taken)))) (c .before .if2 .came)))
+    let a = c .before .before .before .before .before .before .before .args in
+    let s = sound-at (c .before .before) in
+    query-bad (onKQuery (a .k)) (a .m .now) (a .lent) (c .nothing2 .ensures) (s .sound)
+    (on-bad (a .m .now) (a .k) (⊎-elim (λ w. inl (w .taken)) (λ w. inr (omega (arith, s .dimension, ltb-true _ (a .k) (w .2 .taken)))) (c .before .if1 .came)))
 
 plan-kept-requires : tie.Need-plan-kept-requires
 unfolding Fair
-plan-kept-requires c κs =
-    let s = c .before .before .before .before .is-sound in
-    (s .ensures .sound (not-false (s .result) (c .before .before .before .if1 .left)), c .before .before .if2 .left)
+plan-kept-requires c κs = (sound-at (c .before .before .before), c .before .before .if1 .left)
 
 returns-3 : tie.Need-returns-3
+unfolding queryOpens
 returns-3 c =
-    let a = c .before .before .before .before .before .before .before .args in
-    let d = c .before .before .dimension in
+    let a = c .before .before .before .before .before .before .before .before .before .args in
+    let s = sound-at (c .before .before .before .before) in
     c .plan-kept .ensures .plans (onKQuery (a .k))
-    (on-right (a .m .now) (a .k) (c .before .before .before .if2 .left) (omega (arith, d .ensures .0, ltb-false (d .result) (a .k) (c .before .if3 .left))))
-    (on-rows (a .m .now) (a .k))
+    (on-right (a .m .now) (a .k) (c .before .before .before .if1 .left) (omega (arith, s .dimension, ltb-false _ (a .k) (c .before .if2 .left))))
+    (on-rows (a .m .now) (a .k)) (λ _. refl)
 
 pub plan-on-k-spec : {M : Type 1} → statement M
 plan-on-k-spec =
     tie.close
     (tie.spec
-    is-sound-requires
-    refused-requires
+    sound-head-requires
+    enum-known-h
+    enum-told
+    nothing-requires
     returns
-    dimension-requires
-    refused-requires-2
+    nothing-requires-2
     returns-2
     plan-kept-requires
     returns-3)
