@@ -16,7 +16,7 @@ static void board_structs(void)
     FIELD(dolzhev_row, number);
     FIELD(dolzhev_row, costs);
     SIZE(dolzhev_answer);
-    FIELD(dolzhev_answer, number);
+    FIELD(dolzhev_answer, refusal);
     FIELD(dolzhev_answer, detail);
     FIELD(dolzhev_answer, count);
     FIELD(dolzhev_answer, opened);
@@ -26,15 +26,15 @@ static void zorder_structs(void)
 {
     SIZE(dolzhev_costs);
     SIZE(dolzhev_address_answer);
-    FIELD(dolzhev_address_answer, number);
+    FIELD(dolzhev_address_answer, refusal);
     FIELD(dolzhev_address_answer, detail);
     FIELD(dolzhev_address_answer, address);
     SIZE(dolzhev_costs_answer);
-    FIELD(dolzhev_costs_answer, number);
+    FIELD(dolzhev_costs_answer, refusal);
     FIELD(dolzhev_costs_answer, detail);
     FIELD(dolzhev_costs_answer, costs);
     SIZE(dolzhev_region_answer);
-    FIELD(dolzhev_region_answer, number);
+    FIELD(dolzhev_region_answer, refusal);
     FIELD(dolzhev_region_answer, detail);
     FIELD(dolzhev_region_answer, near_corner);
     FIELD(dolzhev_region_answer, far_corner);

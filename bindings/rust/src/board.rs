@@ -1,6 +1,6 @@
 //! A board over borrowed memory.
 use crate::calls;
-use crate::types::{Answer, Costs, Move, Row};
+use crate::types::{Answer, Move, Row};
 
 /// The refusal's number and its detail.
 #[derive(Clone, Copy, Debug, PartialEq, Eq)]
@@ -23,7 +23,7 @@ pub struct Board<'m> {
 }
 
 fn told(answer: Answer, rows: &[Row]) -> Result<&[Row], Refusal> {
-    match answer.number {
+    match answer.refusal {
         0 => Ok(&rows[..answer.count]),
         number => Err(Refusal { number, detail: answer.detail }),
     }
@@ -48,16 +48,16 @@ impl<'m> Board<'m> {
         told(calls::load(self.memory, c, d, rows), &[]).map(|_| ())
     }
 
-    pub fn enter<'r>(&mut self, number: u16, costs: Costs, rows: &'r mut [Row]) -> Result<&'r [Row], Refusal> {
-        told(calls::enter(self.memory, number, costs, rows), rows)
+    pub fn enter<'r>(&mut self, x: Move, rows: &'r mut [Row]) -> Result<&'r [Row], Refusal> {
+        told(calls::enter(self.memory, x, rows), rows)
     }
 
     pub fn withdraw<'r>(&mut self, number: u16, rows: &'r mut [Row]) -> Result<&'r [Row], Refusal> {
         told(calls::withdraw(self.memory, number, rows), rows)
     }
 
-    pub fn recost<'r>(&mut self, number: u16, costs: Costs, rows: &'r mut [Row]) -> Result<&'r [Row], Refusal> {
-        told(calls::recost(self.memory, number, costs, rows), rows)
+    pub fn recost<'r>(&mut self, x: Move, rows: &'r mut [Row]) -> Result<&'r [Row], Refusal> {
+        told(calls::recost(self.memory, x, rows), rows)
     }
 
     pub fn list<'r>(&self, rows: &'r mut [Row]) -> Result<Listed<'r>, Refusal> {

@@ -24,7 +24,7 @@ pub struct Row {
 #[repr(C)]
 #[derive(Clone, Copy, Debug, Default, PartialEq, Eq)]
 pub struct Answer {
-    pub number: usize,
+    pub refusal: usize,
     pub detail: usize,
     pub count: usize,
     pub opened: usize,
@@ -34,7 +34,7 @@ pub struct Answer {
 #[repr(C)]
 #[derive(Clone, Copy, Debug, Default, PartialEq, Eq)]
 pub struct AddressAnswer {
-    pub number: usize,
+    pub refusal: usize,
     pub detail: usize,
     pub address: u64,
 }
@@ -43,7 +43,7 @@ pub struct AddressAnswer {
 #[repr(C)]
 #[derive(Clone, Copy, Debug, Default, PartialEq, Eq)]
 pub struct CostsAnswer {
-    pub number: usize,
+    pub refusal: usize,
     pub detail: usize,
     pub costs: Costs,
 }
@@ -52,7 +52,7 @@ pub struct CostsAnswer {
 #[repr(C)]
 #[derive(Clone, Copy, Debug, Default, PartialEq, Eq)]
 pub struct RegionAnswer {
-    pub number: usize,
+    pub refusal: usize,
     pub detail: usize,
     pub near: Costs,
     pub far: Costs,

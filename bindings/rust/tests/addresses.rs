@@ -37,10 +37,10 @@ fn costs_to_address_and_back() {
         let costs = costs(&mut random, d);
         let answer = zorder::address(d, costs);
         assert_eq!(answer, address_answer(d, &costs), "d {d}, {costs:?}");
-        seen[answer.number] += 1;
-        if answer.number == 0 {
+        seen[answer.refusal] += 1;
+        if answer.refusal == 0 {
             let back = zorder::costs_of(d, answer.address);
-            assert_eq!((back.number, back.costs), (0, costs), "d {d}");
+            assert_eq!((back.refusal, back.costs), (0, costs), "d {d}");
         }
     }
     assert!([0, 2, 7].iter().all(|&n| seen[n] > 1000), "{seen:?}");
@@ -55,7 +55,7 @@ fn address_to_costs() {
         let address = number(&mut random, 64);
         let answer = zorder::costs_of(d, address);
         assert_eq!(answer, costs_answer(d, address), "d {d}, {address}");
-        seen[answer.number] += 1;
+        seen[answer.refusal] += 1;
     }
     assert!([0, 2, 7].iter().all(|&n| seen[n] > 1000), "{seen:?}");
 }
@@ -75,7 +75,7 @@ fn regions() {
         };
         let answer = zorder::region(d, a, b);
         assert_eq!(answer, region_answer(d, a, b), "d {d}, {a} to {b}");
-        seen[answer.number] += 1;
+        seen[answer.refusal] += 1;
     }
     assert!([0, 2, 7].iter().all(|&n| seen[n] > 1000), "{seen:?}");
 }

@@ -10,7 +10,7 @@ use dolzhev::{Call, Move};
 fn loaded(c: usize, d: usize, shape: Shape, n: usize, seed: u64) -> Against {
     let mut draw = Draw::new(seed, shape, 65536, c);
     let mut against = Against::over(calls::ask, &vec![0; 64 * c + 1024]);
-    assert_eq!(against.check(&draw.load(c, d, n), 0).answer.number, 0);
+    assert_eq!(against.check(&draw.load(c, d, n), 0).answer.refusal, 0);
     against
 }
 
@@ -21,12 +21,12 @@ fn lend_each(against: &Against, call: &Call) -> usize {
     for &lent in fewer {
         let mut copy = Against::over(calls::ask, against.memory());
         let answer = copy.check(call, lent).answer;
-        assert_eq!((answer.number, answer.detail), (8, need), "{call:?} with {lent} rows");
+        assert_eq!((answer.refusal, answer.detail), (8, need), "{call:?} with {lent} rows");
     }
     for lent in [need, need + 1] {
         let mut copy = Against::over(calls::ask, against.memory());
         let answer = copy.check(call, lent).answer;
-        assert_eq!((answer.number, answer.count), (0, need), "{call:?} with {lent} rows");
+        assert_eq!((answer.refusal, answer.count), (0, need), "{call:?} with {lent} rows");
     }
     need
 }
@@ -86,7 +86,7 @@ fn row(number: u16, costs: [u16; 4]) -> Move {
 
 fn load_answer(bytes: usize, c: usize, d: usize, rows: Vec<Move>) -> (usize, usize) {
     let answer = Against::over(calls::ask, &vec![7; bytes]).check(&Call::Load { c, d, rows }, 0).answer;
-    (answer.number, answer.detail)
+    (answer.refusal, answer.detail)
 }
 
 #[test]
@@ -114,13 +114,13 @@ fn numbers_at_the_bound() {
     let mut against = Against::over(calls::ask, &[0; 2048]);
     against.check(&Call::Load { c: 16, d: 2, rows: vec![] }, 0);
     for (number, refusal) in [(15, 0), (16, 4), (15, 5), (65535, 4)] {
-        assert_eq!(against.check(&Call::Enter { number, costs: [3, 3, 0, 0] }, 17).answer.number, refusal);
+        assert_eq!(against.check(&Call::Enter { number, costs: [3, 3, 0, 0] }, 17).answer.refusal, refusal);
     }
-    assert_eq!(against.check(&Call::Withdraw { number: 16 }, 17).answer.number, 4);
-    assert_eq!(against.check(&Call::Withdraw { number: 14 }, 17).answer.number, 6);
-    assert_eq!(against.check(&Call::Recost { number: 16, costs: [0, 0, 0, 1] }, 17).answer.number, 4);
-    assert_eq!(against.check(&Call::Recost { number: 14, costs: [0, 0, 0, 1] }, 17).answer.number, 7);
-    assert_eq!(against.check(&Call::Recost { number: 14, costs: [0, 0, 0, 0] }, 17).answer.number, 6);
+    assert_eq!(against.check(&Call::Withdraw { number: 16 }, 17).answer.refusal, 4);
+    assert_eq!(against.check(&Call::Withdraw { number: 14 }, 17).answer.refusal, 6);
+    assert_eq!(against.check(&Call::Recost { number: 16, costs: [0, 0, 0, 1] }, 17).answer.refusal, 4);
+    assert_eq!(against.check(&Call::Recost { number: 14, costs: [0, 0, 0, 1] }, 17).answer.refusal, 7);
+    assert_eq!(against.check(&Call::Recost { number: 14, costs: [0, 0, 0, 0] }, 17).answer.refusal, 6);
 }
 
 fn leaf_sizes(node: &Node) -> Vec<usize> {

@@ -70,8 +70,8 @@ fn go_on(run: &Run, draw: &mut Draw, against: &mut Against, seen: &mut Seen) -> 
         let foreseen = against.foresee(&call);
         let lent = draw.lent(run.c, foreseen.rows.len());
         let told = against.check_foreseen(&call, foreseen, lent);
-        seen[told.answer.number] += 1;
-        if told.answer.number == 0 {
+        seen[told.answer.refusal] += 1;
+        if told.answer.refusal == 0 {
             holder.hear(board.d, &call, &told.rows);
         }
         if let (Some(held), Some(board)) = (&holder.0, &against.model().board) {
@@ -86,7 +86,7 @@ fn play(ask: Ask, run: &Run, seed: u64) -> Seen {
     let mut draw = Draw::new(seed, run.shape, run.span, run.c);
     let mut against = Against::over(ask, &garbage(&mut draw.random, run.c));
     let mut seen = [0; 9];
-    seen[against.check(&Call::List, 5).answer.number] += 1;
+    seen[against.check(&Call::List, 5).answer.refusal] += 1;
     against.check(&draw.load(run.c, run.d, run.start), 0);
     let followed = go_on(run, &mut draw, &mut against, &mut seen);
     assert!(followed > run.steps / 2, "the holder followed {followed} calls only");

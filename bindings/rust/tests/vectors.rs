@@ -64,7 +64,7 @@ fn joined<T: ToString>(words: impl IntoIterator<Item = T>) -> String {
 
 /// An answer as the vectors write it.
 fn answered(call: &Call, answer: Answer, rows: &[Row]) -> String {
-    let mut words = vec![answer.number, answer.detail];
+    let mut words = vec![answer.refusal, answer.detail];
     match call {
         Call::Load { .. } => {}
         Call::List => words.extend([answer.count, answer.opened]),
@@ -177,15 +177,15 @@ impl Addresses {
         match &asked[..1] {
             "A" => {
                 let a = (self.address)(d, &costs(&w[1..]));
-                joined([a.number as u64, a.detail as u64, a.address])
+                joined([a.refusal as u64, a.detail as u64, a.address])
             }
             "U" => {
                 let a = (self.costs)(d, w[1]);
-                format!("{} {} {}", a.number, a.detail, joined(a.costs))
+                format!("{} {} {}", a.refusal, a.detail, joined(a.costs))
             }
             "R" => {
                 let a = (self.region)(d, w[1], w[2]);
-                format!("{} {} {} {} {}", a.number, a.detail, joined(a.near), joined(a.far), a.side)
+                format!("{} {} {} {} {}", a.refusal, a.detail, joined(a.near), joined(a.far), a.side)
             }
             other => panic!("{other} in a vector"),
         }

@@ -19,9 +19,9 @@ fn marked(rows: &[Row]) -> Vec<(u16, u16)> {
 fn cases_of_addresses() {
     assert_eq!(COSTS.map(|costs| zorder::address(2, costs).address), [22, 31, 12, 35, 44, 12]);
     let b = zorder::region(2, 12, 22);
-    assert_eq!((b.number, b.near, b.far, b.side), (0, [0, 0, 0, 0], [7, 7, 0, 0], 8));
+    assert_eq!((b.refusal, b.near, b.far, b.side), (0, [0, 0, 0, 0], [7, 7, 0, 0], 8));
     let c = zorder::region(2, 35, 44);
-    assert_eq!((c.number, c.near, c.far, c.side), (0, [4, 0, 0, 0], [7, 3, 0, 0], 4));
+    assert_eq!((c.refusal, c.near, c.far, c.side), (0, [4, 0, 0, 0], [7, 3, 0, 0], 4));
 }
 
 #[test]
@@ -60,10 +60,10 @@ fn refusals() {
     assert_eq!(board.load(17, 2, &[]), Err(Refusal { number: 1, detail: 0 }));
     board.load(16, 2, &moves()).unwrap();
     assert_eq!(board.list(&mut rows), Err(Refusal { number: 8, detail: 4 }));
-    assert_eq!(board.enter(5, [1, 1, 0, 0], &mut rows), Err(Refusal { number: 5, detail: 0 }));
+    assert_eq!(board.enter(Move { number: 5, costs: [1, 1, 0, 0] }, &mut rows), Err(Refusal { number: 5, detail: 0 }));
     assert_eq!(board.withdraw(9, &mut rows), Err(Refusal { number: 6, detail: 0 }));
-    assert_eq!(board.recost(0, [1, 1, 1, 0], &mut rows), Err(Refusal { number: 7, detail: 0 }));
-    assert_eq!(marked(board.recost(0, [0, 0, 0, 0], &mut [Row::default(); 17]).unwrap())[4], (2, 0));
+    assert_eq!(board.recost(Move { number: 0, costs: [1, 1, 1, 0] }, &mut rows), Err(Refusal { number: 7, detail: 0 }));
+    assert_eq!(marked(board.recost(Move { number: 0, costs: [0; 4] }, &mut [Row::default(); 17]).unwrap())[4], (2, 0));
     assert_eq!(board.load(16, 2, &[moves()[0], moves()[0]]), Err(Refusal { number: 5, detail: 1 }));
     assert_eq!(numbers(board.list(&mut rows).unwrap().rows), [0]);
 }
@@ -74,7 +74,7 @@ fn the_memory_is_the_board() {
     let mut memory = vec![0; Board::bytes(16)];
     let mut rows = [Row::default(); 17];
     Board::over(&mut memory).load(16, 2, &[]).unwrap();
-    let entered = Board::over(&mut memory).enter(3, [4, 4, 0, 0], &mut rows).unwrap().to_vec();
+    let entered = Board::over(&mut memory).enter(Move { number: 3, costs: [4, 4, 0, 0] }, &mut rows).unwrap().to_vec();
     assert_eq!(entered, [Row { mark: 2, number: 3, costs: [4, 4, 0, 0] }]);
     let mut moved = memory.clone();
     assert_eq!(numbers(Board::over(&mut moved).list(&mut rows).unwrap().rows), [3]);

@@ -67,31 +67,31 @@ fn too_large(d: usize, address: u64) -> bool {
 
 pub fn address_answer(d: usize, costs: &Costs) -> AddressAnswer {
     if count_bad(d) {
-        return AddressAnswer { number: 2, ..Default::default() };
+        return AddressAnswer { refusal: 2, ..Default::default() };
     }
     if costs_past(d, costs) {
-        return AddressAnswer { number: 7, ..Default::default() };
+        return AddressAnswer { refusal: 7, ..Default::default() };
     }
-    AddressAnswer { number: 0, detail: 0, address: address(d, costs) }
+    AddressAnswer { refusal: 0, detail: 0, address: address(d, costs) }
 }
 
 pub fn costs_answer(d: usize, address: u64) -> CostsAnswer {
     if count_bad(d) {
-        return CostsAnswer { number: 2, ..Default::default() };
+        return CostsAnswer { refusal: 2, ..Default::default() };
     }
     if too_large(d, address) {
-        return CostsAnswer { number: 7, ..Default::default() };
+        return CostsAnswer { refusal: 7, ..Default::default() };
     }
-    CostsAnswer { number: 0, detail: 0, costs: separated(d, address) }
+    CostsAnswer { refusal: 0, detail: 0, costs: separated(d, address) }
 }
 
 pub fn region_answer(d: usize, a: u64, b: u64) -> RegionAnswer {
     if count_bad(d) {
-        return RegionAnswer { number: 2, ..Default::default() };
+        return RegionAnswer { refusal: 2, ..Default::default() };
     }
     if too_large(d, a) || too_large(d, b) || a > b {
-        return RegionAnswer { number: 7, ..Default::default() };
+        return RegionAnswer { refusal: 7, ..Default::default() };
     }
     let (near, far) = corners(d, a, b);
-    RegionAnswer { number: 0, detail: 0, near: separated(d, near), far: separated(d, far), side: side(d, a, b) }
+    RegionAnswer { refusal: 0, detail: 0, near: separated(d, near), far: separated(d, far), side: side(d, a, b) }
 }

@@ -20,8 +20,8 @@ pub struct Foreseen {
 }
 
 impl Foreseen {
-    pub fn refused(number: usize, detail: usize) -> Self {
-        Foreseen { answer: Answer { number, detail, ..Answer::default() }, rows: Vec::new(), after: None }
+    pub fn refused(refusal: usize, detail: usize) -> Self {
+        Foreseen { answer: Answer { refusal, detail, ..Answer::default() }, rows: Vec::new(), after: None }
     }
 
     pub fn accepted(rows: Vec<Row>, after: Option<PlainBoard>) -> Self {

@@ -29,7 +29,7 @@ impl Model {
             return Foreseen::refused(3, 0);
         };
         let mut foreseen = board.foresee(call);
-        if let (Call::List, 0) = (call, foreseen.answer.number) {
+        if let (Call::List, 0) = (call, foreseen.answer.refusal) {
             foreseen.answer.opened = self.tree.as_ref().map_or(0, |root| root.opened(board.d, &board.moves));
         }
         foreseen

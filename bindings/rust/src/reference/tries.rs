@@ -35,12 +35,12 @@ pub fn try_all(ask: Ask, bytes: &[u8], random: &mut Random, seen: &mut Seen) {
         let mut against = Against::over(ask, bytes);
         let lent = random.one_of(&[0, 3, 17, 40]);
         let answer = against.check(&call, lent).answer;
-        assert_eq!(answer.number == 3, !sound, "{call:?}");
-        assert!(answer.number != 0 || against.is_sound(), "{call:?} left memory that is not sound");
+        assert_eq!(answer.refusal == 3, !sound, "{call:?}");
+        assert!(answer.refusal != 0 || against.is_sound(), "{call:?} left memory that is not sound");
     }
     let rows = vec![];
     let mut against = Against::over(ask, bytes);
-    assert_eq!(against.check(&Call::Load { c: 17, d: 2, rows }, 0).answer.number == 0, bytes.len() >= 2112);
+    assert_eq!(against.check(&Call::Load { c: 17, d: 2, rows }, 0).answer.refusal == 0, bytes.len() >= 2112);
     if sound {
         seen.sound += 1;
     } else {

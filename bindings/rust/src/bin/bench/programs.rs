@@ -19,7 +19,7 @@ struct OnMemory {
 impl Program for OnMemory {
     fn ask(&mut self, call: &Call) -> usize {
         let answer = (self.ask)(&mut self.memory, call, &mut self.rows);
-        assert_eq!(answer.number, 0, "{call:?}");
+        assert_eq!(answer.refusal, 0, "{call:?}");
         answer.count
     }
 }
@@ -35,7 +35,7 @@ impl Program for AllPairs {
             Call::Load { c, d, ref rows } => foresee_load(usize::MAX, c, d, rows),
             _ => self.board.foresee(call),
         };
-        assert_eq!(foreseen.answer.number, 0, "{call:?}");
+        assert_eq!(foreseen.answer.refusal, 0, "{call:?}");
         if let Some(after) = foreseen.after {
             self.board = after;
         }

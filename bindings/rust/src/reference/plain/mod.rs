@@ -15,8 +15,8 @@ mod withdraw;
 
 use crate::{Answer, Call, Row};
 
-fn refused(number: usize, detail: usize) -> Answer {
-    Answer { number, detail, ..Answer::default() }
+fn refused(refusal: usize, detail: usize) -> Answer {
+    Answer { refusal, detail, ..Answer::default() }
 }
 
 fn told(count: usize) -> Answer {
