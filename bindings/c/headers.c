@@ -1,4 +1,4 @@
-/* What the C compiler makes of the headers: a line for each struct and field, held against the Rust structs by a test. */
+/* What the C compiler makes of the headers: a line for each struct, field and refusal, held against Rust's by a test. */
 #include <stdio.h>
 
 #include "dolzhev.h"
@@ -41,9 +41,16 @@ static void zorder_structs(void)
     FIELD(dolzhev_region_answer, side);
 }
 
+static void refusals(void)
+{
+    for (size_t refusal = DOLZHEV_ACCEPTED; refusal <= DOLZHEV_FEW_ROWS + 1; refusal++)
+        printf("%zu %s\n", refusal, dolzhev_refusal_text(refusal));
+}
+
 int main(void)
 {
     board_structs();
     zorder_structs();
+    refusals();
     return 0;
 }

@@ -3,12 +3,12 @@
 use std::env;
 use std::path::PathBuf;
 
-const ARCHIVES: &str = include_str!("../archives");
+const ARCHIVES: &str = include_str!("../../archives");
 
 fn folder() -> PathBuf {
     match env::var_os("DOLZHEV_LIBS") {
         Some(folder) => PathBuf::from(folder),
-        None => PathBuf::from(env!("CARGO_MANIFEST_DIR")).join("../../target/staticlib"),
+        None => PathBuf::from(env!("CARGO_MANIFEST_DIR")).join("../../../target/staticlib"),
     }
 }
 

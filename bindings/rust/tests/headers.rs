@@ -1,5 +1,6 @@
-//! The structs of Rust are those of the headers: bindings/c/sizes.c, compiled here, prints sizes and offsets.
-use dolzhev::{AddressAnswer, Answer, Costs, CostsAnswer, Move, RegionAnswer, Row};
+//! The structs and the words of Rust are those of the headers: bindings/c/headers.c, compiled here, prints them.
+use dolzhev::Refusal;
+use dolzhev_sys::{AddressAnswer, Answer, Costs, CostsAnswer, Move, RegionAnswer, Row};
 use std::mem::{align_of, offset_of, size_of};
 use std::path::Path;
 use std::process::{Command, Output};
@@ -49,6 +50,26 @@ fn zorder_structs() -> Vec<String> {
     ]
 }
 
+/// The words of each refusal, with no detail; those of 8 always have one.
+fn refusals() -> Vec<String> {
+    let place = None;
+    let refusals = [
+        Refusal::ShortMemory,
+        Refusal::OutOfRange,
+        Refusal::Unsound,
+        Refusal::NumberTooLarge { place },
+        Refusal::NumberTwice { place },
+        Refusal::NumberAbsent,
+        Refusal::BadArgument { place },
+        Refusal::FewRows { needed: 5 },
+    ];
+    let line = |refusal: Refusal| format!("{} {refusal}", refusal.number()).replace(" (5)", "");
+    let mut lines: Vec<String> = refusals.into_iter().map(line).collect();
+    lines.insert(0, "0 accepted".to_string());
+    lines.push("9 no refusal has this number".to_string());
+    lines
+}
+
 fn succeeded(output: Output) -> String {
     assert!(output.status.success(), "{}", String::from_utf8_lossy(&output.stderr));
     String::from_utf8(output.stdout).unwrap()
@@ -57,7 +78,7 @@ fn succeeded(output: Output) -> String {
 /// What a C program of bindings/c prints; the compiler is `CC`, or cc.
 fn printed(source: &str) -> String {
     let bindings = Path::new(env!("CARGO_MANIFEST_DIR")).parent().unwrap();
-    let program = Path::new(env!("CARGO_TARGET_TMPDIR")).join("sizes");
+    let program = Path::new(env!("CARGO_TARGET_TMPDIR")).join("headers");
     let compiler = std::env::var("CC").unwrap_or("cc".to_string());
     let mut compile = Command::new(compiler);
     compile.args(["-std=c11", "-Wall", "-Wextra", "-Werror", "-I"]).arg(bindings.join("../include"));
@@ -67,10 +88,9 @@ fn printed(source: &str) -> String {
 }
 
 #[test]
-fn structs_of_the_headers() {
-    let mut expected = board_structs();
-    expected.extend(zorder_structs());
-    let printed = printed("sizes.c");
+fn structs_and_words_of_the_headers() {
+    let expected = [board_structs(), zorder_structs(), refusals()].concat();
+    let printed = printed("headers.c");
     assert_eq!(printed.lines().collect::<Vec<_>>(), expected);
 }
 
@@ -80,4 +100,12 @@ fn sizes_as_documented() {
     assert_eq!([size_of::<Move>(), size_of::<Row>(), size_of::<Answer>(), size_of::<Costs>()], [10, 12, 32, 8]);
     assert_eq!([size_of::<AddressAnswer>(), size_of::<CostsAnswer>(), size_of::<RegionAnswer>()], [24, 24, 40]);
     assert_eq!([align_of::<Move>(), align_of::<Row>()], [2, 2]);
+}
+
+/// The detail, where there is one.
+#[test]
+fn words_with_a_detail() {
+    let taken = Refusal::NumberTwice { place: Some(3) };
+    assert_eq!(taken.to_string(), "the number is taken (row 3)");
+    assert_eq!(Refusal::FewRows { needed: 4 }.to_string(), "more rows are needed than lent (4)");
 }

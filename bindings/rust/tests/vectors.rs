@@ -1,10 +1,10 @@
 //! The outside vectors of bindings/vectors, line by line: answered by the library, by the model and by the plain board. The
 //! tree lines are held against the bytes of the memory.
-use dolzhev::reference::against::Ask;
-use dolzhev::reference::model::Model;
-use dolzhev::reference::node::written;
-use dolzhev::reference::{address, layout, plain};
-use dolzhev::{calls, zorder, AddressAnswer, Answer, Call, Costs, CostsAnswer, Move, RegionAnswer, Row};
+use reference::against::Ask;
+use reference::model::Model;
+use reference::node::written;
+use reference::{address, layout, plain};
+use reference::{library, AddressAnswer, Answer, Call, Costs, CostsAnswer, Move, RegionAnswer, Row};
 use std::fs;
 
 const BOARDS: [(&str, usize); 4] = [
@@ -146,7 +146,7 @@ fn play_memory(ask: Ask) {
 
 #[test]
 fn library_on_boards() {
-    play_memory(calls::ask);
+    play_memory(library::ask);
 }
 
 #[test]
@@ -200,8 +200,12 @@ impl Addresses {
 
 #[test]
 fn library_on_addresses() {
-    Addresses { address: |d, costs| zorder::address(d, *costs), costs: zorder::costs_of, region: zorder::region }
-        .play();
+    Addresses {
+        address: |d, costs| dolzhev_sys::address(d, *costs),
+        costs: dolzhev_sys::costs_of,
+        region: dolzhev_sys::region,
+    }
+    .play();
 }
 
 #[test]

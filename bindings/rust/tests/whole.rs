@@ -1,12 +1,12 @@
 //! What single calls do not show: a board takes every number again and again, and two boards do not see each other.
-use dolzhev::calls;
-use dolzhev::reference::against::Against;
-use dolzhev::reference::draw::Draw;
-use dolzhev::reference::random::{costs, Random, Shape};
-use dolzhev::Call;
+use reference::against::Against;
+use reference::draw::Draw;
+use reference::library;
+use reference::random::{costs, Random, Shape};
+use reference::Call;
 
 fn empty_board(c: usize, d: usize) -> Against {
-    let mut against = Against::over(calls::ask, &vec![0xFF; 64 * c + 1024]);
+    let mut against = Against::over(library::ask, &vec![0xFF; 64 * c + 1024]);
     assert_eq!(against.check(&Call::Load { c, d, rows: vec![] }, 0).answer.refusal, 0);
     against
 }

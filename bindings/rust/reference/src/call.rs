@@ -1,5 +1,5 @@
-//! A call as a value, for whoever records, replays or compares calls.
-use crate::types::{Costs, Move};
+//! A call as a value: drawn, made, foreseen and compared.
+use crate::{Costs, Move};
 
 #[derive(Clone, Debug, PartialEq, Eq)]
 pub enum Call {

@@ -12,6 +12,13 @@ pub struct Seen {
     pub unsound: usize,
 }
 
+impl Seen {
+    pub fn count(&mut self, sound: bool) {
+        let counted = if sound { &mut self.sound } else { &mut self.unsound };
+        *counted += 1;
+    }
+}
+
 /// One call of each kind, as good as blind.
 fn each_call(random: &mut Random) -> Vec<Call> {
     let number = random.below(20) as u16;
@@ -41,11 +48,7 @@ pub fn try_all(ask: Ask, bytes: &[u8], random: &mut Random, seen: &mut Seen) {
     let rows = vec![];
     let mut against = Against::over(ask, bytes);
     assert_eq!(against.check(&Call::Load { c: 17, d: 2, rows }, 0).answer.refusal == 0, bytes.len() >= 2112);
-    if sound {
-        seen.sound += 1;
-    } else {
-        seen.unsound += 1;
-    }
+    seen.count(sound);
 }
 
 /// A board that has seen changes, in memory that was garbage.

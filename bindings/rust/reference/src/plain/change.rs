@@ -5,7 +5,7 @@ use super::tell::{set_marks, tell};
 use super::upkeep::{upkeep_of, Change};
 use super::withdraw::withdraw_row;
 use super::{refused, told};
-use crate::reference::address::costs_past;
+use crate::address::costs_past;
 use crate::{Answer, Costs, Move, Row};
 
 /// The notice told, the marks set, and then the rows changed.

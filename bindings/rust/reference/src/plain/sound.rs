@@ -1,7 +1,7 @@
 //! Whether the memory is sound.
 use super::bytes::Head;
 use super::order::stands_before;
-use crate::reference::dominance::dominates;
+use crate::dominance::dominates;
 use crate::Costs;
 
 fn head(m: &[u8]) -> Option<Head> {

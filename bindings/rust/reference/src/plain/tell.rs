@@ -3,7 +3,7 @@ use super::bytes::Head;
 use super::enter::place_for;
 use super::set::Set;
 use super::upkeep::{Change, Upkeep};
-use crate::reference::lists::row;
+use crate::lists::row;
 use crate::Row;
 use std::ops::Range;
 

@@ -1,7 +1,7 @@
 //! What a change does to the list, found without writing.
 use super::bytes::Head;
 use super::set::Set;
-use crate::reference::dominance::dominates;
+use crate::dominance::dominates;
 use crate::{Costs, Move};
 
 /// The place of the move that goes, and the move that comes.

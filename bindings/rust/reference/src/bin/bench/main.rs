@@ -5,8 +5,8 @@
 mod programs;
 mod rounds;
 
-use dolzhev::reference::random::Shape;
 use programs::{programs, Program, PROGRAMS};
+use reference::random::Shape;
 use rounds::Rounds;
 use std::time::{Duration, Instant};
 

@@ -1,8 +1,8 @@
 //! The three programs that are timed, each with a board of its own.
-use dolzhev::reference::against::Ask;
-use dolzhev::reference::board::{foresee_load, PlainBoard};
-use dolzhev::reference::plain;
-use dolzhev::{calls, Call, Row};
+use reference::against::Ask;
+use reference::board::{foresee_load, PlainBoard};
+use reference::plain;
+use reference::{library, Call, Row};
 
 /// A program makes a call and says how many rows it told.
 pub trait Program {
@@ -49,5 +49,5 @@ pub const PROGRAMS: usize = 3;
 pub fn programs(c: usize, d: usize) -> [Box<dyn Program>; PROGRAMS] {
     let on_memory = |ask: Ask| OnMemory { ask, memory: vec![0; 64 * c + 1024], rows: vec![Row::default(); c + 1] };
     let all_pairs = AllPairs { board: PlainBoard::new(c, d, Vec::new()) };
-    [Box::new(on_memory(calls::ask)), Box::new(all_pairs), Box::new(on_memory(plain::ask))]
+    [Box::new(on_memory(library::ask)), Box::new(all_pairs), Box::new(on_memory(plain::ask))]
 }

@@ -1,6 +1,6 @@
 //! What is asked of a board: a round has each call once and leaves the board full again.
-use dolzhev::reference::random::{costs, moves, Random, Shape};
-use dolzhev::{Call, Costs};
+use reference::random::{costs, moves, Random, Shape};
+use reference::{Call, Costs};
 
 pub struct Rounds {
     random: Random,
