@@ -14,8 +14,8 @@
  *   or written, but must be all the same non-null and aligned (any such address serves); NULL is never allowed.
  *
  * What is answered
- *   refusal  0 where the call is accepted. The checks run in the order given with each call. dolzhev_refusal_text has it in
- *            words.
+ *   refusal  0 where the call is accepted, else one of DOLZHEV_SHORT_MEMORY to DOLZHEV_FEW_ROWS; dolzhev_refusal_text has it
+ *            in words. The checks run in the order given with each call.
  *   detail   of 8 the rows needed; of the 4, 5 and 7 of dolzhev_load the place, from 0, of the first row that fails; else 0.
  *   count    the rows written, at the start of the lent ones. Rows past them are untouched.
  *   opened   of dolzhev_list the nodes opened; else 0.
