@@ -9,13 +9,13 @@
  *   memory   at least 64 * C + 1024 bytes (DOLZHEV_MEMORY_BYTES) for a board of size C, of any alignment. Bytes past these
  *            are never written. Only dolzhev_load, dolzhev_enter, dolzhev_withdraw and dolzhev_recost write it at all, and
  *            only where they are accepted.
- *   rows     a multiple of 2 as address. `lent` counts rows, not bytes. For a notice C + 1 rows always suffice
- *            (DOLZHEV_NOTICE_ROWS), for a list C rows do.
- *   Buffers of one call must not overlap. A pointer whose length is 0 is not read or written, but must be all the same
- *   non-null and aligned (any such address serves); NULL is never allowed.
+ *   rows     a multiple of 2 as address. For a notice C + 1 rows always suffice (DOLZHEV_NOTICE_ROWS), for a list C rows do.
+ *   `memory_len` counts bytes, `rows_len` rows. Buffers of one call must not overlap. A pointer whose length is 0 is not read
+ *   or written, but must be all the same non-null and aligned (any such address serves); NULL is never allowed.
  *
  * What is answered
- *   number   0 where the call is accepted, else the refusal. The checks run in the order given with each call.
+ *   refusal  0 where the call is accepted, else one of DOLZHEV_SHORT_MEMORY to DOLZHEV_FEW_ROWS; dolzhev_refusal_text has it
+ *            in words. The checks run in the order given with each call.
  *   detail   of 8 the rows needed; of the 4, 5 and 7 of dolzhev_load the place, from 0, of the first row that fails; else 0.
  *   count    the rows written, at the start of the lent ones. Rows past them are untouched.
  *   opened   of dolzhev_list the nodes opened; else 0.
@@ -42,7 +42,7 @@ enum {
     DOLZHEV_ENTERED = 2
 };
 
-/* A row to load: a number from 0 to C - 1, and its costs. */
+/* A move: a number from 0 to C - 1, and its costs, those past d zero. Less is better. */
 typedef struct {
     uint16_t number;
     uint16_t costs[4];
@@ -56,7 +56,7 @@ typedef struct {
 } dolzhev_row;
 
 typedef struct {
-    size_t number;
+    size_t refusal;
     size_t detail;
     size_t count;
     size_t opened;
@@ -70,7 +70,8 @@ DOLZHEV_HOLDS(sizeof(dolzhev_answer) == 32, "four words");
  * allowed.
  * Refusals, in order: 2 if c or d is out of range, 1 if the memory is under 64 * c + 1024 bytes; then the rows in turn, each
  * for 4 (number at or above c), 7 (a cost past d not zero), 5 (number in an earlier row). */
-dolzhev_answer dolzhev_load(uint8_t *memory, size_t bytes, size_t c, size_t d, const dolzhev_move *rows, size_t rows_len);
+dolzhev_answer dolzhev_load(uint8_t *memory, size_t memory_len, size_t c, size_t d, const dolzhev_move *rows,
+                            size_t rows_len);
 
 /* The three changes. Each writes the notice: first the rows that leave the list (mark 1), then those that enter it (mark 2),
  * each part in Z-order. Who holds the list, takes out the former and puts in the latter, holds the new list. */
@@ -78,42 +79,40 @@ dolzhev_answer dolzhev_load(uint8_t *memory, size_t bytes, size_t c, size_t d, c
 /* Adds a move.
  * Refusals, in order: 3 if the memory is not sound, 4 if the number is at or above C, 7 if a cost past d is not zero, 5 if
  * the number is on the board, 8. */
-dolzhev_answer dolzhev_enter(uint8_t *memory, size_t bytes, uint16_t number, dolzhev_costs costs, dolzhev_row *rows,
-                             size_t lent);
+dolzhev_answer dolzhev_enter(uint8_t *memory, size_t memory_len, dolzhev_move move, dolzhev_row *rows, size_t rows_len);
 
-/* Takes a move away.
+/* Takes the move of that number away.
  * Refusals, in order: 3 if the memory is not sound, 4 if the number is at or above C, 6 if the number is not on the board,
  * 8. */
-dolzhev_answer dolzhev_withdraw(uint8_t *memory, size_t bytes, uint16_t number, dolzhev_row *rows, size_t lent);
+dolzhev_answer dolzhev_withdraw(uint8_t *memory, size_t memory_len, uint16_t number, dolzhev_row *rows, size_t rows_len);
 
-/* Gives a move new costs. Costs equal to the old ones are accepted, need no row and change nothing.
+/* Gives the move of that number new costs. Costs equal to the old ones are accepted, need no row and change nothing.
  * Refusals, in order: 3 if the memory is not sound, 4 if the number is at or above C, 7 if a cost past d is not zero, 6 if
  * the number is not on the board, 8. */
-dolzhev_answer dolzhev_recost(uint8_t *memory, size_t bytes, uint16_t number, dolzhev_costs costs, dolzhev_row *rows,
-                              size_t lent);
+dolzhev_answer dolzhev_recost(uint8_t *memory, size_t memory_len, dolzhev_move move, dolzhev_row *rows, size_t rows_len);
 
 /* The lists. Each writes rows with mark 0, in Z-order, but for dolzhev_rank. */
 
 /* The moves that no move dominates; `opened` is the number of nodes whose near corner no move dominates.
  * Refusals, in order: 3 if the memory is not sound, 8. */
-dolzhev_answer dolzhev_list(const uint8_t *memory, size_t bytes, dolzhev_row *rows, size_t lent);
+dolzhev_answer dolzhev_list(const uint8_t *memory, size_t memory_len, dolzhev_row *rows, size_t rows_len);
 
 /* The moves that b others or fewer dominate, b from 0 to 4,095.
  * Refusals, in order: 3 if the memory is not sound, 7 if b is out of range, 8. */
-dolzhev_answer dolzhev_band(const uint8_t *memory, size_t bytes, size_t b, dolzhev_row *rows, size_t lent);
+dolzhev_answer dolzhev_band(const uint8_t *memory, size_t memory_len, size_t b, dolzhev_row *rows, size_t rows_len);
 
 /* Of the listed moves the first t by number of moves dominated, most first, ties in Z-order; fewer if the list is shorter. t
  * is from 1 to 4,096. `mark` is the number of moves dominated.
  * Refusals, in order: 3 if the memory is not sound, 7 if t is out of range, 8. */
-dolzhev_answer dolzhev_rank(const uint8_t *memory, size_t bytes, size_t t, dolzhev_row *rows, size_t lent);
+dolzhev_answer dolzhev_rank(const uint8_t *memory, size_t memory_len, size_t t, dolzhev_row *rows, size_t rows_len);
 
 /* The moves that no move dominates on k of the costs, k from 1 to d.
  * Refusals, in order: 3 if the memory is not sound, 7 if k is out of range, 8. */
-dolzhev_answer dolzhev_on_k(const uint8_t *memory, size_t bytes, size_t k, dolzhev_row *rows, size_t lent);
+dolzhev_answer dolzhev_on_k(const uint8_t *memory, size_t memory_len, size_t k, dolzhev_row *rows, size_t rows_len);
 
 /* The moves that no move dominates on the chosen costs: bit i of the set stands for cost i.
  * Refusals, in order: 3 if the memory is not sound, 7 if the set is empty or has a bit past cost d - 1, 8. */
-dolzhev_answer dolzhev_chosen(const uint8_t *memory, size_t bytes, size_t set, dolzhev_row *rows, size_t lent);
+dolzhev_answer dolzhev_chosen(const uint8_t *memory, size_t memory_len, size_t set, dolzhev_row *rows, size_t rows_len);
 
 #ifdef __cplusplus
 }

@@ -6,7 +6,7 @@
  * d is the number of costs, 2 to 4. Costs past d are zero. An address has 16 groups of d bits, highest group first; in the
  * group for bit j of the costs, bit j of cost i stands before that of cost i + 1.
  *
- * `number` is 0 where the call is accepted; else it is the refusal and every other field is zero. */
+ * `refusal` is 0 where the call is accepted; else every other field is zero. */
 #ifndef DOLZHEV_ZORDER_H
 #define DOLZHEV_ZORDER_H
 
@@ -33,6 +33,23 @@ enum {
     DOLZHEV_FEW_ROWS = 8
 };
 
+/* A refusal in words. */
+static inline const char *dolzhev_refusal_text(size_t refusal)
+{
+    static const char *const texts[] = {
+        "accepted",
+        "the memory is too short",
+        "the board's size or the number of costs is out of range",
+        "the memory is not sound",
+        "the number is at or above the board's size",
+        "the number is taken",
+        "the number is not on the board",
+        "a cost past d is not zero, or an argument is out of range",
+        "more rows are needed than lent",
+    };
+    return refusal < sizeof texts / sizeof texts[0] ? texts[refusal] : "no refusal has this number";
+}
+
 /* Four costs by value, those past d zero. Less is better. */
 typedef struct {
     uint16_t costs[4];
@@ -40,19 +57,19 @@ typedef struct {
 
 /* Each answer: 0 or the refusal, its detail (always 0 here), and what is told, zero where refused. */
 typedef struct {
-    size_t number;
+    size_t refusal;
     size_t detail;
     uint64_t address;
 } dolzhev_address_answer;
 
 typedef struct {
-    size_t number;
+    size_t refusal;
     size_t detail;
     dolzhev_costs costs;
 } dolzhev_costs_answer;
 
 typedef struct {
-    size_t number;
+    size_t refusal;
     size_t detail;
     dolzhev_costs near_corner;
     dolzhev_costs far_corner;

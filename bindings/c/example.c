@@ -14,7 +14,7 @@ static const dolzhev_move worked[] = {
 /* All that a board needs: the caller lends it to every call. */
 static uint8_t memory[DOLZHEV_MEMORY_BYTES(SIZE)];
 static dolzhev_row rows[DOLZHEV_NOTICE_ROWS(SIZE)];
-static const size_t lent = sizeof rows / sizeof rows[0];
+static const size_t rows_len = sizeof rows / sizeof rows[0];
 
 static void print_rows(size_t count)
 {
@@ -25,8 +25,9 @@ static void print_rows(size_t count)
 
 static void print_answer(const char *call, dolzhev_answer answer)
 {
-    if (answer.number != DOLZHEV_ACCEPTED) {
-        printf("%s: refused with %zu, detail %zu\n", call, answer.number, answer.detail);
+    if (answer.refusal != DOLZHEV_ACCEPTED) {
+        const char *text = dolzhev_refusal_text(answer.refusal);
+        printf("%s: refused with %zu, detail %zu: %s\n", call, answer.refusal, answer.detail, text);
         return;
     }
     printf("%s: accepted, rows told: %zu\n", call, answer.count);
@@ -35,24 +36,23 @@ static void print_answer(const char *call, dolzhev_answer answer)
 
 static void print_list(void)
 {
-    dolzhev_answer answer = dolzhev_list(memory, sizeof memory, rows, lent);
+    dolzhev_answer answer = dolzhev_list(memory, sizeof memory, rows, rows_len);
     print_answer("list", answer);
-    if (answer.number == DOLZHEV_ACCEPTED)
+    if (answer.refusal == DOLZHEV_ACCEPTED)
         printf("  nodes opened: %zu\n", answer.opened);
 }
 
 static void change(void)
 {
-    dolzhev_costs costs = {{4, 1, 0, 0}};
-    print_answer("enter 6 (4, 1)", dolzhev_enter(memory, sizeof memory, 6, costs, rows, lent));
-    print_answer("enter 6 again", dolzhev_enter(memory, sizeof memory, 6, costs, rows, lent));
-    print_answer("withdraw 6", dolzhev_withdraw(memory, sizeof memory, 6, rows, lent));
-    print_answer("withdraw 2", dolzhev_withdraw(memory, sizeof memory, 2, rows, lent));
-    print_answer("withdraw 5", dolzhev_withdraw(memory, sizeof memory, 5, rows, lent));
-    print_answer("withdraw 3", dolzhev_withdraw(memory, sizeof memory, 3, rows, lent));
-    costs.costs[0] = 0;
-    print_answer("re-cost 1 to (0, 1), no row lent", dolzhev_recost(memory, sizeof memory, 1, costs, rows, 0));
-    print_answer("re-cost 1 to (0, 1)", dolzhev_recost(memory, sizeof memory, 1, costs, rows, lent));
+    dolzhev_move six = {6, {4, 1, 0, 0}}, one = {1, {0, 1, 0, 0}};
+    print_answer("enter 6 (4, 1)", dolzhev_enter(memory, sizeof memory, six, rows, rows_len));
+    print_answer("enter 6 again", dolzhev_enter(memory, sizeof memory, six, rows, rows_len));
+    print_answer("withdraw 6", dolzhev_withdraw(memory, sizeof memory, 6, rows, rows_len));
+    print_answer("withdraw 2", dolzhev_withdraw(memory, sizeof memory, 2, rows, rows_len));
+    print_answer("withdraw 5", dolzhev_withdraw(memory, sizeof memory, 5, rows, rows_len));
+    print_answer("withdraw 3", dolzhev_withdraw(memory, sizeof memory, 3, rows, rows_len));
+    print_answer("re-cost 1 to (0, 1), no row lent", dolzhev_recost(memory, sizeof memory, one, rows, 0));
+    print_answer("re-cost 1 to (0, 1)", dolzhev_recost(memory, sizeof memory, one, rows, rows_len));
 }
 
 static void print_first_address(void)

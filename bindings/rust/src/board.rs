@@ -1,32 +1,27 @@
 //! A board over borrowed memory.
-use crate::calls;
-use crate::types::{Answer, Costs, Move, Row};
-
-/// The refusal's number and its detail.
-#[derive(Clone, Copy, Debug, PartialEq, Eq)]
-pub struct Refusal {
-    pub number: usize,
-    pub detail: usize,
-}
+use crate::{Move, Ranked, Refusal, Row};
+use dolzhev_sys as raw;
 
 /// The rows of a list, and the nodes opened for it.
 #[derive(Clone, Copy, Debug, PartialEq, Eq)]
 pub struct Listed<'r> {
+    /// The listed moves, in Z-order.
     pub rows: &'r [Row],
+    /// The nodes whose near corner no move dominates.
     pub opened: usize,
 }
 
-/// What the memory holds is judged anew by every call, so a board may lie over any bytes: those that are none answer with
-/// refusal 3 until a load is accepted.
+/// A board over memory that the program lends. What the memory holds is judged anew by every call, so a board may lie over
+/// any bytes: those that are none are [`Refusal::Unsound`] until a load is accepted.
+///
+/// The calls write their rows at the start of the lent ones, and hand back those.
 pub struct Board<'m> {
     memory: &'m mut [u8],
 }
 
-fn told(answer: Answer, rows: &[Row]) -> Result<&[Row], Refusal> {
-    match answer.number {
-        0 => Ok(&rows[..answer.count]),
-        number => Err(Refusal { number, detail: answer.detail }),
-    }
+/// The rows told by a call other than load.
+fn told<T>(answer: raw::Answer, rows: &[T]) -> Result<&[T], Refusal> {
+    Refusal::judge(answer.refusal, answer.detail, None).map(|()| &rows[..answer.count])
 }
 
 impl<'m> Board<'m> {
@@ -40,44 +35,55 @@ impl<'m> Board<'m> {
         c + 1
     }
 
+    /// The board that the memory holds, or will hold after a load.
     pub fn over(memory: &'m mut [u8]) -> Self {
         Board { memory }
     }
 
-    pub fn load(&mut self, c: usize, d: usize, rows: &[Move]) -> Result<(), Refusal> {
-        told(calls::load(self.memory, c, d, rows), &[]).map(|_| ())
+    /// Overwrites the memory with a board of size c, 16 to 4,096, and d costs, 2 to 4, that holds the moves.
+    pub fn load(&mut self, c: usize, d: usize, moves: &[Move]) -> Result<(), Refusal> {
+        let answer = raw::load(self.memory, c, d, moves);
+        Refusal::judge(answer.refusal, answer.detail, Some(answer.detail))
     }
 
-    pub fn enter<'r>(&mut self, number: u16, costs: Costs, rows: &'r mut [Row]) -> Result<&'r [Row], Refusal> {
-        told(calls::enter(self.memory, number, costs, rows), rows)
+    /// Adds a move. The notice: first the rows that left the list, then those that entered it, each part in Z-order.
+    pub fn enter<'r>(&mut self, x: Move, rows: &'r mut [Row]) -> Result<&'r [Row], Refusal> {
+        told(raw::enter(self.memory, x, Row::lend(rows)), rows)
     }
 
+    /// Takes the move of that number away, and tells the notice.
     pub fn withdraw<'r>(&mut self, number: u16, rows: &'r mut [Row]) -> Result<&'r [Row], Refusal> {
-        told(calls::withdraw(self.memory, number, rows), rows)
+        told(raw::withdraw(self.memory, number, Row::lend(rows)), rows)
     }
 
-    pub fn recost<'r>(&mut self, number: u16, costs: Costs, rows: &'r mut [Row]) -> Result<&'r [Row], Refusal> {
-        told(calls::recost(self.memory, number, costs, rows), rows)
+    /// Gives the move of that number new costs, and tells the notice. Equal costs change nothing.
+    pub fn recost<'r>(&mut self, x: Move, rows: &'r mut [Row]) -> Result<&'r [Row], Refusal> {
+        told(raw::recost(self.memory, x, Row::lend(rows)), rows)
     }
 
+    /// The moves that no move dominates, in Z-order.
     pub fn list<'r>(&self, rows: &'r mut [Row]) -> Result<Listed<'r>, Refusal> {
-        let answer = calls::list(self.memory, rows);
+        let answer = raw::list(self.memory, Row::lend(rows));
         told(answer, rows).map(|rows| Listed { rows, opened: answer.opened })
     }
 
+    /// The moves that b others or fewer dominate, b from 0 to 4,095, in Z-order.
     pub fn band<'r>(&self, b: usize, rows: &'r mut [Row]) -> Result<&'r [Row], Refusal> {
-        told(calls::band(self.memory, b, rows), rows)
+        told(raw::band(self.memory, b, Row::lend(rows)), rows)
     }
 
-    pub fn rank<'r>(&self, t: usize, rows: &'r mut [Row]) -> Result<&'r [Row], Refusal> {
-        told(calls::rank(self.memory, t, rows), rows)
+    /// Of the listed moves the first t, 1 to 4,096, by number of moves dominated, most first, ties in Z-order.
+    pub fn rank<'r>(&self, t: usize, rows: &'r mut [Ranked]) -> Result<&'r [Ranked], Refusal> {
+        told(raw::rank(self.memory, t, Ranked::lend(rows)), rows)
     }
 
+    /// The moves that no move dominates on k of the costs, k from 1 to d, in Z-order.
     pub fn on_k<'r>(&self, k: usize, rows: &'r mut [Row]) -> Result<&'r [Row], Refusal> {
-        told(calls::on_k(self.memory, k, rows), rows)
+        told(raw::on_k(self.memory, k, Row::lend(rows)), rows)
     }
 
+    /// The moves that no move dominates on the chosen costs, bit i of the set standing for cost i, in Z-order.
     pub fn chosen<'r>(&self, set: usize, rows: &'r mut [Row]) -> Result<&'r [Row], Refusal> {
-        told(calls::chosen(self.memory, set, rows), rows)
+        told(raw::chosen(self.memory, set, Row::lend(rows)), rows)
     }
 }

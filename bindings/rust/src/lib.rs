@@ -1,17 +1,30 @@
-//! The verified move board, called from Rust.
+//! The verified move board, called from Rust: the moves that no other move dominates, in Z-order.
 //!
-//! [`Board`] is what a program uses; [`calls`] are the same calls as plain functions that hand on the answer's numbers;
-//! [`zorder`] has addresses and regions. `include/dolzhev.h` says what each call does and what turns it down.
+//! [`Board`] is a board over memory that the program lends; [`zorder`] has addresses and regions without one. Nothing here
+//! allocates. A call that is turned down says why by a [`Refusal`], and has altered nothing. An archive that does not fit
+//! this crate, since it answers with numbers that the crate does not know, makes a call panic.
 //!
-//! [`reference`] serves the tests and the benchmark only: nothing else uses it, and it calls nothing of the library.
+//! ```
+//! use dolzhev::{Board, Mark, Move, Refusal, Row};
+//!
+//! let mut memory = [0; Board::bytes(16)];
+//! let mut rows = [Row::default(); Board::notice_rows(16)];
+//! let mut board = Board::over(&mut memory);
+//! board.load(16, 2, &[Move { number: 0, costs: [1, 6, 0, 0] }, Move { number: 1, costs: [3, 7, 0, 0] }])?;
+//!
+//! let notice = board.enter(Move { number: 2, costs: [2, 2, 0, 0] }, &mut rows)?;
+//! assert_eq!((notice[0].mark(), notice[0].number), (Mark::Entered, 2));
+//! assert_eq!(board.list(&mut rows)?.rows.len(), 2);
+//! assert_eq!(board.withdraw(9, &mut rows), Err(Refusal::NumberAbsent));
+//! # Ok::<(), Refusal>(())
+//! ```
+#![deny(missing_docs)]
 mod board;
-mod call;
-pub mod calls;
-mod raw;
-pub mod reference;
-mod types;
+mod refusal;
+mod row;
 pub mod zorder;
 
-pub use board::{Board, Listed, Refusal};
-pub use call::Call;
-pub use types::{AddressAnswer, Answer, Costs, CostsAnswer, Move, RegionAnswer, Row};
+pub use board::{Board, Listed};
+pub use dolzhev_sys::{Costs, Move};
+pub use refusal::Refusal;
+pub use row::{Mark, Ranked, Row};

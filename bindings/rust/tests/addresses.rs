@@ -1,7 +1,9 @@
-//! Addresses and regions on random arguments, in and out of range, against the model.
-use dolzhev::reference::address::{address_answer, costs_answer, region_answer};
-use dolzhev::reference::random::Random;
-use dolzhev::{zorder, Costs};
+//! Addresses and regions on random arguments, in and out of range: the archive against the model, and the library against
+//! the archive.
+use dolzhev::{zorder, Costs, Refusal};
+use dolzhev_sys as raw;
+use reference::address::{address_answer, costs_answer, region_answer};
+use reference::random::Random;
 
 const ROUNDS: usize = 100_000;
 
@@ -24,6 +26,14 @@ fn costs(random: &mut Random, d: usize) -> Costs {
     costs
 }
 
+/// Whether the library hands on the value, or the refusal where there is one.
+fn handed_on<T: PartialEq>(refusal: usize, value: T, handed: Result<T, Refusal>) -> bool {
+    match handed {
+        Ok(handed) => refusal == 0 && handed == value,
+        Err(handed) => handed.number() == refusal,
+    }
+}
+
 fn dimension(random: &mut Random) -> usize {
     random.one_of(&[0, 1, 2, 2, 2, 3, 3, 3, 4, 4, 4, 5, usize::MAX])
 }
@@ -35,12 +45,13 @@ fn costs_to_address_and_back() {
     for _ in 0..ROUNDS {
         let d = dimension(&mut random);
         let costs = costs(&mut random, d);
-        let answer = zorder::address(d, costs);
+        let answer = raw::address(d, costs);
         assert_eq!(answer, address_answer(d, &costs), "d {d}, {costs:?}");
-        seen[answer.number] += 1;
-        if answer.number == 0 {
-            let back = zorder::costs_of(d, answer.address);
-            assert_eq!((back.number, back.costs), (0, costs), "d {d}");
+        seen[answer.refusal] += 1;
+        let handed = zorder::address(d, costs);
+        assert!(handed_on(answer.refusal, answer.address, handed), "d {d}, {costs:?}");
+        if let Ok(address) = handed {
+            assert_eq!(zorder::costs_of(d, address), Ok(costs), "d {d}");
         }
     }
     assert!([0, 2, 7].iter().all(|&n| seen[n] > 1000), "{seen:?}");
@@ -53,9 +64,10 @@ fn address_to_costs() {
     for _ in 0..ROUNDS {
         let d = dimension(&mut random);
         let address = number(&mut random, 64);
-        let answer = zorder::costs_of(d, address);
+        let answer = raw::costs_of(d, address);
         assert_eq!(answer, costs_answer(d, address), "d {d}, {address}");
-        seen[answer.number] += 1;
+        assert!(handed_on(answer.refusal, answer.costs, zorder::costs_of(d, address)), "d {d}, {address}");
+        seen[answer.refusal] += 1;
     }
     assert!([0, 2, 7].iter().all(|&n| seen[n] > 1000), "{seen:?}");
 }
@@ -73,9 +85,11 @@ fn regions() {
             1 => a ^ number(&mut random, 12),
             _ => a.saturating_add(number(&mut random, bits)),
         };
-        let answer = zorder::region(d, a, b);
+        let answer = raw::region(d, a, b);
         assert_eq!(answer, region_answer(d, a, b), "d {d}, {a} to {b}");
-        seen[answer.number] += 1;
+        let region = zorder::Region { near: answer.near, far: answer.far, side: answer.side };
+        assert!(handed_on(answer.refusal, region, zorder::region(d, a, b)), "d {d}, {a} to {b}");
+        seen[answer.refusal] += 1;
     }
     assert!([0, 2, 7].iter().all(|&n| seen[n] > 1000), "{seen:?}");
 }

@@ -1,10 +1,10 @@
 //! Boards that are right but for the tree: nodes of any number of entries at any level, first, last and root. The calls
 //! answer 3 exactly where a number is none that document 01 allows.
-use dolzhev::calls;
-use dolzhev::reference::against::Against;
-use dolzhev::reference::draw::Draw;
-use dolzhev::reference::random::{Random, Shape};
-use dolzhev::reference::tries::{try_all, Seen};
+use reference::against::Against;
+use reference::draw::Draw;
+use reference::library;
+use reference::random::{Random, Shape};
+use reference::tries::{try_all, Seen};
 
 /// Where groups start that cut so many entries: most of 3 to 8, some just beside.
 fn cut(random: &mut Random, entries: usize) -> Vec<usize> {
@@ -43,11 +43,11 @@ fn trees_cut_anyhow() {
     let mut seen = Seen::default();
     for round in 0..3000 {
         let n = 1 + random.below(60);
-        let mut against = Against::over(calls::ask, &vec![0; 64 * 60 + 1024]);
+        let mut against = Against::over(library::ask, &vec![0; 64 * 60 + 1024]);
         against.check(&Draw::new(round, Shape::Uniform, 50, 60).load(60, 2, n), 0);
         let mut bytes = against.memory().to_vec();
         bytes[16 + 2 * 60..][..n].copy_from_slice(&heights(&mut random, n));
-        try_all(calls::ask, &bytes, &mut random, &mut seen);
+        try_all(library::ask, &bytes, &mut random, &mut seen);
     }
     assert!(seen.sound > 300 && seen.unsound > 300, "{seen:?}");
 }

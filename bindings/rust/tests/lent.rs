@@ -1,16 +1,14 @@
 //! Rows lent: none, one fewer than needed, as many, one more; and the bounds of document 01's "Run besides".
-use dolzhev::calls;
-use dolzhev::reference::against::Against;
-use dolzhev::reference::draw::Draw;
-use dolzhev::reference::layout;
-use dolzhev::reference::node::Node;
-use dolzhev::reference::random::Shape;
-use dolzhev::{Call, Move};
+use reference::against::Against;
+use reference::draw::Draw;
+use reference::library;
+use reference::random::Shape;
+use reference::{Call, Move};
 
 fn loaded(c: usize, d: usize, shape: Shape, n: usize, seed: u64) -> Against {
     let mut draw = Draw::new(seed, shape, 65536, c);
-    let mut against = Against::over(calls::ask, &vec![0; 64 * c + 1024]);
-    assert_eq!(against.check(&draw.load(c, d, n), 0).answer.number, 0);
+    let mut against = Against::over(library::ask, &vec![0; 64 * c + 1024]);
+    assert_eq!(against.check(&draw.load(c, d, n), 0).answer.refusal, 0);
     against
 }
 
@@ -19,14 +17,14 @@ fn lend_each(against: &Against, call: &Call) -> usize {
     let need = against.foresee(call).rows.len();
     let fewer: &[usize] = if need == 0 { &[] } else { &[0, need - 1] };
     for &lent in fewer {
-        let mut copy = Against::over(calls::ask, against.memory());
+        let mut copy = Against::over(library::ask, against.memory());
         let answer = copy.check(call, lent).answer;
-        assert_eq!((answer.number, answer.detail), (8, need), "{call:?} with {lent} rows");
+        assert_eq!((answer.refusal, answer.detail), (8, need), "{call:?} with {lent} rows");
     }
     for lent in [need, need + 1] {
-        let mut copy = Against::over(calls::ask, against.memory());
+        let mut copy = Against::over(library::ask, against.memory());
         let answer = copy.check(call, lent).answer;
-        assert_eq!((answer.number, answer.count), (0, need), "{call:?} with {lent} rows");
+        assert_eq!((answer.refusal, answer.count), (0, need), "{call:?} with {lent} rows");
     }
     need
 }
@@ -85,8 +83,8 @@ fn row(number: u16, costs: [u16; 4]) -> Move {
 }
 
 fn load_answer(bytes: usize, c: usize, d: usize, rows: Vec<Move>) -> (usize, usize) {
-    let answer = Against::over(calls::ask, &vec![7; bytes]).check(&Call::Load { c, d, rows }, 0).answer;
-    (answer.number, answer.detail)
+    let answer = Against::over(library::ask, &vec![7; bytes]).check(&Call::Load { c, d, rows }, 0).answer;
+    (answer.refusal, answer.detail)
 }
 
 #[test]
@@ -111,31 +109,14 @@ fn numbers_at_the_bound() {
     assert_eq!(load_answer(2048, 16, 2, vec![good, row(16, [1, 2, 0, 0])]), (4, 1));
     assert_eq!(load_answer(2048, 16, 2, vec![good, row(0, [1, 2, 0, 3]), row(16, [0; 4])]), (7, 1));
     assert_eq!(load_answer(2048, 16, 2, vec![good, row(0, [0; 4]), good]), (5, 2));
-    let mut against = Against::over(calls::ask, &[0; 2048]);
+    let mut against = Against::over(library::ask, &[0; 2048]);
     against.check(&Call::Load { c: 16, d: 2, rows: vec![] }, 0);
     for (number, refusal) in [(15, 0), (16, 4), (15, 5), (65535, 4)] {
-        assert_eq!(against.check(&Call::Enter { number, costs: [3, 3, 0, 0] }, 17).answer.number, refusal);
+        assert_eq!(against.check(&Call::Enter { number, costs: [3, 3, 0, 0] }, 17).answer.refusal, refusal);
     }
-    assert_eq!(against.check(&Call::Withdraw { number: 16 }, 17).answer.number, 4);
-    assert_eq!(against.check(&Call::Withdraw { number: 14 }, 17).answer.number, 6);
-    assert_eq!(against.check(&Call::Recost { number: 16, costs: [0, 0, 0, 1] }, 17).answer.number, 4);
-    assert_eq!(against.check(&Call::Recost { number: 14, costs: [0, 0, 0, 1] }, 17).answer.number, 7);
-    assert_eq!(against.check(&Call::Recost { number: 14, costs: [0, 0, 0, 0] }, 17).answer.number, 6);
-}
-
-fn leaf_sizes(node: &Node) -> Vec<usize> {
-    match node {
-        Node::Leaf(moves) => vec![moves.len()],
-        Node::Upper(children) => children.iter().flat_map(leaf_sizes).collect(),
-    }
-}
-
-#[test]
-fn groups_of_a_load() {
-    let expected: [(usize, &[usize]); 5] = [(1, &[1]), (8, &[8]), (9, &[6, 3]), (10, &[7, 3]), (11, &[8, 3])];
-    for (n, sizes) in expected {
-        let against = loaded(16, 2, Shape::Uniform, n, n as u64);
-        let (_, tree) = layout::sound(against.memory()).unwrap();
-        assert_eq!(leaf_sizes(&tree.unwrap()), sizes, "a load of {n}");
-    }
+    assert_eq!(against.check(&Call::Withdraw { number: 16 }, 17).answer.refusal, 4);
+    assert_eq!(against.check(&Call::Withdraw { number: 14 }, 17).answer.refusal, 6);
+    assert_eq!(against.check(&Call::Recost { number: 16, costs: [0, 0, 0, 1] }, 17).answer.refusal, 4);
+    assert_eq!(against.check(&Call::Recost { number: 14, costs: [0, 0, 0, 1] }, 17).answer.refusal, 7);
+    assert_eq!(against.check(&Call::Recost { number: 14, costs: [0, 0, 0, 0] }, 17).answer.refusal, 6);
 }

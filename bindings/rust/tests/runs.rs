@@ -1,12 +1,12 @@
 //! Long mixed runs against the plain model: answers, rows, details, nodes opened, the tree in memory, and a holder who
 //! reads the list once and then follows the notices alone.
-use dolzhev::calls;
-use dolzhev::reference::address::key;
-use dolzhev::reference::against::{Against, Ask};
-use dolzhev::reference::draw::Draw;
-use dolzhev::reference::plain;
-use dolzhev::reference::random::{Random, Shape};
-use dolzhev::{Call, Move, Row};
+use reference::address::key;
+use reference::against::{Against, Ask};
+use reference::draw::Draw;
+use reference::library;
+use reference::plain;
+use reference::random::{Random, Shape};
+use reference::{Call, Move, Row};
 use Shape::{AllListed, AntiCorrelated, Correlated, Uniform};
 
 struct Run {
@@ -70,8 +70,8 @@ fn go_on(run: &Run, draw: &mut Draw, against: &mut Against, seen: &mut Seen) -> 
         let foreseen = against.foresee(&call);
         let lent = draw.lent(run.c, foreseen.rows.len());
         let told = against.check_foreseen(&call, foreseen, lent);
-        seen[told.answer.number] += 1;
-        if told.answer.number == 0 {
+        seen[told.answer.refusal] += 1;
+        if told.answer.refusal == 0 {
             holder.hear(board.d, &call, &told.rows);
         }
         if let (Some(held), Some(board)) = (&holder.0, &against.model().board) {
@@ -86,7 +86,7 @@ fn play(ask: Ask, run: &Run, seed: u64) -> Seen {
     let mut draw = Draw::new(seed, run.shape, run.span, run.c);
     let mut against = Against::over(ask, &garbage(&mut draw.random, run.c));
     let mut seen = [0; 9];
-    seen[against.check(&Call::List, 5).answer.number] += 1;
+    seen[against.check(&Call::List, 5).answer.refusal] += 1;
     against.check(&draw.load(run.c, run.d, run.start), 0);
     let followed = go_on(run, &mut draw, &mut against, &mut seen);
     assert!(followed > run.steps / 2, "the holder followed {followed} calls only");
@@ -128,7 +128,7 @@ fn least_boards() {
     let mut all = runs(16, 0, 3000);
     all.extend(runs(16, 16, 1500));
     all.extend(runs(17, 9, 1500));
-    let seen = play_all(calls::ask, &all);
+    let seen = play_all(library::ask, &all);
     assert_each_refusal(seen);
     assert!(seen[1] > 0, "memory was never too short: {seen:?}");
 }
@@ -137,12 +137,12 @@ fn least_boards() {
 fn middle_boards() {
     let mut all = runs(100, 70, 900);
     all.extend(runs(256, 256, 300));
-    assert_each_refusal(play_all(calls::ask, &all));
+    assert_each_refusal(play_all(library::ask, &all));
 }
 
 #[test]
 fn large_boards() {
-    assert_each_refusal(play_all(calls::ask, &runs(1000, 900, 60)));
+    assert_each_refusal(play_all(library::ask, &runs(1000, 900, 60)));
 }
 
 #[test]
@@ -156,7 +156,7 @@ fn greatest_boards() {
     ];
     for (seed, (d, shape, span)) in shapes.into_iter().enumerate() {
         let run = Run { c: 4096, d, shape, span, start: 4090, steps: 40 };
-        let seen = play(calls::ask, &run, seed as u64);
+        let seen = play(library::ask, &run, seed as u64);
         assert!(seen[0] > 5, "few calls were accepted: {seen:?}");
     }
 }

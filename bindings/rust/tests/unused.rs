@@ -1,8 +1,8 @@
 //! Bytes not in use, as docs/DECISIONS.md names them, decide nothing.
-use dolzhev::calls;
-use dolzhev::reference::layout;
-use dolzhev::reference::random::Random;
-use dolzhev::reference::tries::{flipped, try_all, used_board, Seen};
+use reference::layout;
+use reference::library;
+use reference::random::Random;
+use reference::tries::{flipped, try_all, used_board, Seen};
 use std::ops::Range;
 
 /// The bytes that the layout names as not in use whatever the board holds.
@@ -18,9 +18,9 @@ fn damaged_unused_bytes() {
     let mut random = Random::new(15);
     let mut seen = Seen::default();
     for (c, d) in [(16, 2), (16, 4)] {
-        let bytes = used_board(calls::ask, c, d, 13, d as u64);
+        let bytes = used_board(library::ask, c, d, 13, d as u64);
         for at in unused(c) {
-            try_all(calls::ask, &flipped(&bytes, at, &mut random), &mut random, &mut seen);
+            try_all(library::ask, &flipped(&bytes, at, &mut random), &mut random, &mut seen);
         }
         assert_eq!(seen.unsound, 0, "a byte not in use made memory unsound");
     }
@@ -47,13 +47,13 @@ fn overwritten_unused_bytes() {
     let mut random = Random::new(20);
     let mut seen = Seen::default();
     for (c, d) in [(16, 2), (17, 3), (40, 4)] {
-        let bytes = used_board(calls::ask, c, d, 12, 30 + d as u64);
+        let bytes = used_board(library::ask, c, d, 12, 30 + d as u64);
         for byte in [Some(0), Some(1), Some(255), None] {
             let mut damaged = bytes.clone();
             for at in unused(c).into_iter().chain(stale(&bytes)) {
                 damaged[at] = byte.unwrap_or(random.word() as u8);
             }
-            try_all(calls::ask, &damaged, &mut random, &mut seen);
+            try_all(library::ask, &damaged, &mut random, &mut seen);
         }
     }
     assert_eq!((seen.sound, seen.unsound), (12, 0));

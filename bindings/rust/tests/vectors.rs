@@ -1,10 +1,10 @@
 //! The outside vectors of bindings/vectors, line by line: answered by the library, by the model and by the plain board. The
 //! tree lines are held against the bytes of the memory.
-use dolzhev::reference::against::Ask;
-use dolzhev::reference::model::Model;
-use dolzhev::reference::node::written;
-use dolzhev::reference::{address, layout, plain};
-use dolzhev::{calls, zorder, AddressAnswer, Answer, Call, Costs, CostsAnswer, Move, RegionAnswer, Row};
+use reference::against::Ask;
+use reference::model::Model;
+use reference::node::written;
+use reference::{address, layout, plain};
+use reference::{library, AddressAnswer, Answer, Call, Costs, CostsAnswer, Move, RegionAnswer, Row};
 use std::fs;
 
 const BOARDS: [(&str, usize); 4] = [
@@ -64,7 +64,7 @@ fn joined<T: ToString>(words: impl IntoIterator<Item = T>) -> String {
 
 /// An answer as the vectors write it.
 fn answered(call: &Call, answer: Answer, rows: &[Row]) -> String {
-    let mut words = vec![answer.number, answer.detail];
+    let mut words = vec![answer.refusal, answer.detail];
     match call {
         Call::Load { .. } => {}
         Call::List => words.extend([answer.count, answer.opened]),
@@ -146,7 +146,7 @@ fn play_memory(ask: Ask) {
 
 #[test]
 fn library_on_boards() {
-    play_memory(calls::ask);
+    play_memory(library::ask);
 }
 
 #[test]
@@ -177,15 +177,15 @@ impl Addresses {
         match &asked[..1] {
             "A" => {
                 let a = (self.address)(d, &costs(&w[1..]));
-                joined([a.number as u64, a.detail as u64, a.address])
+                joined([a.refusal as u64, a.detail as u64, a.address])
             }
             "U" => {
                 let a = (self.costs)(d, w[1]);
-                format!("{} {} {}", a.number, a.detail, joined(a.costs))
+                format!("{} {} {}", a.refusal, a.detail, joined(a.costs))
             }
             "R" => {
                 let a = (self.region)(d, w[1], w[2]);
-                format!("{} {} {} {} {}", a.number, a.detail, joined(a.near), joined(a.far), a.side)
+                format!("{} {} {} {} {}", a.refusal, a.detail, joined(a.near), joined(a.far), a.side)
             }
             other => panic!("{other} in a vector"),
         }
@@ -200,8 +200,12 @@ impl Addresses {
 
 #[test]
 fn library_on_addresses() {
-    Addresses { address: |d, costs| zorder::address(d, *costs), costs: zorder::costs_of, region: zorder::region }
-        .play();
+    Addresses {
+        address: |d, costs| dolzhev_sys::address(d, *costs),
+        costs: dolzhev_sys::costs_of,
+        region: dolzhev_sys::region,
+    }
+    .play();
 }
 
 #[test]

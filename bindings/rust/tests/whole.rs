@@ -1,13 +1,13 @@
 //! What single calls do not show: a board takes every number again and again, and two boards do not see each other.
-use dolzhev::calls;
-use dolzhev::reference::against::Against;
-use dolzhev::reference::draw::Draw;
-use dolzhev::reference::random::{costs, Random, Shape};
-use dolzhev::Call;
+use reference::against::Against;
+use reference::draw::Draw;
+use reference::library;
+use reference::random::{costs, Random, Shape};
+use reference::Call;
 
 fn empty_board(c: usize, d: usize) -> Against {
-    let mut against = Against::over(calls::ask, &vec![0xFF; 64 * c + 1024]);
-    assert_eq!(against.check(&Call::Load { c, d, rows: vec![] }, 0).answer.number, 0);
+    let mut against = Against::over(library::ask, &vec![0xFF; 64 * c + 1024]);
+    assert_eq!(against.check(&Call::Load { c, d, rows: vec![] }, 0).answer.refusal, 0);
     against
 }
 
@@ -15,14 +15,14 @@ fn empty_board(c: usize, d: usize) -> Against {
 fn fill_and_empty(against: &mut Against, random: &mut Random, c: usize, d: usize, shape: Shape) {
     for number in random.numbers(c, c) {
         let costs = costs(random, shape, d, 4096, usize::from(number), c);
-        assert_eq!(against.check(&Call::Enter { number, costs }, c + 1).answer.number, 0);
+        assert_eq!(against.check(&Call::Enter { number, costs }, c + 1).answer.refusal, 0);
     }
-    assert_eq!(against.check(&Call::List, c).answer.number, 0);
+    assert_eq!(against.check(&Call::List, c).answer.refusal, 0);
     for number in random.numbers(c, c) {
-        assert_eq!(against.check(&Call::Withdraw { number }, c + 1).answer.number, 0);
+        assert_eq!(against.check(&Call::Withdraw { number }, c + 1).answer.refusal, 0);
     }
     let emptied = against.check(&Call::List, 0).answer;
-    assert_eq!((emptied.number, emptied.count, emptied.opened), (0, 0, 0));
+    assert_eq!((emptied.refusal, emptied.count, emptied.opened), (0, 0, 0));
 }
 
 #[test]
@@ -48,7 +48,7 @@ fn two_boards_in_turn() {
         for (draw, against) in &mut boards {
             let board = against.model().board.clone().unwrap();
             let answer = against.check(&draw.call(&board), 17).answer;
-            accepted += usize::from(answer.number == 0);
+            accepted += usize::from(answer.refusal == 0);
         }
     }
     assert!(accepted > 1500, "{accepted} calls were accepted");

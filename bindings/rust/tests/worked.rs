@@ -1,5 +1,7 @@
 //! Document 01's worked board through the wrapper.
-use dolzhev::{zorder, Board, Costs, Listed, Move, Refusal, Row};
+use dolzhev::zorder::{self, Region};
+use dolzhev::Mark::{Entered, Left, Listed};
+use dolzhev::{Board, Costs, Mark, Move, Ranked, Refusal, Row};
 
 const COSTS: [Costs; 6] = [[1, 6, 0, 0], [3, 7, 0, 0], [2, 2, 0, 0], [5, 1, 0, 0], [6, 2, 0, 0], [2, 2, 0, 0]];
 
@@ -11,17 +13,17 @@ fn numbers(rows: &[Row]) -> Vec<u16> {
     rows.iter().map(|row| row.number).collect()
 }
 
-fn marked(rows: &[Row]) -> Vec<(u16, u16)> {
-    rows.iter().map(|row| (row.mark, row.number)).collect()
+fn marked(rows: &[Row]) -> Vec<(Mark, u16)> {
+    rows.iter().map(|row| (row.mark(), row.number)).collect()
 }
 
 #[test]
 fn cases_of_addresses() {
-    assert_eq!(COSTS.map(|costs| zorder::address(2, costs).address), [22, 31, 12, 35, 44, 12]);
-    let b = zorder::region(2, 12, 22);
-    assert_eq!((b.number, b.near, b.far, b.side), (0, [0, 0, 0, 0], [7, 7, 0, 0], 8));
-    let c = zorder::region(2, 35, 44);
-    assert_eq!((c.number, c.near, c.far, c.side), (0, [4, 0, 0, 0], [7, 3, 0, 0], 4));
+    assert_eq!(COSTS.map(|costs| zorder::address(2, costs).unwrap()), [22, 31, 12, 35, 44, 12]);
+    assert_eq!(zorder::region(2, 12, 22), Ok(Region { near: [0; 4], far: [7, 7, 0, 0], side: 8 }));
+    assert_eq!(zorder::region(2, 35, 44), Ok(Region { near: [4, 0, 0, 0], far: [7, 3, 0, 0], side: 4 }));
+    assert_eq!(zorder::region(2, 44, 35), Err(Refusal::BadArgument { place: None }));
+    assert_eq!(zorder::address(5, [0; 4]), Err(Refusal::OutOfRange));
 }
 
 #[test]
@@ -30,12 +32,13 @@ fn cases_of_lists() {
     let mut rows = [Row::default(); Board::notice_rows(16)];
     let mut board = Board::over(&mut memory);
     board.load(16, 2, &moves()).unwrap();
-    let Listed { rows: listed, opened } = board.list(&mut rows).unwrap();
-    assert_eq!((numbers(listed), opened), (vec![2, 5, 0, 3], 1));
-    assert_eq!(listed[2], Row { mark: 0, number: 0, costs: COSTS[0] });
+    let list = board.list(&mut rows).unwrap();
+    assert_eq!((numbers(list.rows), list.opened), (vec![2, 5, 0, 3], 1));
+    assert_eq!((list.rows[2].mark(), list.rows[2].costs), (Listed, COSTS[0]));
     assert_eq!(numbers(board.band(2, &mut rows).unwrap()), [2, 5, 0, 3]);
     assert_eq!(numbers(board.band(3, &mut rows).unwrap()), [2, 5, 0, 1, 3, 4]);
-    assert_eq!(marked(board.rank(3, &mut rows).unwrap()), [(2, 2), (2, 5), (1, 0)]);
+    let ranked = |dominated, number: u16| Ranked { dominated, number, costs: COSTS[usize::from(number)] };
+    assert_eq!(board.rank(3, &mut [Ranked::default(); 3]).unwrap(), [ranked(2, 2), ranked(2, 5), ranked(1, 0)]);
     assert_eq!(board.on_k(1, &mut rows).unwrap(), []);
     assert_eq!(numbers(board.chosen(1, &mut rows).unwrap()), [0]);
 }
@@ -46,9 +49,9 @@ fn cases_of_withdrawals() {
     let mut rows = [Row::default(); Board::notice_rows(16)];
     let mut board = Board::over(&mut memory);
     board.load(16, 2, &moves()).unwrap();
-    assert_eq!(marked(board.withdraw(2, &mut rows).unwrap()), [(1, 2)]);
-    assert_eq!(marked(board.withdraw(5, &mut rows).unwrap()), [(1, 5)]);
-    assert_eq!(marked(board.withdraw(3, &mut rows).unwrap()), [(1, 3), (2, 4)]);
+    assert_eq!(marked(board.withdraw(2, &mut rows).unwrap()), [(Left, 2)]);
+    assert_eq!(marked(board.withdraw(5, &mut rows).unwrap()), [(Left, 5)]);
+    assert_eq!(marked(board.withdraw(3, &mut rows).unwrap()), [(Left, 3), (Entered, 4)]);
 }
 
 #[test]
@@ -56,15 +59,24 @@ fn refusals() {
     let mut memory = vec![0; Board::bytes(16)];
     let mut rows = [Row::default(); 3];
     let mut board = Board::over(&mut memory);
-    assert_eq!(board.list(&mut rows), Err(Refusal { number: 3, detail: 0 }));
-    assert_eq!(board.load(17, 2, &[]), Err(Refusal { number: 1, detail: 0 }));
+    assert_eq!(board.list(&mut rows), Err(Refusal::Unsound));
+    assert_eq!(board.load(17, 2, &[]), Err(Refusal::ShortMemory));
     board.load(16, 2, &moves()).unwrap();
-    assert_eq!(board.list(&mut rows), Err(Refusal { number: 8, detail: 4 }));
-    assert_eq!(board.enter(5, [1, 1, 0, 0], &mut rows), Err(Refusal { number: 5, detail: 0 }));
-    assert_eq!(board.withdraw(9, &mut rows), Err(Refusal { number: 6, detail: 0 }));
-    assert_eq!(board.recost(0, [1, 1, 1, 0], &mut rows), Err(Refusal { number: 7, detail: 0 }));
-    assert_eq!(marked(board.recost(0, [0, 0, 0, 0], &mut [Row::default(); 17]).unwrap())[4], (2, 0));
-    assert_eq!(board.load(16, 2, &[moves()[0], moves()[0]]), Err(Refusal { number: 5, detail: 1 }));
+    assert_eq!(board.list(&mut rows), Err(Refusal::FewRows { needed: 4 }));
+    assert_eq!(
+        board.enter(Move { number: 5, costs: [1, 1, 0, 0] }, &mut rows),
+        Err(Refusal::NumberTwice { place: None })
+    );
+    assert_eq!(board.withdraw(9, &mut rows), Err(Refusal::NumberAbsent));
+    assert_eq!(
+        board.recost(Move { number: 0, costs: [1, 1, 1, 0] }, &mut rows),
+        Err(Refusal::BadArgument { place: None })
+    );
+    assert_eq!(
+        marked(board.recost(Move { number: 0, costs: [0; 4] }, &mut [Row::default(); 17]).unwrap())[4],
+        (Entered, 0)
+    );
+    assert_eq!(board.load(16, 2, &[moves()[0], moves()[0]]), Err(Refusal::NumberTwice { place: Some(1) }));
     assert_eq!(numbers(board.list(&mut rows).unwrap().rows), [0]);
 }
 
@@ -74,8 +86,8 @@ fn the_memory_is_the_board() {
     let mut memory = vec![0; Board::bytes(16)];
     let mut rows = [Row::default(); 17];
     Board::over(&mut memory).load(16, 2, &[]).unwrap();
-    let entered = Board::over(&mut memory).enter(3, [4, 4, 0, 0], &mut rows).unwrap().to_vec();
-    assert_eq!(entered, [Row { mark: 2, number: 3, costs: [4, 4, 0, 0] }]);
+    let notice = Board::over(&mut memory).enter(Move { number: 3, costs: [4, 4, 0, 0] }, &mut rows).unwrap();
+    assert_eq!(marked(notice), [(Entered, 3)]);
     let mut moved = memory.clone();
     assert_eq!(numbers(Board::over(&mut moved).list(&mut rows).unwrap().rows), [3]);
 }

@@ -17,7 +17,7 @@ use Rattle.dolzhev.specs.declared.answer.Answer.{Answer}
 
 -- A verdict handed on: its number and detail, and what is told.
 pub record Handed (v : Verdict) (told nodes : ℕ) (r : Answer) : Type 0 where
-  pub number : r .number ≡ numberOf v
+  pub refusal : r .refusal ≡ numberOf v
   pub detail : r .detail ≡ detailOf v
   pub count : r .count ≡ told
   pub opened : r .opened ≡ nodes

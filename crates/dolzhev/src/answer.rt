@@ -6,14 +6,15 @@ use zorder::COSTS;
 ghost use Rattle.dolzhev.specs.Exported.{Handed};
 
 #[repr(C)]
-pub struct Costs {
+pub struct Move {
+    pub number: u16,
     pub costs: [u16; COSTS],
 }
 
-// Document 01's number and detail; the rows told; of list the nodes opened, else 0.
+// Document 01's number of the refusal and its detail; the rows told; of list the nodes opened, else 0.
 #[repr(C)]
 pub struct Answer {
-    pub number: usize,
+    pub refusal: usize,
     pub detail: usize,
     pub count: usize,
     pub opened: usize,
@@ -23,7 +24,7 @@ pub fn handed(verdict: Verdict, count: usize, opened: usize) -> Answer
     ensures { λ r. ⌜ Handed verdict count opened r ⌝ }
 {
     Answer {
-        number: number_of(verdict) as usize,
+        refusal: number_of(verdict) as usize,
         detail: detail_of(verdict),
         count,
         opened,

@@ -1,6 +1,6 @@
 // Enter, withdraw and re-cost: planned, then the rows are filled; only then is the memory written.
 use crate::answer::Answer;
-use crate::answer::Costs;
+use crate::answer::Move;
 use crate::answer::handed;
 use board::Plan;
 use board::carry_out;
@@ -23,15 +23,10 @@ pub fn done(memory: &mut [u8], p: Plan, rows: &mut [Row]) -> Answer
 }
 
 #[no_mangle]
-pub extern "C" fn dolzhev_enter(
-    memory: &mut [u8],
-    number: u16,
-    costs: Costs,
-    rows: &mut [Row],
-) -> Answer
-    ensures { λ r. ⌜ ChangeExported (calls.enter number (costs .costs)) (now (memory .entry)) (now (rows .entry)) r (now (memory .exit)) (now (rows .exit)) ⌝ }
+pub extern "C" fn dolzhev_enter(memory: &mut [u8], given: Move, rows: &mut [Row]) -> Answer
+    ensures { λ r. ⌜ ChangeExported (calls.enter (given .number) (given .costs)) (now (memory .entry)) (now (rows .entry)) r (now (memory .exit)) (now (rows .exit)) ⌝ }
 {
-    let p = plan_enter(memory, number, costs.costs, rows.len());
+    let p = plan_enter(memory, given.number, given.costs, rows.len());
     done(memory, p, rows)
 }
 
@@ -44,14 +39,9 @@ pub extern "C" fn dolzhev_withdraw(memory: &mut [u8], number: u16, rows: &mut [R
 }
 
 #[no_mangle]
-pub extern "C" fn dolzhev_recost(
-    memory: &mut [u8],
-    number: u16,
-    costs: Costs,
-    rows: &mut [Row],
-) -> Answer
-    ensures { λ r. ⌜ ChangeExported (calls.recost number (costs .costs)) (now (memory .entry)) (now (rows .entry)) r (now (memory .exit)) (now (rows .exit)) ⌝ }
+pub extern "C" fn dolzhev_recost(memory: &mut [u8], given: Move, rows: &mut [Row]) -> Answer
+    ensures { λ r. ⌜ ChangeExported (calls.recost (given .number) (given .costs)) (now (memory .entry)) (now (rows .entry)) r (now (memory .exit)) (now (rows .exit)) ⌝ }
 {
-    let p = plan_recost(memory, number, costs.costs, rows.len());
+    let p = plan_recost(memory, given.number, given.costs, rows.len());
     done(memory, p, rows)
 }

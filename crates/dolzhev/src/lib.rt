@@ -1,4 +1,4 @@
-// The public calls for C and Rust: rows are structs, costs come in a struct, and an answer is document 01's number and detail.
+// The public calls for C and Rust: rows are structs, a move comes as a struct, and an answer is document 01's number and detail.
 // None has a `requires`: they refuse. Whatever has a reference to rows is proved by a walk of its MIR, by hand.
 mod answer;
 mod change;
@@ -7,7 +7,7 @@ mod load;
 mod ranked;
 
 pub use answer::Answer;
-pub use answer::Costs;
+pub use answer::Move;
 pub use change::dolzhev_enter;
 pub use change::dolzhev_recost;
 pub use change::dolzhev_withdraw;

@@ -10,19 +10,19 @@ use Rattle.dolzhev_zorder.specs.declared.RegionOf.{RegionOf}
 
 pub record AddressExported (d : ℕ) (costs : List ℕ) (r : AddressOf) : Type 0 where
   pub verdict : Verdict
-  pub number : r .number ≡ numberOf verdict
+  pub refusal : r .refusal ≡ numberOf verdict
   pub detail : r .detail ≡ detailOf verdict
   pub promise : AddressPromise d costs (record { verdict = verdict; address = r .address })
 
 pub record CostsExported (d a : ℕ) (r : CostsOf) : Type 0 where
   pub verdict : Verdict
-  pub number : r .number ≡ numberOf verdict
+  pub refusal : r .refusal ≡ numberOf verdict
   pub detail : r .detail ≡ detailOf verdict
   pub promise : CostsPromise d a (record { verdict = verdict; costs = r .costs .costs })
 
 pub record RegionExported (d a b : ℕ) (r : RegionOf) : Type 0 where
   pub verdict : Verdict
-  pub number : r .number ≡ numberOf verdict
+  pub refusal : r .refusal ≡ numberOf verdict
   pub detail : r .detail ≡ detailOf verdict
   pub promise :
       RegionPromise d a b (record { verdict = verdict; near = r .near .costs; far = r .far .costs; side = r .side })

@@ -10,24 +10,24 @@ pub struct Costs {
     pub costs: [u16; COSTS],
 }
 
-// Each answer: document 01's number and detail, then what is told, zero where refused.
+// Each answer: document 01's number of the refusal and its detail, then what is told, zero where refused.
 #[repr(C)]
 pub struct AddressOf {
-    pub number: usize,
+    pub refusal: usize,
     pub detail: usize,
     pub address: u64,
 }
 
 #[repr(C)]
 pub struct CostsOf {
-    pub number: usize,
+    pub refusal: usize,
     pub detail: usize,
     pub costs: Costs,
 }
 
 #[repr(C)]
 pub struct RegionOf {
-    pub number: usize,
+    pub refusal: usize,
     pub detail: usize,
     pub near: Costs,
     pub far: Costs,
@@ -52,7 +52,7 @@ pub extern "C" fn dolzhev_address(d: usize, costs: Costs) -> AddressOf
     let r = zorder::address(d, cs);
     let v = r.verdict;
     AddressOf {
-        number: number_of(v),
+        refusal: number_of(v),
         detail: 0,
         address: r.address,
     }
@@ -67,7 +67,7 @@ pub extern "C" fn dolzhev_costs_of(d: usize, address: u64) -> CostsOf
     let cs = r.costs;
     let costs = Costs { costs: cs };
     CostsOf {
-        number: number_of(v),
+        refusal: number_of(v),
         detail: 0,
         costs,
     }
@@ -84,7 +84,7 @@ pub extern "C" fn dolzhev_region(d: usize, a: u64, b: u64) -> RegionOf
     let near = Costs { costs: n };
     let far = Costs { costs: f };
     RegionOf {
-        number: number_of(v),
+        refusal: number_of(v),
         detail: 0,
         near,
         far,

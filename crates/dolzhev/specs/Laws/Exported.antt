@@ -34,7 +34,7 @@ module _ {x : calls.Change} {m : List ℕ} {lent : List Row} {p : Plan} (plan : 
       let enough : p .count ≤ length (map rowNumbers lent) = omega (arith, long, plan .enough) in
       record {
         verdict = p .verdict;
-        handed = record { number = d .handed .number; detail = d .handed .detail; count = refl; opened = d .handed .opened };
+        handed = record { refusal = d .handed .refusal; detail = d .handed .detail; count = refl; opened = d .handed .opened };
         promise =
             plan-kept (map rowNumbers lent) (subst (λ (n : ℕ). Planned x m n p) (sym long) plan)
             (d .tells ∙ filled-all (p .telling) m (map rowNumbers lent) (p .count) (plan .asked) (plan .rows) enough)
@@ -56,7 +56,7 @@ module _ {q : calls.Query} {m : List ℕ} (lent lent' : List Row) {v : Verdict} 
   query-exported {r} h =
       record {
         verdict = v;
-        handed = record { number = h .number; detail = h .detail; count = refl; opened = h .opened };
+        handed = record { refusal = h .refusal; detail = h .detail; count = refl; opened = h .opened };
         promise =
             subst (λ (n : ℕ). QueryPromise q m (map resultRow (map rowNumbers lent)) (record { verdict = v; count = n }) (map resultRow (map rowNumbers lent'))) (sym (h .count))
             (told-numbers (map rowNumbers lent) (subst (λ (n : ℕ). QueryTold q m n v count t) (sym (length-map lent rowNumbers)) plan) (map rowNumbers lent') told-all);
@@ -68,7 +68,7 @@ unfolding rowsOf
 list-exported {m} lent lent' {v} {count} {nodes} {t} {r} plan e h =
     record {
       verdict = v;
-      handed = record { number = h .number; detail = h .detail; count = refl; opened = refl };
+      handed = record { refusal = h .refusal; detail = h .detail; count = refl; opened = refl };
       promise =
           (subst (λ (n : ℕ). ListPromise m (map resultRow (map rowNumbers lent)) (record { verdict = v; count = n; opened = r .opened }) (map resultRow (map rowNumbers lent'))) (sym (h .count))
           (subst (λ (n : ℕ). ListPromise m (map resultRow (map rowNumbers lent)) (record { verdict = v; count = count; opened = n }) (map resultRow (map rowNumbers lent'))) (sym (h .opened))

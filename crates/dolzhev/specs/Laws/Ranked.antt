@@ -50,7 +50,7 @@ module _ {t : ℕ} {m : List ℕ} {lent : List Row} {p : Ranked} (ready : RankRe
   rank-exported {lent'} {r} e h =
       record {
         verdict = p .verdict;
-        handed = record { number = h .number; detail = h .detail; count = refl; opened = h .opened };
+        handed = record { refusal = h .refusal; detail = h .detail; count = refl; opened = h .opened };
         promise =
             subst (λ (n : ℕ). QueryPromise (rankQuery t) m (map resultRow (map rowNumbers lent)) (record { verdict = p .verdict; count = n }) (map resultRow (map rowNumbers lent'))) (sym (h .count))
             (rank-promise (map rowNumbers lent) (subst (λ (n : ℕ). RankTold t m n (p .verdict) (p .count)) (sym (length-map lent rowNumbers)) (ready .told)) (map rowNumbers lent') (e ∙ ready .puts (map rowNumbers lent)));

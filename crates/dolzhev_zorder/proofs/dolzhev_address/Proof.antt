@@ -13,7 +13,7 @@ number-of-requires c κs = search needs
 returns : tie.Need-returns
 returns c =
     let promise = c .before .address .ensures in
-    record { verdict = _; number = c .number-of .ensures; detail = sym (promise .detail); promise = promise }
+    record { verdict = _; refusal = c .number-of .ensures; detail = sym (promise .detail); promise = promise }
 
 pub dolzhev-address-spec : {M : Type 1} → statement M
 dolzhev-address-spec = tie.close (tie.spec address-requires number-of-requires returns)

@@ -13,7 +13,7 @@ number-of-requires c κs = search needs
 returns : tie.Need-returns
 returns c =
     let promise = c .before .before .costs .ensures in
-    record { verdict = _; number = c .number-of .ensures; detail = sym (promise .detail); promise = promise }
+    record { verdict = _; refusal = c .number-of .ensures; detail = sym (promise .detail); promise = promise }
 
 pub dolzhev-costs-of-spec : {M : Type 1} → statement M
 dolzhev-costs-of-spec = tie.close (tie.spec costs-requires number-of-requires returns)

@@ -16,7 +16,7 @@ cast-t11 c = search needs
 returns : tie.Need-returns
 returns c =
     let promise = c .before .before .before .before .region .ensures in
-    record { verdict = _; number = c .before .number-of .ensures; detail = sym (promise .detail); promise = promise }
+    record { verdict = _; refusal = c .before .number-of .ensures; detail = sym (promise .detail); promise = promise }
 
 pub dolzhev-region-spec : {M : Type 1} → statement M
 dolzhev-region-spec = tie.close (tie.spec region-requires number-of-requires cast-t11 returns)

@@ -1,0 +1,67 @@
+//! The plain board with document 01's tree beside it.
+use super::board::{foresee_load, Foreseen, PlainBoard};
+use super::entering::enter;
+use super::loading::load;
+use super::node::Node;
+use super::withdrawing::{recost, withdraw};
+use crate::{Call, Costs, Move};
+
+/// `board` is none until a load is accepted.
+#[derive(Clone, Debug, Default)]
+pub struct Model {
+    pub board: Option<PlainBoard>,
+    pub tree: Option<Node>,
+}
+
+impl Model {
+    /// A board that stands in memory already.
+    pub fn standing(c: usize, d: usize, tree: Option<Node>) -> Self {
+        let moves = tree.as_ref().map_or(Vec::new(), Node::moves);
+        Model { board: Some(PlainBoard::new(c, d, moves)), tree }
+    }
+
+    /// What a call answers on memory of that many bytes, given rows enough.
+    pub fn foresee(&self, bytes: usize, call: &Call) -> Foreseen {
+        if let Call::Load { c, d, ref rows } = *call {
+            return foresee_load(bytes, c, d, rows);
+        }
+        let Some(board) = &self.board else {
+            return Foreseen::refused(3, 0);
+        };
+        let mut foreseen = board.foresee(call);
+        if let (Call::List, 0) = (call, foreseen.answer.refusal) {
+            foreseen.answer.opened = self.tree.as_ref().map_or(0, |root| root.opened(board.d, &board.moves));
+        }
+        foreseen
+    }
+
+    /// The call made: `foreseen` is what it answered.
+    pub fn follow(&mut self, call: &Call, foreseen: &Foreseen) {
+        let Some(after) = &foreseen.after else {
+            return;
+        };
+        self.tree = match *call {
+            Call::Load { .. } => load(&after.moves),
+            Call::Enter { number, costs } => Some(enter(after.d, self.tree.take(), &Move { number, costs })),
+            Call::Withdraw { number } => self.without(number),
+            Call::Recost { number, costs } => self.recosted(number, costs),
+            _ => unreachable!("a list call changes nothing"),
+        };
+        self.board = Some(after.clone());
+    }
+
+    fn held(&self, number: u16) -> (usize, Move) {
+        let board = self.board.as_ref().expect("an accepted change has a board");
+        (board.d, *board.find(number).expect("an accepted change has its move"))
+    }
+
+    fn without(&mut self, number: u16) -> Option<Node> {
+        let (d, x) = self.held(number);
+        withdraw(d, self.tree.take()?, &x)
+    }
+
+    fn recosted(&mut self, number: u16, costs: Costs) -> Option<Node> {
+        let (d, x) = self.held(number);
+        recost(d, self.tree.take()?, &x, costs)
+    }
+}

@@ -1,0 +1,49 @@
+//! The board's calls as safe functions. A slice of Rust is what the calls ask of a pointer and a length: not null, aligned
+//! and, where one of two is written, apart from the other.
+use crate::raw;
+use crate::types::{Answer, Move, Row};
+
+/// Overwrites the memory with a board of size c and d costs that holds the rows.
+pub fn load(memory: &mut [u8], c: usize, d: usize, rows: &[Move]) -> Answer {
+    unsafe { raw::dolzhev_load(memory.as_mut_ptr(), memory.len(), c, d, rows.as_ptr(), rows.len()) }
+}
+
+/// Adds a move; tells the notice.
+pub fn enter(memory: &mut [u8], x: Move, rows: &mut [Row]) -> Answer {
+    unsafe { raw::dolzhev_enter(memory.as_mut_ptr(), memory.len(), x, rows.as_mut_ptr(), rows.len()) }
+}
+
+/// Takes the move of that number away; tells the notice.
+pub fn withdraw(memory: &mut [u8], number: u16, rows: &mut [Row]) -> Answer {
+    unsafe { raw::dolzhev_withdraw(memory.as_mut_ptr(), memory.len(), number, rows.as_mut_ptr(), rows.len()) }
+}
+
+/// Gives the move of that number new costs; tells the notice.
+pub fn recost(memory: &mut [u8], x: Move, rows: &mut [Row]) -> Answer {
+    unsafe { raw::dolzhev_recost(memory.as_mut_ptr(), memory.len(), x, rows.as_mut_ptr(), rows.len()) }
+}
+
+/// The moves that no move dominates, and the nodes opened.
+pub fn list(memory: &[u8], rows: &mut [Row]) -> Answer {
+    unsafe { raw::dolzhev_list(memory.as_ptr(), memory.len(), rows.as_mut_ptr(), rows.len()) }
+}
+
+/// The moves that b others or fewer dominate.
+pub fn band(memory: &[u8], b: usize, rows: &mut [Row]) -> Answer {
+    unsafe { raw::dolzhev_band(memory.as_ptr(), memory.len(), b, rows.as_mut_ptr(), rows.len()) }
+}
+
+/// The first t listed moves by number of moves dominated, which stands in place of a mark.
+pub fn rank(memory: &[u8], t: usize, rows: &mut [Row]) -> Answer {
+    unsafe { raw::dolzhev_rank(memory.as_ptr(), memory.len(), t, rows.as_mut_ptr(), rows.len()) }
+}
+
+/// The moves that no move dominates on k of the costs.
+pub fn on_k(memory: &[u8], k: usize, rows: &mut [Row]) -> Answer {
+    unsafe { raw::dolzhev_on_k(memory.as_ptr(), memory.len(), k, rows.as_mut_ptr(), rows.len()) }
+}
+
+/// The moves that no move dominates on the chosen costs, bit i of the set standing for cost i.
+pub fn chosen(memory: &[u8], set: usize, rows: &mut [Row]) -> Answer {
+    unsafe { raw::dolzhev_chosen(memory.as_ptr(), memory.len(), set, rows.as_mut_ptr(), rows.len()) }
+}

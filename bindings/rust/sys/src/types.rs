@@ -1,0 +1,80 @@
+//! The structs of the headers.
+
+/// Four costs, those past d zero. Less is better.
+pub type Costs = [u16; 4];
+
+/// A move: a number below the board's size, and its costs.
+#[repr(C)]
+#[derive(Clone, Copy, Debug, Default, PartialEq, Eq)]
+pub struct Move {
+    /// From 0 to C - 1.
+    pub number: u16,
+    /// Those past d zero.
+    pub costs: Costs,
+}
+
+/// A row told.
+#[repr(C)]
+#[derive(Clone, Copy, Debug, Default, PartialEq, Eq)]
+pub struct Row {
+    /// 0 listed, 1 left, 2 entered; of rank the number of moves dominated.
+    pub mark: u16,
+    /// The move's number.
+    pub number: u16,
+    /// Its costs.
+    pub costs: Costs,
+}
+
+/// What a call on a board answers.
+#[repr(C)]
+#[derive(Clone, Copy, Debug, Default, PartialEq, Eq)]
+pub struct Answer {
+    /// 0 where the call is accepted.
+    pub refusal: usize,
+    /// Of 8 the rows needed; of a load's 4, 5 and 7 the place of the first row that fails; else 0.
+    pub detail: usize,
+    /// The rows told.
+    pub count: usize,
+    /// Of list the nodes opened; else 0.
+    pub opened: usize,
+}
+
+/// An address, zero where refused.
+#[repr(C)]
+#[derive(Clone, Copy, Debug, Default, PartialEq, Eq)]
+pub struct AddressAnswer {
+    /// 0 where the call is accepted.
+    pub refusal: usize,
+    /// Always 0.
+    pub detail: usize,
+    /// The address.
+    pub address: u64,
+}
+
+/// The costs of an address, zeros where refused.
+#[repr(C)]
+#[derive(Clone, Copy, Debug, Default, PartialEq, Eq)]
+pub struct CostsAnswer {
+    /// 0 where the call is accepted.
+    pub refusal: usize,
+    /// Always 0.
+    pub detail: usize,
+    /// The costs.
+    pub costs: Costs,
+}
+
+/// The square between two corners, zeros where refused.
+#[repr(C)]
+#[derive(Clone, Copy, Debug, Default, PartialEq, Eq)]
+pub struct RegionAnswer {
+    /// 0 where the call is accepted.
+    pub refusal: usize,
+    /// Always 0.
+    pub detail: usize,
+    /// The corner with the least costs.
+    pub near: Costs,
+    /// The corner with the greatest costs.
+    pub far: Costs,
+    /// 2 to the number of groups not kept.
+    pub side: usize,
+}
