@@ -1,4 +1,5 @@
 -- What the parts of the three changes say and leave, and what holds of it.
+pub mod Kind
 pub mod Change
 pub mod Plan
 pub mod Laws

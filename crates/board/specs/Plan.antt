@@ -2,26 +2,23 @@
 use Prim.Native.Nat.{ℕ, _<_, _≤_}
 use mathlib.Core.Bool.{Bool, true, false, cond, _&&_}
 use mathlib.Core.Path.{_≡_}
-use mathlib.Core.List.{List, map}
+use mathlib.Core.List.{List}
 use lib.Dec.{ltb}
-use lib.ListN.{length}
 use Rattle.model.specs.Basics.{equal}
 use Rattle.model.specs.Calls as calls
-use Rattle.model.specs.Calls.{changeAnswer, changeNotice}
-use Rattle.promises.specs.Layout.{numberIn, costsIn, boardIn}
+use Rattle.model.specs.Calls.{changeAnswer, changeNotice, changesNothing}
+use Rattle.model.specs.Changing.{changeOpens}
+use Rattle.promises.specs.Layout.{dimensionIn, numberIn, costsIn, boardIn}
 use Rattle.promises.specs.Sound.{Sound}
-use Rattle.promises.specs.Answers.{answerOf, numberOf, counted, resultRow}
-use Rattle.promises.specs.declared.Answer.{Answer}
+use Rattle.promises.specs.Answers.{numberOf}
 use Rattle.promises.specs.declared.Verdict.{Verdict}
-use Rattle.promises.specs.declared.Verdict.the-variants.{Unsound}
 use Rattle.memory.specs.Held.{SoundAt}
 use Rattle.upkeep.specs.Change.{Asked, Upkept}
-use Rattle.upkeep.specs.Telling.{TellingAsked, toldRows}
-use Rattle.upkeep.specs.Planned.{TellsNothing}
+use Rattle.upkeep.specs.Planned.{Plans}
 use Rattle.upkeep.specs.declared.change.Change.{Change}
 use Rattle.upkeep.specs.declared.telling.Telling.{Telling}
 use Rattle.board.specs.Change.{Judges, Other, Made}
-use Rattle.board.specs.declared.plan.Plan.{Plan}
+use Rattle.upkeep.specs.declared.plan.Plan.{Plan}
 
 -- ---- the change that is made
 
@@ -69,27 +66,15 @@ pub record CarriedOut (p : Plan) (m m' : List ℕ) : Type 0 where
 
 -- ---- the plan of a call
 
--- The answer of the call with so many lent rows. Its telling has as many rows as are counted; of an accepted call they are
--- the notice. Only an accepted call makes a change, its own; one that makes none leaves the memory as it should.
+-- The plan of the call with so many lent rows. Only an accepted call makes a change, its own; one that makes none leaves the
+-- memory as it should, and a call that changes nothing makes none.
 pub record Planned (x : calls.Change) (m : List ℕ) (lent : ℕ) (p : Plan) : Type 0 where
-  pub answers : Sound m → answerOf (p .verdict) ≡ changeAnswer (boardIn m) x lent
-  pub unsound : (Sound m → ⊥) → p .verdict ≡ Unsound
-  pub counts : p .count ≡ counted (numberOf (p .verdict)) (length (changeNotice (boardIn m) x))
-  pub enough : p .count ≤ lent
-  pub rows : length (toldRows (p .telling) m) ≡ p .count
-  pub notice : numberOf (p .verdict) ≡ 0 → map resultRow (toldRows (p .telling) m) ≡ changeNotice (boardIn m) x
-  pub asked : 0 < p .count → TellingAsked (p .telling) m
+  pub plans : Plans (changeAnswer (boardIn m) x lent) (changeNotice (boardIn m) x) (changeOpens (dimensionIn m) x) m lent p
   pub accepted : p .makes ≡ true → numberOf (p .verdict) ≡ 0
   pub makes : p .makes ≡ true → callIn p m ≡ x
   pub idle : p .makes ≡ false → numberOf (p .verdict) ≡ 0 → Made x m m
+  pub nothing : Sound m → changesNothing (boardIn m) x ≡ true → p .makes ≡ false
   pub able : Able p m
-
--- Nothing told, nothing made.
-pub record Nothing (v : Verdict) (p : Plan) : Type 0 where
-  pub verdict : p .verdict ≡ v
-  pub count : p .count ≡ 0
-  pub makes : p .makes ≡ false
-  pub telling : TellsNothing (p .telling)
 
 pub record PlanAsked (c d n : ℕ) (v : Verdict) (k : Change) (m : List ℕ) : Type 0 where
   pub sound : SoundAt c d n m
@@ -98,6 +83,3 @@ pub record PlanAsked (c d n : ℕ) (v : Verdict) (k : Change) (m : List ℕ) : T
 -- The plan of each call that is so judged and that the change stands for.
 pub record PlanOf (c n : ℕ) (v : Verdict) (k : Change) (m : List ℕ) (lent : ℕ) (r : Plan) : Type 0 where
   pub plans : (x : calls.Change) → Judges x m v → (numberOf v ≡ 0 → callOf c n k m ≡ x) → Planned x m lent r
-
-abbrev pub answerIn : Plan → Answer
-answerIn p = record { verdict = p .verdict; count = p .count }

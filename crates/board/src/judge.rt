@@ -1,13 +1,21 @@
 // What turns a change down, in the stated order, but for 3 and 8.
+use dominance::Move;
+use memory::Head;
 use promises::Verdict;
-use tree::place_of;
 use zorder::COSTS;
 use zorder::zero_past;
 ghost use mathlib.Core.Path.{_≡_};
+ghost use Prim.Native.Nat.{_≤_};
+ghost use Rattle.zorder.specs.Address.{rowCosts};
 ghost use Rattle.model.specs.Basics.{equal};
-ghost use Rattle.model.specs.Calls as calls;
-ghost use Rattle.memory.specs.Held.{SoundAt};
-ghost use Rattle.board.specs.Change.{Judges};
+ghost use Rattle.board.specs.Kind as spec;
+
+// Which change is asked for.
+pub enum Kind {
+    Enter,
+    Withdraw,
+    Recost,
+}
 
 pub fn same(p: [u16; COSTS], q: [u16; COSTS]) -> bool
     ensures { λ r. ⌜ r ≡ equal p q ⌝ }
@@ -22,60 +30,45 @@ pub fn same(p: [u16; COSTS], q: [u16; COSTS]) -> bool
     true
 }
 
-pub fn enter_verdict(
-    m: &[u8],
-    c: usize,
-    d: usize,
-    n: usize,
-    number: u16,
-    costs: [u16; COSTS],
-) -> Verdict
-    requires { ⌜ SoundAt c d n (now m) ⌝ }
-    ensures { λ r. ⌜ Judges (calls.enter number costs) (now (m .entry)) r ⌝ }
+// Whether a move comes: only then are costs looked at.
+pub fn comes(kind: Kind) -> bool
+    ensures { λ r. ⌜ r ≡ spec.comes kind ⌝ }
 {
-    if c <= (number as usize) {
-        return Verdict::NumberTooLarge(0);
+    match kind {
+        Kind::Enter => true,
+        Kind::Withdraw => false,
+        Kind::Recost => true,
     }
-    if !zero_past(d, costs) {
-        return Verdict::BadArgument(0);
-    }
-    if place_of(m, c, n, number) < n {
-        return Verdict::NumberTwice(0);
-    }
-    Verdict::Accepted
 }
 
-pub fn withdraw_verdict(m: &[u8], c: usize, d: usize, n: usize, number: u16) -> Verdict
-    requires { ⌜ SoundAt c d n (now m) ⌝ }
-    ensures { λ r. ⌜ Judges (calls.withdraw number) (now (m .entry)) r ⌝ }
+// Whether the number has to be new to the board.
+fn is_new(kind: Kind) -> bool
+    ensures { λ r. ⌜ r ≡ spec.isNew kind ⌝ }
 {
-    if c <= (number as usize) {
-        return Verdict::NumberTooLarge(0);
+    match kind {
+        Kind::Enter => true,
+        Kind::Withdraw => false,
+        Kind::Recost => false,
     }
-    if n <= place_of(m, c, n, number) {
-        return Verdict::NumberAbsent;
-    }
-    Verdict::Accepted
 }
 
-pub fn recost_verdict(
-    m: &[u8],
-    c: usize,
-    d: usize,
-    n: usize,
-    number: u16,
-    costs: [u16; COSTS],
-) -> Verdict
-    requires { ⌜ SoundAt c d n (now m) ⌝ }
-    ensures { λ r. ⌜ Judges (calls.recost number costs) (now (m .entry)) r ⌝ }
+// `on` says whether the number is on the board.
+pub fn judge(kind: Kind, h: Head, x: Move, on: bool) -> Verdict
+    requires { ⌜ h .dimension ≤ rowCosts ⌝ }
+    ensures { λ r. ⌜ spec.JudgesBy kind h x on r ⌝ }
 {
-    if c <= (number as usize) {
+    if h.size <= (x.number as usize) {
         return Verdict::NumberTooLarge(0);
     }
-    if !zero_past(d, costs) {
+    let costs = x.costs;
+    if comes(kind) && !zero_past(h.dimension, costs) {
         return Verdict::BadArgument(0);
     }
-    if n <= place_of(m, c, n, number) {
+    if is_new(kind) {
+        if on {
+            return Verdict::NumberTwice(0);
+        }
+    } else if !on {
         return Verdict::NumberAbsent;
     }
     Verdict::Accepted

@@ -1,11 +1,11 @@
 // The change itself, made on sound memory: no rows and no 8.
-use crate::plan::Plan;
 use dominance::Move;
 use memory::set_costs;
 use memory::set_count;
 use memory::set_listed;
 use tree::enter_line;
 use tree::withdraw_line;
+use upkeep::Plan;
 use upkeep::Upkeep;
 use upkeep::set_marks;
 ghost use mathlib.Core.Path.{_≡_};

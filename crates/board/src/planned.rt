@@ -1,75 +1,53 @@
 // The plans of enter, withdraw and re-cost: 3, then the call's own checks, then what the change does to the list, then 8.
-use crate::judge::enter_verdict;
-use crate::judge::recost_verdict;
-use crate::judge::withdraw_verdict;
-use crate::plan::Plan;
-use crate::plan::nothing;
+use crate::judge::Kind;
+use crate::judge::comes;
+use crate::judge::judge;
 use crate::plan::plan_of;
 use dominance::Move;
-use memory::count;
-use memory::dimension;
-use memory::is_sound;
-use memory::size;
+use memory::Held;
+use memory::sound_head;
 use promises::Verdict;
 use tree::place_of;
 use upkeep::Change;
+use upkeep::Plan;
+use upkeep::nothing;
 use zorder::COSTS;
 ghost use Rattle.model.specs.Calls as calls;
+ghost use Rattle.board.specs.Kind.{changeOf};
 ghost use Rattle.board.specs.Plan.{Planned};
+
+// A number that is not on the board has the place past the last: where one enters none goes.
+pub fn plan_change(m: &[u8], kind: Kind, number: u16, costs: [u16; COSTS], lent: usize) -> Plan
+    ensures { λ r. ⌜ Planned (changeOf kind number costs) (now (m .entry)) lent r ⌝ }
+{
+    let Held::Sound(h) = sound_head(m) else {
+        return nothing(Verdict::Unsound);
+    };
+    let coming = Move { number, costs };
+    let place = place_of(m, h.size, h.count, number);
+    let verdict = judge(kind, h, coming, place < h.count);
+    let k = Change {
+        goes: place,
+        comes: comes(kind),
+        coming,
+    };
+    plan_of(m, h.size, h.dimension, h.count, verdict, k, lent)
+}
 
 pub fn plan_enter(m: &[u8], number: u16, costs: [u16; COSTS], lent: usize) -> Plan
     ensures { λ r. ⌜ Planned (calls.enter number costs) (now (m .entry)) lent r ⌝ }
 {
-    if !is_sound(m) {
-        return nothing(Verdict::Unsound);
-    }
-    let c = size(m);
-    let d = dimension(m);
-    let n = count(m);
-    let verdict = enter_verdict(m, c, d, n, number, costs);
-    let k = Change {
-        goes: n,
-        comes: true,
-        coming: Move { number, costs },
-    };
-    plan_of(m, c, d, n, verdict, k, lent)
+    plan_change(m, Kind::Enter, number, costs, lent)
 }
 
 pub fn plan_withdraw(m: &[u8], number: u16, lent: usize) -> Plan
     ensures { λ r. ⌜ Planned (calls.withdraw number) (now (m .entry)) lent r ⌝ }
 {
-    if !is_sound(m) {
-        return nothing(Verdict::Unsound);
-    }
-    let c = size(m);
-    let d = dimension(m);
-    let n = count(m);
-    let verdict = withdraw_verdict(m, c, d, n, number);
-    let k = Change {
-        goes: place_of(m, c, n, number),
-        comes: false,
-        coming: Move {
-            number,
-            costs: [0u16; COSTS],
-        },
-    };
-    plan_of(m, c, d, n, verdict, k, lent)
+    plan_change(m, Kind::Withdraw, number, [0u16; COSTS], lent)
 }
 
 pub fn plan_recost(m: &[u8], number: u16, costs: [u16; COSTS], lent: usize) -> Plan
     ensures { λ r. ⌜ Planned (calls.recost number costs) (now (m .entry)) lent r ⌝ }
 {
-    if !is_sound(m) {
-        return nothing(Verdict::Unsound);
-    }
-    let c = size(m);
-    let d = dimension(m);
-    let n = count(m);
-    let verdict = recost_verdict(m, c, d, n, number, costs);
-    let k = Change {
-        goes: place_of(m, c, n, number),
-        comes: true,
-        coming: Move { number, costs },
-    };
-    plan_of(m, c, d, n, verdict, k, lent)
+    plan_change(m, Kind::Recost, number, costs, lent)
 }

@@ -2,9 +2,9 @@
 use Prim.Native.Nat.{ℕ, suc, _<_}
 use mathlib.Core.Bool.{Bool, true, false, not, _&&_}
 use mathlib.Core.List.{List, [], _∷_}
-use mathlib.Core.Path.{_≡_, refl, sym, ap, ap₂, _∙_}
+use mathlib.Core.Path.{_≡_, refl, sym, ap, ap₂, _∙_, subst}
 use native.Mathlib.Omega.{arith}
-use borrow.Author.Tests.{ltb-true, leb-false, not-false}
+use borrow.Author.Tests.{ltb-true, ltb-false, leb-false, not-false}
 use lib.Dec.{leb}
 use lib.ListN.{length-map}
 use Rattle.zorder.specs.Address.{rowCosts}
@@ -32,10 +32,13 @@ use Rattle.memory.specs.Laws.Held.{held-fit, held-distinct}
 use Rattle.tree.specs.Withdraw.{PlaceOf}
 use Rattle.upkeep.specs.Change.{dropAt}
 use Rattle.upkeep.specs.declared.change.Change.{Change}
+use Rattle.board.specs.Kind.{changeOf, comes}
 use Rattle.board.specs.Plan.{callOf, Ready}
+use Rattle.board.specs.declared.judge.Kind.{Kind}
+use Rattle.board.specs.declared.judge.Kind.the-variants.{Enter, Withdraw, Recost}
 use Rattle.board.specs.Laws.Judge.{board-moves, judge-size, judge-past, on-board}
 use Rattle.board.specs.Laws.Marks.{rest-without, entering-moves}
-use Rattle.board.specs.Laws.Calls.{call-withdraw, call-recost}
+use Rattle.board.specs.Laws.Calls.{call-enter, call-withdraw, call-recost}
 
 -- The three checks, none of which turns the change down.
 first-two : (b : calls.Board) (number : ℕ) (costs : List ℕ) (t : Bool) (k : ℕ) → refusal ((leb (b .size) number, 4) ∷ (costPastBad (b .dimension) costs, 7) ∷ (t, suc k) ∷ []) ≡ 0
@@ -89,7 +92,7 @@ module _ {c d n : ℕ} {m : List ℕ} (s : SoundAt c d n m) (b : Bytes m) (x : M
           length-line c d n m,
         )
 
-    pub enter-ready : Ready c d n coming m
+    enter-ready : Ready c d n coming m
     enter-ready =
         record {
           asked =
@@ -117,7 +120,7 @@ module _ {c d n number p : ℕ} {m : List ℕ} (s : SoundAt c d n m) (b : Bytes 
         let large = leb (boardIn m .size) number in
         found-place s number p e (first-passes (not (onBoard number (boardIn m .moves))) 5 [] (rest-passes large 3 _ ok))
 
-    pub withdraw-ready : Ready c d n leaving m
+    withdraw-ready : Ready c d n leaving m
     withdraw-ready =
         record {
           asked = record { sound = s; goes = e .within; fit = λ f. both-ways f refl; new = λ f. both-ways f refl };
@@ -126,7 +129,7 @@ module _ {c d n number p : ℕ} {m : List ℕ} (s : SoundAt c d n m) (b : Bytes 
           place = λ _. withdraw-place;
         }
 
-    pub withdraw-call : callOf c n leaving m ≡ calls.withdraw number
+    withdraw-call : callOf c n leaving m ≡ calls.withdraw number
     withdraw-call = call-withdraw c n leaving m refl ∙ ap calls.withdraw (e .found withdraw-place)
 
 -- ---- re-cost
@@ -151,7 +154,7 @@ module _ {c d n p : ℕ} {m : List ℕ} (s : SoundAt c d n m) (b : Bytes m) (x :
     recost-rest : dropAt p (ms s) ≡ without (x .number) (ms s)
     recost-rest = rest-without c d n p m s b recost-place ∙ ap (λ (k : ℕ). without k (ms s)) (e .found recost-place)
 
-    pub recost-ready : Ready c d n moving m
+    recost-ready : Ready c d n moving m
     recost-ready =
         record {
           asked =
@@ -166,5 +169,29 @@ module _ {c d n p : ℕ} {m : List ℕ} (s : SoundAt c d n m) (b : Bytes m) (x :
           place = λ f. both-ways refl f;
         }
 
-    pub recost-call : callOf c n moving m ≡ calls.recost (x .number) (x .costs)
+    recost-call : callOf c n moving m ≡ calls.recost (x .number) (x .costs)
     recost-call = call-recost c n moving m refl recost-place
+
+-- ---- each kind of change
+
+module _ {c d n p : ℕ} {m : List ℕ} (s : SoundAt c d n m) (b : Bytes m) (x : Move) (w : Costs rowCosts (x .costs)) (e : PlaceOf c n (x .number) m p) where
+  -- A number that is not on the board has the place past the last.
+  enter-last : changeRefusal (boardIn m) (calls.enter (x .number) (x .costs)) ≡ 0 → p ≡ n
+  enter-last ok =
+      omega (arith, e .within, ltb-false p n (sym (on-board c d n m s (x .number) p e) ∙ enter-checks s b x w ok .2))
+
+  abbrev change : Kind → Change
+  change kind = record { goes = p; comes = comes kind; coming = x }
+
+  pub kind-ready : (kind : Kind) → changeRefusal (boardIn m) (changeOf kind (x .number) (x .costs)) ≡ 0 → Ready c d n (change kind) m
+  unfolding changeOf comes
+  kind-ready Enter ok =
+      subst (λ (g : ℕ). Ready c d n (record { goes = g; comes = true; coming = x }) m) (sym (enter-last ok)) (enter-ready s b x w ok)
+  kind-ready Withdraw ok = withdraw-ready s b x e ok
+  kind-ready Recost ok = recost-ready s b x w e ok
+
+  pub kind-call : (kind : Kind) → changeRefusal (boardIn m) (changeOf kind (x .number) (x .costs)) ≡ 0 → callOf c n (change kind) m ≡ changeOf kind (x .number) (x .costs)
+  unfolding changeOf comes
+  kind-call Enter ok = call-enter c n (change Enter) m refl (omega (arith, enter-last ok))
+  kind-call Withdraw ok = withdraw-call s b x e ok
+  kind-call Recost ok = recost-call s b x w e ok

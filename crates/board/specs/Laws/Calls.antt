@@ -1,10 +1,10 @@
--- The answer of a change and its notice, from what its parts find.
+-- The call that a change stands for, and its notice.
 use Prim.Native.Nat.{ℕ, _≤_, _<_}
 use mathlib.Core.Bool.{Bool, true, false, cond}
 use mathlib.Core.List.{List}
 use mathlib.Core.Path.{_≡_, refl, sym, ap, ap₂, _∙_}
 use native.Mathlib.Omega.{arith}
-use borrow.Author.Tests.{ltb-true, lt-ltb, le-ltb, ltb-false, ne-eqb}
+use borrow.Author.Tests.{ltb-true, lt-ltb, le-ltb, ltb-false}
 use lib.Dec.{ltb}
 use lib.ListN.{length}
 use Rattle.model.specs.Moves as model
@@ -13,14 +13,12 @@ use Rattle.model.specs.Withdrawing.{without}
 use Rattle.model.specs.Lists.{skyline}
 use Rattle.model.specs.Notice.{noticeOf}
 use Rattle.model.specs.Calls as calls
-use Rattle.model.specs.Calls.{Board, accepted, refusedWith, orElse, rowsAnswer, listOf, changeRefusal, changeNotice, changeAnswer, changed}
-use Rattle.model.specs.Laws.Changes.{changes-accepted}
+use Rattle.model.specs.Calls.{refusedWith, listOf, changeRefusal, changeNotice, changed}
 use Rattle.line.specs.Line.{movesIn}
 use Rattle.promises.specs.Layout.{numberIn, boardIn, lineFrom}
-use Rattle.promises.specs.Answers.{answerOf, numberOf, detailOf}
+use Rattle.promises.specs.Answers.{answerOf, numberOf}
 use Rattle.promises.specs.Run.{Bytes}
 use Rattle.promises.specs.declared.Verdict.{Verdict}
-use Rattle.promises.specs.declared.Verdict.the-variants.{Accepted, FewRows}
 use Rattle.dominance.specs.Move.{asMove}
 use Rattle.upkeep.specs.Change.{dropAt, movesAfter}
 use Rattle.upkeep.specs.declared.change.Change.{Change}
@@ -29,34 +27,9 @@ use Rattle.board.specs.Plan.{callOf, Ready}
 use Rattle.board.specs.Laws.Judge.{board-moves}
 use Rattle.board.specs.Laws.Marks.{rest-without, entering-moves}
 
--- ---- answers
-
 pub judged-passes : {x : calls.Change} {m : List ℕ} {v : Verdict} → Judges x m v → numberOf v ≡ 0 → changeRefusal (boardIn m) x ≡ 0
 unfolding answerOf refusedWith
 judged-passes j e = sym (ap (λ (a : calls.Answer). a .number) (j .is)) ∙ e
-
-first-refuses : (a b : calls.Answer) → 0 < a .number → a ≡ orElse a b
-unfolding orElse
-first-refuses a b h = ap (λ (t : Bool). cond t b a) (sym (ne-eqb (a .number) 0 (λ e. omega arith)))
-
-pub refused-answer : {x : calls.Change} {m : List ℕ} {v : Verdict} (lent : ℕ) → Judges x m v → 0 < numberOf v
-    → answerOf v ≡ changeAnswer (boardIn m) x lent
-unfolding answerOf changeAnswer
-refused-answer {x} {m} {v} lent j h =
-    let rows = rowsAnswer (length (changeNotice (boardIn m) x)) lent in
-    first-refuses (answerOf v) rows h ∙ ap (λ (a : calls.Answer). orElse a rows) (j .is)
-
-pub few-answer : (b : Board) (x : calls.Change) (lent need : ℕ) → changeRefusal b x ≡ 0 → need ≡ length (changeNotice b x) → lent < need
-    → answerOf (FewRows need) ≡ changeAnswer b x lent
-unfolding answerOf numberOf detailOf changeAnswer orElse refusedWith rowsAnswer
-few-answer b x lent need h e l =
-    ap (λ (t : Bool). cond t (record { number = 8; detail = need }) accepted) (sym (lt-ltb lent need l))
-    ∙ ap₂ (λ (k i : ℕ). orElse (refusedWith k) (rowsAnswer i lent)) (sym h) e
-
-pub accepted-answer : (b : Board) (x : calls.Change) (lent need : ℕ) → changeRefusal b x ≡ 0 → need ≡ length (changeNotice b x) → need ≤ lent
-    → answerOf Accepted ≡ changeAnswer b x lent
-unfolding answerOf numberOf detailOf accepted
-accepted-answer b x lent need h e l = sym (changes-accepted b x lent h (omega (arith, e)))
 
 -- ---- the call that a change stands for
 

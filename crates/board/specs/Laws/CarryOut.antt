@@ -13,7 +13,7 @@ use Rattle.upkeep.specs.declared.telling.Telling.{Telling}
 use Rattle.board.specs.Change.{Made, EnterMade, WithdrawMade, RecostMade, EnterAsked, WithdrawAsked, RecostAsked}
 use Rattle.board.specs.Plan.{changeIn, callIn, Prepared, CarriedOut}
 use Rattle.board.specs.Laws.Calls.{call-withdraw, call-recost, call-enter}
-use Rattle.board.specs.declared.plan.Plan.{Plan}
+use Rattle.upkeep.specs.declared.plan.Plan.{Plan}
 
 module _ {t : Telling} {k : Change} {m : List ℕ} (a : Prepared t k m) where
   change-is : (goes : ℕ) (comes : Bool) → k .goes ≡ goes → k .comes ≡ comes → k ≡ record { goes = goes; comes = comes; coming = k .coming }

@@ -1,6 +1,6 @@
 -- The refusal of a change, from the answers of its checks on sound memory.
 use Prim.Native.Nat.{ℕ, zero, suc, zero-le, suc-le-suc}
-use mathlib.Core.Bool.{Bool, true, false, cond, not, _||_}
+use mathlib.Core.Bool.{Bool, true, false, cond, not, _&&_, _||_}
 use mathlib.Core.List.{List, [], _∷_}
 use mathlib.Core.Path.{_≡_, refl, sym, ap, ap₂, _∙_}
 use borrow.Author.Tests.{lt-ltb}
@@ -8,7 +8,6 @@ use lib.Dec.{ltb, leb, eqb, leb·suc-suc}
 use lib.ListN.{length}
 use Rattle.zorder.specs.Refusal.{refusal, costPastBad}
 use Rattle.model.specs.Basics.{any}
-use Rattle.model.specs.Moves.{Move}
 use Rattle.model.specs.Calls as calls
 use Rattle.model.specs.Calls.{onBoard, changeRefusal, refusedWith}
 use Rattle.line.specs.Line.{Placed, movesIn}
@@ -19,7 +18,12 @@ use Rattle.promises.specs.declared.Verdict.{Verdict}
 use Rattle.memory.specs.Held.{SoundAt}
 use Rattle.memory.specs.Laws.Lines.{length-line, lineIn-line}
 use Rattle.tree.specs.Withdraw.{PlaceOf}
+use Rattle.dominance.specs.declared.Move.{Move}
+use Rattle.memory.specs.declared.sound.Head.{Head}
+use Rattle.board.specs.Kind.{changeOf, comes, isNew, JudgesBy}
 use Rattle.board.specs.Change.{Judges}
+use Rattle.board.specs.declared.judge.Kind.{Kind}
+use Rattle.board.specs.declared.judge.Kind.the-variants.{Enter, Withdraw, Recost}
 
 found-step : (b : Bool) (p l : ℕ) → b || ltb p l ≡ ltb (cond b 0 (suc p)) (suc l)
 found-step true p l = sym (lt-ltb 0 (suc l) (suc-le-suc zero-le))
@@ -52,53 +56,43 @@ module _ (c d n : ℕ) (m : List ℕ) (s : SoundAt c d n m) where
       ∙ on-line number (lineFrom c d n m)
       ∙ ap₂ ltb (sym (e .is d)) (length-line c d n m)
 
-  -- Each check by its answer, known or not.
-  pub judges-enter :
-      (number : ℕ)
-      (costs : List ℕ)
-      (v : Verdict)
-      (large past on : Bool)
-      → leb c number ≡ large
-      → costPastBad d costs ≡ past
-      → onBoard number (boardIn m .moves) ≡ on
-      → answerOf v ≡ refusedWith (refusal ((large, 4) ∷ (past, 7) ∷ (on, 5) ∷ []))
-      → Judges (calls.enter number costs) m v
-  unfolding changeRefusal
-  judges-enter number costs v large past on e f g a =
-      record {
-        is =
-            a
-            ∙ sym (λ i.
-            refusedWith (refusal (((judge-size number ∙ e) i, 4) ∷ ((judge-past costs ∙ f) i, 7) ∷ (g i, 5) ∷ [])));
-      }
+-- ---- the checks of each kind of change
 
-  pub judges-withdraw :
-      (number : ℕ)
-      (v : Verdict)
-      (large on : Bool)
-      → leb c number ≡ large
-      → onBoard number (boardIn m .moves) ≡ on
-      → answerOf v ≡ refusedWith (refusal ((large, 4) ∷ (not on, 6) ∷ []))
-      → Judges (calls.withdraw number) m v
-  unfolding changeRefusal
-  judges-withdraw number v large on e g a =
-      record { is = a ∙ sym (λ i. refusedWith (refusal (((judge-size number ∙ e) i, 4) ∷ (not (g i), 6) ∷ []))) }
+refusal-of : (kind : Kind) (b : calls.Board) (x : Move)
+    → changeRefusal b (changeOf kind (x .number) (x .costs))
+    ≡ refusal
+    ((leb (b .size) (x .number), 4)
+    ∷ (comes kind && costPastBad (b .dimension) (x .costs), 7)
+    ∷ (cond (isNew kind) (onBoard (x .number) (b .moves)) (not (onBoard (x .number) (b .moves))), cond (isNew kind) 5 6)
+    ∷ [])
+unfolding changeRefusal changeOf comes isNew refusal
+refusal-of Enter b x = refl
+refusal-of Withdraw b x = refl
+refusal-of Recost b x = refl
 
-  pub judges-recost :
-      (number : ℕ)
-      (costs : List ℕ)
-      (v : Verdict)
-      (large past on : Bool)
-      → leb c number ≡ large
-      → costPastBad d costs ≡ past
-      → onBoard number (boardIn m .moves) ≡ on
-      → answerOf v ≡ refusedWith (refusal ((large, 4) ∷ (past, 7) ∷ (not on, 6) ∷ []))
-      → Judges (calls.recost number costs) m v
-  unfolding changeRefusal
-  judges-recost number costs v large past on e f g a =
-      record {
-        is =
-            a
-            ∙ sym (λ i.
-            refusedWith (refusal (((judge-size number ∙ e) i, 4) ∷ ((judge-past costs ∙ f) i, 7) ∷ (not (g i), 6) ∷ [])));
-      }
+-- Each check by its answer, known or not.
+pub judges-by : (kind : Kind) (h : Head) (x : Move) (on : Bool) {v : Verdict} (large past new : Bool) → leb (h .size) (x .number) ≡ large
+    → (comes kind && costPastBad (h .dimension) (x .costs)) ≡ past
+    → isNew kind ≡ new
+    → answerOf v ≡ refusedWith (refusal ((large, 4) ∷ (past, 7) ∷ (cond new on (not on), cond new 5 6) ∷ []))
+    → JudgesBy kind h x on v
+judges-by kind h x on large past new e f g a =
+    record {
+      is = λ b size dimension o.
+          a
+          ∙ sym
+          (ap refusedWith
+          (refusal-of kind b x
+          ∙ (λ i.
+          refusal
+          (((ap (λ (k : ℕ). leb k (x .number)) size ∙ e) i, 4)
+          ∷ ((ap (λ (k : ℕ). comes kind && costPastBad k (x .costs)) dimension ∙ f) i, 7)
+          ∷ (cond (g i) (o i) (not (o i)), cond (g i) 5 6)
+          ∷ []))));
+    }
+
+pub judged : {c d n p : ℕ} {m : List ℕ} (s : SoundAt c d n m) {kind : Kind} {x : Move} {v : Verdict} → PlaceOf c n (x .number) m p
+    → JudgesBy kind (record { size = c; dimension = d; count = n }) x (ltb p n) v → Judges (changeOf kind (x .number) (x .costs)) m v
+unfolding boardIn
+judged {c} {d} {n} {p} {m} s {x = x} e j =
+    record { is = j .is (boardIn m) (sym (s .size)) (sym (s .dimension)) (on-board c d n m s (x .number) p e) }

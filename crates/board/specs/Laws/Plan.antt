@@ -1,20 +1,22 @@
 -- The plan of a call, for each of its answers.
 use Prim.Native.Nat.{ℕ, zero, suc, _≤_, _<_}
-use mathlib.Core.Bool.{true, false, _&&_}
-use mathlib.Core.List.{List, [], map}
+use mathlib.Core.Bool.{Bool, true, false, _&&_}
+use mathlib.Core.List.{List, []}
 use mathlib.Core.Path.{_≡_, refl, sym, ap, ap₂, _∙_, subst}
 use native.Mathlib.Omega.{arith}
-use borrow.Author.Tests.{ltb-true, lt-ltb}
+use borrow.Author.Tests.{ltb-true, ltb-false, lt-ltb}
 use lib.Dec.{ltb}
 use lib.ListN.{length}
 use Rattle.model.specs.Basics.{equal}
 use Rattle.model.specs.Calls as calls
-use Rattle.model.specs.Calls.{changeRefusal, changeAnswer, changeNotice}
-use Rattle.model.specs.Laws.Bool.{both-ways, and-left, and-right}
+use Rattle.model.specs.Calls.{changeRefusal, changeAnswer, changeNotice, changesNothing, onBoard}
+use Rattle.model.specs.Withdrawing.{costsOn, unchanged}
+use Rattle.model.specs.Changing.{changeOpens}
+use Rattle.model.specs.Laws.Bool.{both-ways, byCases, and-left, and-right}
 use Rattle.model.specs.Laws.Notice.{equal-refl}
-use Rattle.promises.specs.Layout.{costsIn, boardIn}
+use Rattle.promises.specs.Layout.{dimensionIn, numberIn, costsIn, boardIn}
 use Rattle.promises.specs.Sound.{Sound}
-use Rattle.promises.specs.Answers.{answerOf, numberOf, counted, resultRow}
+use Rattle.promises.specs.Answers.{numberOf}
 use Rattle.promises.specs.Run.{Bytes}
 use Rattle.promises.specs.declared.Verdict.{Verdict}
 use Rattle.promises.specs.declared.Verdict.the-variants.{Accepted, Unsound, FewRows}
@@ -22,52 +24,41 @@ use Rattle.dominance.specs.Move.{asMove}
 use Rattle.upkeep.specs.Change.{Upkept}
 use Rattle.upkeep.specs.Notice.{noticeRows}
 use Rattle.upkeep.specs.Telling.{toldRows}
+use Rattle.upkeep.specs.Planned.{Nothing, Answered, Plans}
+use Rattle.upkeep.specs.Laws.Planned.{answered-unsound, answered-refused, answered-few, answered-all, nothing-plans}
 use Rattle.upkeep.specs.declared.change.Change.{Change}
 use Rattle.upkeep.specs.declared.change.Upkeep.{Upkeep}
 use Rattle.board.specs.Change.{Judges, Other, ComingPlace, neededRows, Made}
-use Rattle.board.specs.Plan.{callOf, alike, Ready, Planned, Nothing, PlanAsked, PlanOf}
+use Rattle.board.specs.Plan.{callOf, alike, Ready, Planned, PlanAsked, PlanOf}
+use Rattle.board.specs.Laws.Judge.{board-moves}
+use Rattle.board.specs.Laws.Recost.{costs-board}
 use Rattle.board.specs.Laws.Notice.{sound-rows, told-rows, rows-needed, notice-needs}
-use Rattle.board.specs.Laws.Calls.{judged-passes, refused-answer, few-answer, accepted-answer, call-recost, call-notice}
+use Rattle.board.specs.Laws.Calls.{judged-passes, call-withdraw, call-enter, call-recost, call-notice}
 use Rattle.board.specs.Laws.Accepted.{recost-on}
 use Rattle.board.specs.Laws.Unchanged.{no-notice, same-made}
-use Rattle.board.specs.declared.plan.Plan.{Plan}
+use Rattle.upkeep.specs.declared.plan.Plan.{Plan}
 
 -- ---- nothing told and nothing made
 
-counted-none : (k n : ℕ) → 0 < k → 0 ≡ counted k n
-unfolding counted
-counted-none zero n h = absurd (omega arith)
-counted-none (suc k) n h = refl
-
-module _ {x : calls.Change} {m : List ℕ} {lent : ℕ} {v : Verdict} {p : Plan} (e : Nothing v p) where
-  nothing-planned : (Sound m → answerOf v ≡ changeAnswer (boardIn m) x lent) → ((Sound m → ⊥) → v ≡ Unsound)
-      → 0 ≡ counted (numberOf v) (length (changeNotice (boardIn m) x))
-      → (numberOf v ≡ 0 → [] ≡ changeNotice (boardIn m) x)
-      → (numberOf v ≡ 0 → Made x m m)
-      → Planned x m lent p
-  nothing-planned answers unsound counts notice idle =
-      let v-is = e .verdict in
+module _ {x : calls.Change} {m : List ℕ} {lent : ℕ} {v : Verdict} {p : Plan} (e : Nothing v p) (a : Answered (changeAnswer (boardIn m) x lent) (changeNotice (boardIn m) x) m lent v 0) where
+  nothing-planned : (numberOf v ≡ 0 → [] ≡ changeNotice (boardIn m) x) → (numberOf v ≡ 0 → Made x m m) → Planned x m lent p
+  unfolding changeOpens
+  nothing-planned notice idle =
       record {
-        answers = λ s. ap answerOf v-is ∙ answers s;
-        unsound = λ bad. v-is ∙ unsound bad;
-        counts = e .count ∙ counts ∙ ap (λ (v : Verdict). counted (numberOf v) (length (changeNotice (boardIn m) x))) (sym v-is);
-        enough = omega (arith, e .count);
-        rows = ap length (e .telling .rows m) ∙ sym (e .count);
-        notice = λ a. ap (map resultRow) (e .telling .rows m) ∙ notice (sym (ap numberOf v-is) ∙ a);
-        asked = λ l. absurd (omega (arith, e .count));
+        plans = nothing-plans e a notice (λ _ _ _. refl);
         accepted = λ f. both-ways f (e .makes);
         makes = λ f. both-ways f (e .makes);
-        idle = λ _ a. idle (sym (ap numberOf v-is) ∙ a);
+        idle = λ _ z. idle (sym (ap numberOf (e .verdict)) ∙ z);
+        nothing = λ _ _. e .makes;
         able = record { prepared = λ f. both-ways f (e .makes) };
       }
 
-  refused-planned : 0 < numberOf v → (Sound m → answerOf v ≡ changeAnswer (boardIn m) x lent) → ((Sound m → ⊥) → v ≡ Unsound) → Planned x m lent p
-  refused-planned h answers unsound =
-      nothing-planned answers unsound (counted-none (numberOf v) _ h) (λ a. absurd (omega arith)) (λ a. absurd (omega arith))
+  refused-planned : 0 < numberOf v → Planned x m lent p
+  refused-planned h = nothing-planned (λ z. absurd (omega arith)) (λ z. absurd (omega arith))
 
 pub plan-unsound : {x : calls.Change} {m : List ℕ} {lent : ℕ} {p : Plan} → (Sound m → ⊥) → Nothing Unsound p → Planned x m lent p
-unfolding numberOf
-plan-unsound bad e = refused-planned e (omega arith) (λ s. absurd (bad s)) (λ _. refl)
+unfolding numberOf changeAnswer
+plan-unsound {x} {m} {lent} bad e = refused-planned e (answered-unsound (changeRefusal (boardIn m) x) (changeNotice (boardIn m) x) m lent bad) (omega arith)
 
 -- ---- the plan of a change
 
@@ -76,8 +67,12 @@ module _ {c d n : ℕ} {v : Verdict} {k : Change} {m : List ℕ} (a : PlanAsked 
   sound = a .sound .sound
 
   pub plan-refused : {lent : ℕ} {p : Plan} → 0 < numberOf v → Nothing v p → PlanOf c n v k m lent p
+  unfolding changeAnswer
   plan-refused {lent} h e =
-      record { plans = λ x j _. refused-planned e h (λ _. refused-answer lent j h) (λ bad. absurd (bad sound)) }
+      record {
+        plans = λ x j _.
+            refused-planned e (answered-refused (changeRefusal (boardIn m) x) (changeNotice (boardIn m) x) m lent sound v (j .is) h) h;
+      }
 
   module _ (h : numberOf v ≡ 0) where
     abbrev ready : Ready c d n k m
@@ -95,15 +90,14 @@ module _ {c d n : ℕ} {v : Verdict} {k : Change} {m : List ℕ} (a : PlanAsked 
 
       idle-recost : {lent : ℕ} {p : Plan} → Judges (calls.recost (k .coming .number) (k .coming .costs)) m v → Nothing Accepted p
           → Planned (calls.recost (k .coming .number) (k .coming .costs)) m lent p
-      unfolding numberOf counted
+      unfolding changeAnswer
       idle-recost {lent} j e =
           let x = k .coming in
           let fit = ready .asked .fit (alike-costs .0) in
           let ok = judged-passes j h in
           let on = recost-on (boardIn m) (x .number) (x .costs) ok in
           let none = no-notice (a .sound) b x fit on (alike-costs .2) in
-          nothing-planned e (λ _. accepted-answer (boardIn m) _ lent 0 ok (ap length (sym none)) (omega arith))
-          (λ bad. absurd (bad sound)) (ap length (sym none)) (λ _. sym none)
+          nothing-planned e (answered-all _ _ m lent sound ok 0 (ap length (sym none)) (omega arith)) (λ _. sym none)
           (λ _. same-made (a .sound) b x fit on (alike-costs .2))
 
       pub plan-idle : {lent : ℕ} {p : Plan} → Nothing Accepted p → PlanOf c n v k m lent p
@@ -126,6 +120,29 @@ module _ {c d n : ℕ} {v : Verdict} {k : Change} {m : List ℕ} (a : PlanAsked 
                 different;
           }
 
+      -- A change that is made changes something.
+      costs-change : k .comes ≡ true → k .goes < n → changeRefusal (boardIn m) (calls.recost (k .coming .number) (k .coming .costs)) ≡ 0
+          → changesNothing (boardIn m) (calls.recost (k .coming .number) (k .coming .costs)) ≡ false
+      unfolding changesNothing unchanged alike
+      costs-change e l ok =
+          let x = k .coming in
+          let own = board-moves c d n m (a .sound) in
+          let on = ap (onBoard (x .number)) (sym own) ∙ recost-on (boardIn m) (x .number) (x .costs) ok in
+          ap (equal (x .costs)) (ap (costsOn (x .number)) own ∙ costs-board c d n m (x .number) on ∙ ap (costsIn c d m) (sym (ready .number e l)))
+          ∙ sym (ap₂ (λ (p q : Bool). p && (q && equal (x .costs) (costsIn c d m (numberIn c m (k .goes))))) e (lt-ltb (k .goes) n l))
+          ∙ different
+
+      never-nothing : (x : calls.Change) → changeRefusal (boardIn m) x ≡ 0 → callOf c n k m ≡ x → changesNothing (boardIn m) x ≡ false
+      unfolding changesNothing
+      never-nothing x ok stands =
+          let by : (y : calls.Change) → callOf c n k m ≡ y → changesNothing (boardIn m) y ≡ false → changesNothing (boardIn m) x ≡ false =
+          λ y is f. ap (changesNothing (boardIn m)) (sym stands ∙ is) ∙ f in
+          byCases (k .comes)
+          (λ e. byCases (ltb (k .goes) n)
+          (λ i. let l = ltb-true (k .goes) n i in let is = call-recost c n k m e l in by _ is (costs-change e l (ap (changeRefusal (boardIn m)) (sym is ∙ stands) ∙ ok)))
+          (λ o. by _ (call-enter c n k m e (ltb-false (k .goes) n o)) refl))
+          (λ e. by _ (call-withdraw c n k m e) refl)
+
       module _ {u : Upkeep} (up : Upkept c d n k m u) {need : ℕ} (e : need ≡ neededRows u) where
         plan-need : need ≡ length (changeNotice (boardIn m) (callOf c n k m))
         plan-need = e ∙ notice-needs (ready .asked) b other up ∙ ap length (call-notice ready b)
@@ -134,13 +151,11 @@ module _ {c d n : ℕ} {v : Verdict} {k : Change} {m : List ℕ} (a : PlanAsked 
         need-of x stands = plan-need ∙ ap (λ (x : calls.Change). length (changeNotice (boardIn m) x)) (stands h)
 
         pub plan-few : {lent : ℕ} {p : Plan} → lent < need → Nothing (FewRows need) p → PlanOf c n v k m lent p
-        unfolding numberOf
+        unfolding numberOf changeAnswer
         plan-few {lent} l g =
             record {
               plans = λ x j stands.
-                  refused-planned g (omega arith)
-                  (λ _. few-answer (boardIn m) x lent need (judged-passes j h) (need-of x stands) l)
-                  (λ bad. absurd (bad sound));
+                  refused-planned g (answered-few (changeRefusal (boardIn m) x) (changeNotice (boardIn m) x) m lent sound (judged-passes j h) need (need-of x stands) l) (omega arith);
             }
 
         module _ {lent : ℕ} (l : need ≤ lent) {place : ℕ} (q : ComingPlace c d n k m place) where
@@ -149,30 +164,36 @@ module _ {c d n : ℕ} {v : Verdict} {k : Change} {m : List ℕ} (a : PlanAsked 
               record {
                 verdict = Accepted;
                 count = need;
+                opened = 0;
                 makes = true;
                 goes = k .goes;
                 comes = k .comes;
                 telling = record { size = c; dimension = d; count = n; place = place; mark = 1; coming = k .coming; upkeep = u };
               }
 
-          full-planned : (x : calls.Change) → changeRefusal (boardIn m) x ≡ 0 → (numberOf v ≡ 0 → callOf c n k m ≡ x) → Planned x m lent full
-          unfolding numberOf counted toldRows noticeRows
-          full-planned x ok stands =
+          full-plans : (x : calls.Change) → changeRefusal (boardIn m) x ≡ 0 → (numberOf v ≡ 0 → callOf c n k m ≡ x)
+              → Plans (changeAnswer (boardIn m) x lent) (changeNotice (boardIn m) x) (changeOpens (dimensionIn m) x) m lent full
+          unfolding numberOf changeAnswer changeOpens toldRows noticeRows
+          full-plans x ok stands =
               let rows = sound-rows (a .sound) in
               record {
-                answers = λ _. accepted-answer (boardIn m) x lent need ok (need-of x stands) l;
-                unsound = λ bad. absurd (bad sound);
-                counts = need-of x stands;
-                enough = l;
-                rows = rows-needed (ready .asked) b other up q (asMove (k .coming)) ∙ sym e;
-                notice = λ _.
-                    told-rows (ready .asked) b other up q
-                    ∙ call-notice ready b
-                    ∙ ap (changeNotice (boardIn m)) (stands h);
+                answered = answered-all _ _ m lent sound ok need (need-of x stands) l;
+                opens = λ _ _ _. refl;
+                closed = λ z. absurd (omega arith);
+                told = rows-needed (ready .asked) b other up q (asMove (k .coming)) ∙ sym e;
+                tells = λ _. told-rows (ready .asked) b other up q ∙ call-notice ready b ∙ ap (changeNotice (boardIn m)) (stands h);
                 asked = λ _. record { room = rows .0; places = rows .1; place = q .within; numbers = rows .2; dimension = rows .3 };
+              }
+
+          full-planned : (x : calls.Change) → changeRefusal (boardIn m) x ≡ 0 → (numberOf v ≡ 0 → callOf c n k m ≡ x) → Planned x m lent full
+          unfolding numberOf
+          full-planned x ok stands =
+              record {
+                plans = full-plans x ok stands;
                 accepted = λ _. refl;
                 makes = λ _. stands h;
                 idle = λ f. both-ways refl f;
+                nothing = λ _ same. both-ways same (never-nothing x ok (stands h));
                 able = record { prepared = λ _. record { ready = ready; other = other; upkept = up } };
               }
 

@@ -1,26 +1,25 @@
 -- A plan that is told and carried out keeps the promise of its call.
 use Prim.Native.Nat.{ℕ, zero, suc}
 use mathlib.Core.Bool.{Bool, true, false}
-use mathlib.Core.List.{List, [], _++_, map}
-use mathlib.Core.Path.{_≡_, refl, sym, ap, ap₂, _∙_, subst}
+use mathlib.Core.List.{List, _++_, map}
+use mathlib.Core.Path.{_≡_, refl, sym, ap, _∙_, subst}
 use native.Mathlib.Omega.{arith}
-use lib.ListN.{length, drop, length-map}
+use lib.ListN.{length, drop}
 use Rattle.model.specs.Moves.{Row}
 use Rattle.model.specs.Tree.{Tree}
 use Rattle.model.specs.Calls as calls
-use Rattle.model.specs.Calls.{refusedWith, changeAnswer, changeNotice, changed}
-use Rattle.model.specs.Changing.{changeTree}
+use Rattle.model.specs.Calls.{changeAnswer, changeNotice, changed, changesNothing}
+use Rattle.model.specs.Changing.{changeTree, changeOpens}
 use Rattle.promises.specs.Layout.{dimensionIn, boardIn}
-use Rattle.promises.specs.Sound.{Stands}
-use Rattle.promises.specs.Answers.{answerOf, numberOf, detailOf, counted, rowsAfter, resultRow}
+use Rattle.promises.specs.Sound.{Stands, Sound}
+use Rattle.promises.specs.Answers.{numberOf, resultRow}
 use Rattle.promises.specs.Promise.{MemoryAfter, ChangePromise}
-use Rattle.promises.specs.declared.Answer.{Answer}
 use Rattle.upkeep.specs.Telling.{toldRows}
-use Rattle.upkeep.specs.Laws.Telling.{length-none}
-use Rattle.upkeep.specs.Laws.Planned.{put-results}
+use Rattle.upkeep.specs.Planned.{answerIn, Plans}
+use Rattle.upkeep.specs.Laws.Planned.{plans-said, plans-unsaid}
+use Rattle.upkeep.specs.declared.plan.Plan.{Plan}
 use Rattle.board.specs.Change.{Made}
-use Rattle.board.specs.Plan.{CarriedOut, Planned, answerIn}
-use Rattle.board.specs.declared.plan.Plan.{Plan}
+use Rattle.board.specs.Plan.{CarriedOut, Planned}
 
 module _ {x : calls.Change} {m m' : List ℕ} {lent : ℕ} {p : Plan} (plan : Planned x m lent p) (out : CarriedOut p m m') where
   -- A refused plan makes nothing.
@@ -37,59 +36,17 @@ module _ {x : calls.Change} {m m' : List ℕ} {lent : ℕ} {p : Plan} (plan : Pl
   plan-left zero e = accepted-made e (p .makes) refl .kept
   plan-left (suc k) e = λ t _. refused-idle k e (p .makes) refl
 
-  module _ (rows rows' : List Row) (tells : rows' ≡ map resultRow (toldRows (p .telling) m) ++ drop (p .count) rows) where
-    refused-rows : (k : ℕ) → numberOf (p .verdict) ≡ suc k → rows' ≡ rows
-    unfolding counted
-    refused-rows k e =
-        let zero-count : p .count ≡ 0 = plan .counts ∙ ap (λ (i : ℕ). counted i (length (changeNotice (boardIn m) x))) e in
-        tells
-        ∙ ap₂ (λ (new : List (List ℕ)) (i : ℕ). map resultRow new ++ drop i rows)
-        (length-none (toldRows (p .telling) m) (plan .rows ∙ zero-count)) zero-count
+  plan-nothing : Sound m → changesNothing (boardIn m) x ≡ true → m' ≡ m
+  plan-nothing s e = out .idle (plan .nothing s e)
 
-    plan-tells : (k : ℕ) → numberOf (p .verdict) ≡ k → rows' ≡ rowsAfter k (changeNotice (boardIn m) x) rows
-    unfolding rowsAfter counted
-    plan-tells zero e =
-        let count = plan .counts ∙ ap (λ (i : ℕ). counted i (length (changeNotice (boardIn m) x))) e in
-        tells ∙ ap₂ (λ (new : List Row) (i : ℕ). new ++ drop i rows) (plan .notice e) count
-    plan-tells (suc k) e = refused-rows k e
-
-    pub plan-promise : lent ≡ length rows → ChangePromise x m rows (answerIn p) m' rows'
-    unfolding answerOf numberOf detailOf refusedWith counted rowsAfter
-    plan-promise enough =
-        record {
-          sound = λ t stands.
-              record {
-                answers = plan .answers (record { tree = t; stands = stands }) ∙ ap (changeAnswer (boardIn m) x) enough;
-                counts = plan .counts;
-                tells = plan-tells (numberOf (p .verdict)) refl;
-              };
-          left = plan-left (numberOf (p .verdict)) refl;
-          unsound = λ bad.
-              let three = ap numberOf (plan .unsound bad) in (
-                record {
-                  answers = ap answerOf (plan .unsound bad);
-                  counts = plan .counts ∙ ap (λ (i : ℕ). counted i (length (changeNotice (boardIn m) x))) three ∙ ap (λ (i : ℕ). counted i 0) (sym three);
-                  tells = refused-rows 2 three ∙ ap (λ (i : ℕ). rowsAfter i [] rows) (sym three);
-                },
-                refused-idle 2 three (p .makes) refl,
-              );
-        }
-
--- The rows as arrays of numbers.
-pub plan-kept :
-    {x : calls.Change}
-    {m m' : List ℕ}
-    {p : Plan}
-    {r : Answer}
-    (rows : List (List ℕ))
-    {rows' : List (List ℕ)}
-    → Planned x m (length rows) p
-    → rows' ≡ toldRows (p .telling) m ++ drop (p .count) rows
-    → CarriedOut p m m'
-    → r ≡ answerIn p
-    → ChangePromise x m (map resultRow rows) r m' (map resultRow rows')
-plan-kept {x} {m} {m'} {p} {r} rows {rows'} plan tells out e =
-    subst (λ (r : Answer). ChangePromise x m (map resultRow rows) r m' (map resultRow rows')) (sym e)
-    (plan-promise plan out (map resultRow rows) (map resultRow rows')
-    (ap (map resultRow) tells ∙ put-results (toldRows (p .telling) m) rows (p .count))
-    (sym (length-map rows resultRow)))
+  pub plan-promise : (rows rows' : List Row) → lent ≡ length rows → rows' ≡ map resultRow (toldRows (p .telling) m) ++ drop (p .count) rows
+      → ChangePromise x m rows (answerIn p) m' rows'
+  unfolding numberOf
+  plan-promise rows rows' enough tells =
+      let plans = subst (λ (n : ℕ). Plans (changeAnswer (boardIn m) x n) (changeNotice (boardIn m) x) (changeOpens (dimensionIn m) x) m lent p) enough (plan .plans) in
+      record {
+        sound = plans-said plans rows rows' tells;
+        left = plan-left (numberOf (p .verdict)) refl;
+        nothing = plan-nothing;
+        unsound = λ bad. (plans-unsaid plans rows rows' tells bad, refused-idle 2 (ap numberOf (plans .answered .unsound bad)) (p .makes) refl);
+      }

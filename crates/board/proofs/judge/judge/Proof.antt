@@ -1,0 +1,98 @@
+-- `judge::judge` meets its contract: each check by its answer. Assumes nothing.
+use Prim.Native.Nat.{ℕ}
+use mathlib.Core.Bool.{Bool, true, false, not, _&&_}
+use mathlib.Core.List.{[], _∷_}
+use mathlib.Core.Logic.{⊎-elim}
+use mathlib.Core.Path.{_≡_, refl, sym, ap, ap₂, _∙_}
+use native.Mathlib.Omega.{arith}
+use borrow.Author.Needs.{needs}
+use borrow.Author.Tests.{le-leb, lt-leb}
+use Rattle.zorder.specs.Refusal.{refusal, costPastBad}
+use Rattle.model.specs.Calls.{refusedWith}
+use Rattle.promises.specs.Answers.{answerOf, numberOf, detailOf}
+use Rattle.board.specs.Kind.{comes}
+use Rattle.board.specs.Laws.Judge.{judges-by}
+use Rattle.board.proofs.judge.judge.Statement.{statement}
+use Rattle.board.proofs.judge.judge.Tie as tie
+
+cast-if1 : tie.Need-cast-if1
+cast-if1 c = search needs
+
+returns : tie.Need-returns
+unfolding refusal refusedWith answerOf numberOf detailOf
+returns c =
+    let a = c .before .before .before .args in
+    judges-by (a .kind) (a .h) (a .x) (a .on) true _ _ (le-leb (a .h .size) (a .x .number) (c .if1 .taken)) refl refl refl
+
+comes-requires : tie.Need-comes-requires
+comes-requires c κs = search needs
+
+zero-past-requires : tie.Need-zero-past-requires
+zero-past-requires c κs = search needs
+
+returns-2 : tie.Need-returns-2
+unfolding refusal refusedWith answerOf numberOf detailOf costPastBad
+returns-2 c =
+    let a = c .before .before .before .before .before .before .before .before .args in
+    judges-by (a .kind) (a .h) (a .x) (a .on) false true _ (lt-leb (a .h .size) (a .x .number) (omega arith))
+    (ap₂ _&&_ (sym (c .before .before .before .comes .ensures) ∙ c .before .before .if2 .taken) (ap not (sym (c .before .zero-past .ensures)) ∙ c .if3 .taken))
+    refl refl
+
+-- Once no cost past d turns the change down.
+passed : (c : tie.Joined2) → (comes (c .before .before .before .before .before .before .args .kind) && costPastBad (c .before .before .before .before .before .before .args .h .dimension) (c .before .before .before .before .before .before .args .x .costs)) ≡ false
+unfolding costPastBad
+passed c =
+    ⊎-elim
+    (λ w. ap₂ _&&_ (sym (c .before .comes .ensures) ∙ w .0 .taken) (ap not (sym (w .1 .ensures)) ∙ w .2 .left))
+    (λ w. ap₂ _&&_ (sym (c .before .comes .ensures) ∙ w .left) refl)
+    (c .if2 .came)
+
+is-new-requires : tie.Need-is-new-requires
+is-new-requires c κs = search needs
+
+-- By the last check alone.
+last : (k : ℕ) {b b' : Bool} → b ≡ b' → refusedWith (refusal ((false, 4) ∷ (false, 7) ∷ (b', k) ∷ [])) ≡ refusedWith (refusal ((false, 4) ∷ (false, 7) ∷ (b, k) ∷ []))
+last k e = ap (λ (o : Bool). refusedWith (refusal ((false, 4) ∷ (false, 7) ∷ (o, k) ∷ []))) (sym e)
+
+returns-3 : tie.Need-returns-3
+unfolding refusal refusedWith answerOf numberOf detailOf
+returns-3 c =
+    let a = c .before .before .before .before .before .before .before .before .before .args in
+    judges-by (a .kind) (a .h) (a .x) (a .on) false false true (lt-leb (a .h .size) (a .x .number) (omega arith)) (passed (c .before .before .before)) (sym (c .before .before .is-new .ensures) ∙ c .before .if4 .taken)
+    (last 5 (c .if5 .taken))
+
+returns-4 : tie.Need-returns-4
+unfolding refusal refusedWith answerOf numberOf detailOf
+returns-4 c =
+    let a = c .before .before .before .before .before .before .before .before .before .args in
+    judges-by (a .kind) (a .h) (a .x) (a .on) false false false (lt-leb (a .h .size) (a .x .number) (omega arith)) (passed (c .before .before .before)) (sym (c .before .before .is-new .ensures) ∙ c .before .if4 .left)
+    (last 6 (c .if6 .taken))
+
+returns-5 : tie.Need-returns-5
+unfolding refusal refusedWith answerOf numberOf detailOf
+returns-5 c =
+    let a = c .before .before .before .before .before .before .before .before .before .args in
+    judges-by (a .kind) (a .h) (a .x) (a .on) false false true (lt-leb (a .h .size) (a .x .number) (omega arith)) (passed (c .before .before .before)) (sym (c .before .before .is-new .ensures) ∙ c .before .if4 .taken)
+    (last 5 (c .if5 .left))
+
+returns-6 : tie.Need-returns-6
+unfolding refusal refusedWith answerOf numberOf detailOf
+returns-6 c =
+    let a = c .before .before .before .before .before .before .before .before .before .args in
+    judges-by (a .kind) (a .h) (a .x) (a .on) false false false (lt-leb (a .h .size) (a .x .number) (omega arith)) (passed (c .before .before .before)) (sym (c .before .before .is-new .ensures) ∙ c .before .if4 .left)
+    (last 6 (c .if6 .left))
+
+pub judge-spec : {M : Type 1} → statement M
+judge-spec =
+    tie.close
+    (tie.spec
+    cast-if1
+    returns
+    comes-requires
+    zero-past-requires
+    returns-2
+    is-new-requires
+    returns-3
+    returns-4
+    returns-5
+    returns-6)
