@@ -44,15 +44,15 @@ use denote.Triple.Walked.{says, Stays, stay-none, gave-slice, walkOf, goes-none,
 use denote.Exit.{yes}
 use Rattle.model.specs.Calls as calls
 use Rattle.board.specs.Plan.{Planned}
-use Rattle.board.proofs.plan.Plan as P
-use Rattle.board.proofs.plan.Plan.Laws as P′
+use Rattle.upkeep.proofs.plan.Plan as P
+use Rattle.upkeep.proofs.plan.Plan.Laws as P′
 use Rattle.board.proofs.plan_enter as plan
 use Rattle.rows.specs.declared.Row.{Row}
 use Rattle.rows.proofs.Walk.{envOf, free-all, returned}
 use Rattle.rows.proofs.Lent.{at-rows}
 use Rattle.rows.proofs.Row as T
 use Rattle.rows.proofs.Row.Laws as T′
-use Rattle.dolzhev.specs.Exported.{ChangeExported}
+use Rattle.dolzhev.specs.Exported.{rowsOf, ChangeExported}
 use Rattle.dolzhev.specs.Laws.Exported.{planned-asked, planned-exported}
 use Rattle.dolzhev.specs.declared.answer.Answer.{Answer}
 use Rattle.dolzhev.specs.declared.answer.Move.{Move}
@@ -95,7 +95,7 @@ stayed = (gave-slice (0 ∷ []) tt (plain (λ _. u8)), (stay-none (λ _. B.the-r
 
 module _ {M : Type 1} (𝓤 : URA M) (ask : ℕ → List ℕ → calls.Change) where
   abbrev pub clausesOf : Clauses 𝓤 f.ended
-  clausesOf κs a = record { ghost = Unit {0}; requires = λ _. emp 𝓤; ensures = λ _ r e. fact 𝓤 (ChangeExported (ask (a .1 .0 .number) (a .1 .0 .costs)) (a .0 .now) (a .1 .1 .0 .now) r (e .0 .now) (e .1 .1 .0 .now)) }
+  clausesOf κs a = record { ghost = Unit {0}; requires = λ _. emp 𝓤; ensures = λ _ r e. fact 𝓤 (ChangeExported (ask (a .1 .0 .number) (a .1 .0 .costs)) (a .0 .now) (rowsOf (a .1 .1 .0 .now)) r (e .0 .now) (rowsOf (e .1 .1 .0 .now))) }
 
   abbrev planClauses : Clauses 𝓤 plan.ended
   planClauses κs a = record { ghost = Unit {0}; requires = λ _. emp 𝓤; ensures = λ _ r e. fact 𝓤 (Planned (ask (a .1 .0) (a .1 .1 .0)) (a .0 .now) (a .1 .1 .1 .0) r) }
@@ -125,7 +125,7 @@ module _ {M : Type 1} (𝓤 : URA M) (H : Heap 𝓤) (A : Atoms 𝓤) (W : Given
   abbrev Post : Val → SProp 𝓤
   Post = walkOf 𝓤 H A f.ended stayed (clausesOf 𝓤 ask) .post (((κ, (κr, tt)), (q, (qr, tt)), tt, a, vals), tt)
 
-  exits : (r : Answer) (w : Val) (ms : List ℕ) (zs : List Row) → ChangeExported (ask (x .number) (x .costs)) m ys r ms zs → length ms ≡ length m → length zs ≡ length ys → Is N.the-row r (w ∷ [])
+  exits : (r : Answer) (w : Val) (ms : List ℕ) (zs : List Row) → ChangeExported (ask (x .number) (x .costs)) m (rowsOf ys) r ms (rowsOf zs) → length ms ≡ length m → length zs ≡ length ys → Is N.the-row r (w ∷ [])
       → ent 𝓤 (⋆ 𝓤 H A (‵ (flft κ q) ∷ ‵ (flft κr qr) ∷ ‵ (finally u8 γ ms) ∷ ‵ (finally T.the-row γr zs) ∷ [])) (Post w)
   exits r w ms zs e l lr is =
       qed W (‵ (flft κ q) ∷ ‵ (flft κr qr) ∷ ‵ (finally u8 γ ms) ∷ ‵ (finally T.the-row γr zs) ∷ []) ∵

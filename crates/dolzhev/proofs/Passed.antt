@@ -28,9 +28,9 @@ use denote.Triple.Spec.{tripleOf}
 use denote.Triple.Statement.{Contract, Triple}
 use denote.Triple.Call.{calls-at}
 use denote.Triple.Walked.{says}
-use Rattle.board.specs.declared.plan.Plan.{Plan}
-use Rattle.board.proofs.plan.Plan as P
-use Rattle.board.proofs.plan.Plan.Laws as P′
+use Rattle.upkeep.specs.declared.plan.Plan.{Plan}
+use Rattle.upkeep.proofs.plan.Plan as P
+use Rattle.upkeep.proofs.plan.Plan.Laws as P′
 use Rattle.rows.specs.declared.Row.{Row}
 use Rattle.rows.proofs.Lent.{at-rows}
 use Rattle.rows.proofs.Row as T

@@ -6,13 +6,14 @@ use lib.ListN.{length}
 use Rattle.model.specs.Moves as model
 use Rattle.model.specs.Calls as calls
 use Rattle.promises.specs.Answers.{numberOf, detailOf, resultRow}
-use Rattle.promises.specs.Promise.{LoadPromise, ChangePromise, ListPromise, QueryPromise}
+use Rattle.promises.specs.Promise.{LoadPromise, ChangePromise, QueryPromise}
+use Rattle.promises.specs.declared.Answer as said
 use Rattle.promises.specs.declared.Verdict.{Verdict}
 use Rattle.upkeep.specs.Telling.{TellingAsked, filledRows}
 use Rattle.rows.specs.Rows.{rowNumbers}
 use Rattle.rows.specs.declared.Row.{Row}
 use Rattle.board.specs.Plan.{Able, CarriedOut}
-use Rattle.board.specs.declared.plan.Plan.{Plan}
+use Rattle.upkeep.specs.declared.plan.Plan.{Plan}
 use Rattle.dolzhev.specs.declared.answer.Answer.{Answer}
 
 -- A verdict handed on: its number and detail, and what is told.
@@ -33,20 +34,15 @@ pub record LoadExported (c d : ℕ) (rows : List model.InputRow) (m : List ℕ) 
   pub handed : Handed verdict 0 0 r
   pub promise : LoadPromise c d rows m verdict m'
 
-pub record ChangeExported (x : calls.Change) (m : List ℕ) (lent : List Row) (r : Answer) (m' : List ℕ) (lent' : List Row) : Type 0 where
-  pub verdict : Verdict
-  pub handed : Handed verdict (r .count) 0 r
-  pub promise : ChangePromise x m (rowsOf lent) (record { verdict = verdict; count = r .count }) m' (rowsOf lent')
+pub record ChangeExported (x : calls.Change) (m : List ℕ) (lent : List model.Row) (r : Answer) (m' : List ℕ) (lent' : List model.Row) : Type 0 where
+  pub answer : said.Answer
+  pub handed : Handed (answer .verdict) (answer .count) (answer .opened) r
+  pub promise : ChangePromise x m lent answer m' lent'
 
-pub record ListExported (m : List ℕ) (lent : List Row) (r : Answer) (lent' : List Row) : Type 0 where
-  pub verdict : Verdict
-  pub handed : Handed verdict (r .count) (r .opened) r
-  pub promise : ListPromise m (rowsOf lent) (record { verdict = verdict; count = r .count; opened = r .opened }) (rowsOf lent')
-
-pub record QueryExported (q : calls.Query) (m : List ℕ) (lent : List Row) (r : Answer) (lent' : List Row) : Type 0 where
-  pub verdict : Verdict
-  pub handed : Handed verdict (r .count) 0 r
-  pub promise : QueryPromise q m (rowsOf lent) (record { verdict = verdict; count = r .count }) (rowsOf lent')
+pub record QueryExported (q : calls.Query) (m : List ℕ) (lent : List model.Row) (r : Answer) (lent' : List model.Row) : Type 0 where
+  pub answer : said.Answer
+  pub handed : Handed (answer .verdict) (answer .count) (answer .opened) r
+  pub promise : QueryPromise q m lent answer lent'
 
 -- ---- a plan told and carried out
 
@@ -58,4 +54,4 @@ pub record DoneAsked (p : Plan) (m : List ℕ) (lent : List Row) : Type 0 where
 pub record Done (p : Plan) (m : List ℕ) (lent : List Row) (r : Answer) (m' : List ℕ) (lent' : List Row) : Type 0 where
   pub tells : map rowNumbers lent' ≡ filledRows (p .telling) m (p .count) (map rowNumbers lent)
   pub out : CarriedOut p m m'
-  pub handed : Handed (p .verdict) (p .count) 0 r
+  pub handed : Handed (p .verdict) (p .count) (p .opened) r

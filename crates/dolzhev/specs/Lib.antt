@@ -1,4 +1,3 @@
 -- What the exported calls promise; then laws.
 pub mod Exported
-pub mod Ranked
 pub mod Laws

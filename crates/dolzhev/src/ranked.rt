@@ -1,54 +1,19 @@
-// Rank (Definition 4): planned, then the listed moves are put in order among the rows. The memory is lent for reading only.
+// Rank (Definition 4): the rows are put in order where they are lent. The memory is lent for reading only.
 use crate::answer::Answer;
 use crate::answer::handed;
-use memory::count;
-use memory::dimension;
-use memory::size;
-use promises::Verdict;
-use query::plan_rank;
-use ranking::put_ranked;
-use rows::Row;
+use query::rank;
+use upkeep::ROW;
+ghost use mathlib.Core.List.{map};
 ghost use Rattle.model.specs.Calls.{rankQuery};
+ghost use Rattle.promises.specs.Answers.{resultRow};
 ghost use Rattle.dolzhev.specs.Exported.{QueryExported};
-ghost use Rattle.dolzhev.specs.Ranked.{RankReady};
 
-// A rank planned, and the moves to look through: those of the memory, or none where no row is told.
-struct Ranked {
-    verdict: Verdict,
-    count: usize,
-    size: usize,
-    dimension: usize,
-    moves: usize,
-}
-
-fn ranked_of(m: &[u8], t: usize, lent: usize) -> Ranked
-    ensures { λ r. ⌜ RankReady t (now (m .entry)) lent r ⌝ }
-{
-    let p = plan_rank(m, t, lent);
-    let verdict = p.verdict;
-    if p.count == 0 {
-        return Ranked {
-            verdict,
-            count: 0,
-            size: 0,
-            dimension: 0,
-            moves: 0,
-        };
-    }
-    Ranked {
-        verdict,
-        count: p.count,
-        size: size(m),
-        dimension: dimension(m),
-        moves: count(m),
-    }
-}
-
+// Its rows are read again and again while they are put in order: arrays of the row's layout, as load's are.
 #[no_mangle]
-pub extern "C" fn dolzhev_rank(memory: &[u8], t: usize, rows: &mut [Row]) -> Answer
-    ensures { λ r. ⌜ QueryExported (rankQuery t) (now (memory .entry)) (now (rows .entry)) r (now (rows .exit)) ⌝ }
+pub extern "C" fn dolzhev_rank(memory: &[u8], t: usize, rows: &mut [[u16; ROW]]) -> Answer
+    ensures { λ r. ⌜ QueryExported (rankQuery t) (now (memory .entry)) (map resultRow (now (rows .entry))) r (map resultRow (now (rows .exit))) ⌝ }
 {
-    let p = ranked_of(memory, t, rows.len());
-    put_ranked(rows, memory, p.size, p.dimension, p.moves, p.count);
-    handed(p.verdict, p.count, 0)
+    let r = rank(memory, t, rows);
+    let verdict = r.verdict;
+    handed(verdict, r.count, r.opened)
 }

@@ -38,8 +38,8 @@ use denote.Triple.Walked.{says, Stays, stay-none, gave-slice, walkOf, goes-none,
 use denote.Exit.{yes}
 use Rattle.model.specs.Calls as calls
 use Rattle.board.specs.Plan.{Planned}
-use Rattle.board.proofs.plan.Plan as P
-use Rattle.board.proofs.plan.Plan.Laws as P′
+use Rattle.upkeep.proofs.plan.Plan as P
+use Rattle.upkeep.proofs.plan.Plan.Laws as P′
 use Rattle.board.proofs.plan_withdraw as plan
 use Rattle.board.proofs.plan_withdraw.Symbol as plan-def
 use Rattle.board.proofs.plan_withdraw.Symbol.{name as #board·plan-withdraw}
@@ -48,7 +48,7 @@ use Rattle.rows.specs.declared.Row.{Row}
 use Rattle.rows.proofs.Walk.{envOf, free-all, returned}
 use Rattle.rows.proofs.Lent.{at-rows}
 use Rattle.rows.proofs.Row as T
-use Rattle.dolzhev.specs.Exported.{ChangeExported}
+use Rattle.dolzhev.specs.Exported.{rowsOf, ChangeExported}
 use Rattle.dolzhev.specs.Laws.Exported.{planned-asked, planned-exported}
 use Rattle.dolzhev.specs.declared.answer.Answer.{Answer}
 use Rattle.dolzhev.proofs.answer.Answer as N
@@ -89,7 +89,7 @@ module _ {M : Type 1} (𝓤 : URA M) (H : Heap 𝓤) (A : Atoms 𝓤) (W : Given
   abbrev Post : Val → SProp 𝓤
   Post = walkOf 𝓤 H A f.ended stayed (f.clauses 𝓤 H A mem run) .post (((κ, (κr, tt)), (q, (qr, tt)), tt, a, vals), tt)
 
-  exits : (r : Answer) (w : Val) (ms : List ℕ) (zs : List Row) → ChangeExported (calls.withdraw number) m ys r ms zs → length ms ≡ length m → length zs ≡ length ys → Is N.the-row r (w ∷ [])
+  exits : (r : Answer) (w : Val) (ms : List ℕ) (zs : List Row) → ChangeExported (calls.withdraw number) m (rowsOf ys) r ms (rowsOf zs) → length ms ≡ length m → length zs ≡ length ys → Is N.the-row r (w ∷ [])
       → ent 𝓤 (⋆ 𝓤 H A (‵ (flft κ q) ∷ ‵ (flft κr qr) ∷ ‵ (finally u8 γ ms) ∷ ‵ (finally T.the-row γr zs) ∷ [])) (Post w)
   exits r w ms zs e l lr is =
       qed W (‵ (flft κ q) ∷ ‵ (flft κr qr) ∷ ‵ (finally u8 γ ms) ∷ ‵ (finally T.the-row γr zs) ∷ []) ∵

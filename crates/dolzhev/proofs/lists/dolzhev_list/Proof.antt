@@ -36,9 +36,10 @@ use denote.Triple.Call.{calls-at}
 use denote.Triple.Table.{entered, cited}
 use denote.Triple.Walked.{says, Stays, stay-none-slice, gave-slice, walkOf, goes-none-slice, goes-gave-slice, Walks, ends-at, walked, walk-meets}
 use denote.Exit.{yes}
-use Rattle.listing.specs.Plan.{ListTold}
-use Rattle.listing.proofs.ListPlan as Q
-use Rattle.listing.proofs.ListPlan.Laws as Q′
+use Rattle.model.specs.Calls.{list}
+use Rattle.upkeep.specs.Planned.{QueryPlanned}
+use Rattle.upkeep.proofs.plan.Plan as Q
+use Rattle.upkeep.proofs.plan.Plan.Laws as Q′
 use Rattle.listing.proofs.plan_list as plan
 use Rattle.listing.proofs.plan_list.Symbol as plan-def
 use Rattle.listing.proofs.plan_list.Symbol.{name as #listing·plan-list}
@@ -50,8 +51,8 @@ use Rattle.rows.proofs.Row as T
 use Rattle.rows.proofs.fill.Symbol as fill-def
 use Rattle.rows.proofs.fill.Symbol.{name as #rows·fill}
 use Rattle.rows.proofs.fill.Met as fill-thm
-use Rattle.dolzhev.specs.Exported.{ListExported}
-use Rattle.dolzhev.specs.Laws.Exported.{list-exported}
+use Rattle.dolzhev.specs.Exported.{rowsOf, QueryExported}
+use Rattle.dolzhev.specs.Laws.Exported.{query-exported}
 use Rattle.dolzhev.specs.declared.answer.Answer.{Answer}
 use Rattle.dolzhev.proofs.answer.Answer as N
 use Rattle.dolzhev.proofs.answer.Answer.Laws as N′
@@ -94,7 +95,7 @@ module _ {M : Type 1} (𝓤 : URA M) (H : Heap 𝓤) (A : Atoms 𝓤) (W : Given
   abbrev Bytes : Item 𝓤
   Bytes = ‵ (ShrSlice (named 0) κ u8 .own (at-list u8 b o γ m) (s ∷ []))
 
-  exits : (r : Answer) (w : Val) (zs : List Row) → ListExported m ys r zs → length zs ≡ length ys → Is N.the-row r (w ∷ []) → ent 𝓤 (⋆ 𝓤 H A (‵ (flft κr qr) ∷ ‵ (flft κ q) ∷ ‵ (finally T.the-row γr zs) ∷ Bytes ∷ [])) (Post w)
+  exits : (r : Answer) (w : Val) (zs : List Row) → QueryExported list m (rowsOf ys) r (rowsOf zs) → length zs ≡ length ys → Is N.the-row r (w ∷ []) → ent 𝓤 (⋆ 𝓤 H A (‵ (flft κr qr) ∷ ‵ (flft κ q) ∷ ‵ (finally T.the-row γr zs) ∷ Bytes ∷ [])) (Post w)
   exits r w zs e l is =
       qed W (‵ (flft κr qr) ∷ ‵ (flft κ q) ∷ ‵ (finally T.the-row γr zs) ∷ Bytes ∷ []) ∵
       suffices ! _ (ends-at 𝓤 H A f.ended stayed (f.clauses 𝓤 H A mem run) W (((κ, (κr, tt)), (q, (qr, tt)), tt, a, vals), tt) w r (tt, (zs, tt)) (tt, (l, tt))) $ says ! e $
@@ -127,14 +128,14 @@ module _ {M : Type 1} (𝓤 : URA M) (H : Heap 𝓤) (A : Atoms 𝓤) (W : Given
         move ! (4 ∷ 0 ∷ []) $ use2 W (raw (PlanC 𝓤 H A mem run .pre to-plan)) (goes-plan r-room) $
         -- [what it asks; what the memory owns, twice; the rows' token; what they own; _7; …]
         calls-at ! fm (PlanC 𝓤 H A mem run) known-plan to-plan (and-then ! (load ! (from ! (stop !)) (look ! 17 refl)) (and-then ! (load ! (from ! (stop !)) (look ! 11 refl)) (no-more !))) (λ w.
-        returned plan.ended (plan.clauses 𝓤 H A mem run) ! tt to-plan w (λ p. ListTold m (length ys) (p .verdict) (p .count) (p .opened) (p .telling)) (λ p e. id⊢ 𝓤 _) (λ p e is.
+        returned plan.ended (plan.clauses 𝓤 H A mem run) ! tt to-plan w (λ p. QueryPlanned list m (length ys) p) (λ p e. id⊢ 𝓤 _) (λ p e is.
         land ! (from ! (stop !)) (init ! 13 refl (LL.lawful Q.the-type Q′.the-laws 𝓤 H A W .typed p _ is .0)) $ rewrite ! 13 (λ (u : Val). ‵ (fat fullShare Q′.mir l₃ 0 u)) (ap only (LL.tells Q.the-type Q′.the-laws p _ is)) refl $
         use1 W (‵ (flft κ q) ⊛ ‵ ftrue) (id⊢ 𝓤 _) $ split ! $ move ! (1 ∷ []) $ drop ! $
         assigns ! (addr ! (from ! (fld ! refl (hop ! (look-in ! 15 (sub ! 0 refl (whole !))) (stop !))))) (from ! (stop !)) (init ! 7 refl (tt, tt)) $
         assigns ! (agg ! (and-then ! (load ! (from ! (stop !)) (look ! 7 refl)) (and-then ! (load ! (from ! (fld ! refl (stop !))) (look-in ! 15 (sub ! 1 refl (whole !)))) (no-more !)))) (from ! (stop !)) (init ! 5 refl (tt, (tt, (record { fits = r-room .0 }, tt)))) $
         -- `fill`
-        move ! (3 ∷ 0 ∷ 1 ∷ 4 ∷ []) $ calls-fill 𝓤 H A mem run κ κr q qr b o br or γ γr m ys (p .telling) (p .count) ! fm known-fill (e .told .asked) (e .told .answered .enough) (LL.owed Q.the-type Q′.the-laws p _ is .1 .1 .1 .0) (LL.owed Q.the-type Q′.the-laws p _ is .1 .0 .1)
-        (and-then ! (load ! (from ! (stop !)) (look ! 2 refl)) (and-then ! (load ! (from ! (stop !)) (look ! 14 refl)) (and-then ! (load ! (from ! (fld ! refl (stop !))) (look-in ! 10 (sub ! 3 refl (whole !)))) (and-then ! (load ! (from ! (fld ! refl (stop !))) (look-in ! 10 (sub ! 1 refl (whole !)))) (no-more !))))) (λ w₁ zs e₁ l unit.
+        move ! (3 ∷ 0 ∷ 1 ∷ 4 ∷ []) $ calls-fill 𝓤 H A mem run κ κr q qr b o br or γ γr m ys (p .telling) (p .count) ! fm known-fill (e .asked) (e .answered .enough) (LL.owed Q.the-type Q′.the-laws p _ is .1 .1 .1 .1 .1 .1 .0) (LL.owed Q.the-type Q′.the-laws p _ is .1 .0 .1)
+        (and-then ! (load ! (from ! (stop !)) (look ! 2 refl)) (and-then ! (load ! (from ! (stop !)) (look ! 14 refl)) (and-then ! (load ! (from ! (fld ! refl (stop !))) (look-in ! 10 (sub ! 6 refl (whole !)))) (and-then ! (load ! (from ! (fld ! refl (stop !))) (look-in ! 10 (sub ! 1 refl (whole !)))) (no-more !))))) (λ w₁ zs e₁ l unit.
         -- [the tokens; the rows' last list; what the memory owns; _7; …]
         land ! (from ! (stop !)) (init ! 8 refl unit) $
         -- `handed`
@@ -143,7 +144,7 @@ module _ {M : Type 1} (𝓤 : URA M) (H : Heap 𝓤) (A : Atoms 𝓤) (W : Given
         land ! (from ! (stop !)) (init ! 18 refl (LL.lawful N.the-type N′.the-laws 𝓤 H A W .typed r _ is₂ .0)) $
         returns ! (look ! 18 refl) $ forget ! 4 refl $ forget ! 6 refl $ forget ! 8 refl $ forget ! 10 refl $ forget ! 12 refl $ forget ! 14 refl $ forget ! 16 refl $ forget ! 18 refl $
         move ! (18 ∷ 19 ∷ 16 ∷ 17 ∷ 14 ∷ 15 ∷ 12 ∷ 13 ∷ 10 ∷ 11 ∷ 8 ∷ 9 ∷ 6 ∷ 7 ∷ 4 ∷ 5 ∷ []) $ free-all ! (envOf 𝓤 H (code.function .locals) (l₀ ∷ l₁ ∷ l₂ ∷ l₃ ∷ l₄ ∷ l₅ ∷ l₆ ∷ l₇ ∷ [])) $
-        by ! (exits r w₂ zs (list-exported ys zs e e₁ e₂) l is₂)))))))))))))
+        by ! (exits r w₂ zs (query-exported ys zs e e₁ e₂) l is₂)))))))))))))
 
 module _ {M : Type 1} (𝓤 : URA M) (H : Heap 𝓤) (A : Atoms 𝓤) (W : Given 𝓤 H A) (mem : Memory → SProp 𝓤) (run : Routine → Fun 𝓤) (𝓣 : Tables 𝓤 H) (known-plan : Triple 𝓤 (𝓣 .C #listing·plan-list) (PlanC 𝓤 H A mem run)) (known-fill : Triple 𝓤 (𝓣 .C #rows·fill) (FillC 𝓤 H A mem run)) (known-handed : Triple 𝓤 (𝓣 .C #dolzhev·answer·handed) (HandC 𝓤 H A mem run)) where
   dolzhev-list-walks : Walks 𝓤 H A f.ended stayed (WpFn 𝓤 H (𝓣 .C) (𝓣 .Λ) code.function) (f.clauses 𝓤 H A mem run)

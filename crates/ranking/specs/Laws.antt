@@ -1,3 +1,0 @@
--- Laws of the ranked rows.
-pub mod Placing
-pub mod Ranked
