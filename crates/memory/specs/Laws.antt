@@ -1,6 +1,7 @@
 -- What the stores leave of each field, and that the tests decide `Sound`.
 pub mod Tab
 pub mod Frames
+pub mod Written
 pub mod Fields
 pub mod Stored
 pub mod Lines

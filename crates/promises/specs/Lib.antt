@@ -1,6 +1,7 @@
 -- The lent memory, when it is sound, and what each call promises.
 pub mod Layout
 pub mod Sound
+pub mod Written
 pub mod Answers
 pub mod Promise
 pub mod Run
