@@ -11,5 +11,6 @@ pub mod Levels
 pub mod Head
 pub mod Marks
 pub mod Decide
+pub mod Used
 pub mod Front
 pub mod Held

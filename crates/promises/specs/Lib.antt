@@ -2,6 +2,7 @@
 pub mod Layout
 pub mod Sound
 pub mod Written
+pub mod Used
 pub mod Answers
 pub mod Promise
 pub mod Run

@@ -1,5 +1,5 @@
 -- What each call promises, for every content of the lent memory: what is said (answer and rows), and what is left (memory).
--- Free, and so named by no promise: the bytes not in use (docs/DECISIONS.md lists them).
+-- Free, and so named by no promise: the bytes that a call may write and that are not in use (`Written`, `Used`).
 use Prim.Native.Nat.{ℕ, zero, suc}
 use mathlib.Core.Bool.{Bool, false}
 use mathlib.Core.List.{List, [], map}
