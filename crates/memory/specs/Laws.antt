@@ -13,4 +13,6 @@ pub mod Marks
 pub mod Decide
 pub mod Used
 pub mod Front
+pub mod Alike
+pub mod Answers
 pub mod Held

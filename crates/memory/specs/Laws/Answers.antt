@@ -1,0 +1,151 @@
+-- No answer depends on bytes not in use: what two calls say, from their promises alone.
+use Prim.Native.Nat.{ℕ, zero, suc}
+use mathlib.Core.Bool.{Bool, cond}
+use mathlib.Core.List.{List}
+use mathlib.Core.Path.{_≡_, refl, sym, ap, ap₂, _∙_, subst, subst₂, subst₃}
+use lib.Dec.{eqb}
+use lib.ListN.{length}
+use Rattle.model.specs.Moves.{Row}
+use Rattle.model.specs.Tree.{Tree}
+use Rattle.model.specs.Calls as calls
+use Rattle.model.specs.Calls.{Board, Query, list, Change, changed}
+use Rattle.model.specs.Changing.{changeTree}
+use Rattle.model.specs.Nodes.{nodesOpened}
+use Rattle.promises.specs.Layout.{sizeIn, dimensionIn, boardIn}
+use Rattle.promises.specs.Written.{changeWrites}
+use Rattle.promises.specs.Used.{SameInUse}
+use Rattle.promises.specs.Answers.{answerOf, numberOf, detailOf, counted, rowsAfter}
+use Rattle.promises.specs.Promise.{MemoryAfter, Said, QuerySaid, ListPromise, QueryPromise, ChangeSaid, ChangePromise}
+use Rattle.promises.specs.Run.{Bytes}
+use Rattle.promises.specs.declared.Verdict.{Verdict}
+use Rattle.promises.specs.declared.Verdict.the-variants.{Accepted, ShortMemory, OutOfRange, Unsound, NumberTooLarge, NumberTwice, NumberAbsent, BadArgument, FewRows}
+use Rattle.promises.specs.declared.Answer.{Answer}
+use Rattle.promises.specs.declared.ListAnswer.{ListAnswer}
+use Rattle.memory.specs.Laws.Alike.{Alike, used-alike, holding-alike, alike-dimension, by-soundness}
+
+-- ---- what is said
+
+-- The verdict with this number and detail.
+verdictOf : ℕ → ℕ → Verdict
+verdictOf k p =
+    cond (eqb k 0) Accepted
+    (cond (eqb k 1) ShortMemory
+    (cond (eqb k 2) OutOfRange
+    (cond (eqb k 3) Unsound
+    (cond (eqb k 4) (NumberTooLarge p) (cond (eqb k 5) (NumberTwice p) (cond (eqb k 6) NumberAbsent (cond (eqb k 7) (BadArgument p) (FewRows p))))))))
+
+verdict-of : (v : Verdict) → verdictOf (numberOf v) (detailOf v) ≡ v
+unfolding verdictOf numberOf detailOf
+verdict-of Accepted = refl
+verdict-of ShortMemory = refl
+verdict-of OutOfRange = refl
+verdict-of Unsound = refl
+verdict-of (NumberTooLarge p) = refl
+verdict-of (NumberTwice p) = refl
+verdict-of NumberAbsent = refl
+verdict-of (BadArgument p) = refl
+verdict-of (FewRows p) = refl
+
+verdict-same : (v w : Verdict) → answerOf v ≡ answerOf w → v ≡ w
+unfolding answerOf
+verdict-same v w e = sym (verdict-of v) ∙ ap (λ (a : calls.Answer). verdictOf (a .number) (a .detail)) e ∙ verdict-of w
+
+-- The same is said of both: verdict, count and rows.
+record SameSaid (v v' : Verdict) (k k' : ℕ) (lent lent' : List Row) : Type 0 where
+  pub verdict : v' ≡ v
+  pub count : k' ≡ k
+  pub rows : lent' ≡ lent
+
+said-same : {a : calls.Answer} {rows lent lent' lent'' : List Row} {v v' : Verdict} {k k' : ℕ}
+    → Said a rows lent v k lent' → Said a rows lent v' k' lent'' → SameSaid v v' k k' lent' lent''
+said-same {a} {rows} {lent} {v = v} {v' = v'} s s' =
+    let e = verdict-same v' v (s' .answers ∙ sym (s .answers)) in
+    record {
+      verdict = e;
+      count = s' .counts ∙ ap (λ (w : Verdict). counted (numberOf w) (length rows)) e ∙ sym (s .counts);
+      rows = s' .tells ∙ ap (λ (w : Verdict). rowsAfter (numberOf w) rows lent) e ∙ sym (s .tells);
+    }
+
+-- ---- the calls
+
+module _ {m n : List ℕ} (bytes : Bytes m) (alike : Alike m n) where
+  module _ {lent lent' lent'' : List Row} where
+    module _ (q : Query) {r s : Answer} (p : QueryPromise q m lent r lent') (p' : QueryPromise q n lent s lent'') where
+      query-said : SameSaid (r .verdict) (s .verdict) (r .count) (s .count) lent' lent''
+      query-said =
+          by-soundness alike bytes
+          (λ t k k'. said-same (p .sound t k) (subst (λ (b : Board). QuerySaid q b lent (s .verdict) (s .count) lent'') (alike .board) (p' .sound t k')))
+          (λ f f'. said-same (p .unsound f) (p' .unsound f'))
+
+      query-alone : (s ≡ r) × (lent'' ≡ lent')
+      query-alone = ((λ i. record { verdict = query-said .verdict i; count = query-said .count i }), query-said .rows)
+
+    module _ {r s : ListAnswer} (p : ListPromise m lent r lent') (p' : ListPromise n lent s lent'') where
+      list-said : SameSaid (r .verdict) (s .verdict) (r .count) (s .count) lent' lent''
+      list-said =
+          by-soundness alike bytes
+          (λ t k k'. said-same (p .sound t k) (subst (λ (b : Board). QuerySaid list b lent (s .verdict) (s .count) lent'') (alike .board) (p' .sound t k')))
+          (λ f f'. said-same (p .unsound f .0) (p' .unsound f' .0))
+
+      opened-same : s .opened ≡ r .opened
+      opened-same =
+          by-soundness alike bytes
+          (λ t k k'.
+          p' .opened t k'
+          ∙ ap₂ (λ (v : Verdict) (d : ℕ). counted (numberOf v) (nodesOpened d t)) (list-said .verdict) (alike-dimension alike)
+          ∙ sym (p .opened t k))
+          (λ f f'. p' .unsound f' .1 ∙ sym (p .unsound f .1))
+
+      list-alone : (s ≡ r) × (lent'' ≡ lent')
+      list-alone =
+          ((λ i. record { verdict = list-said .verdict i; count = list-said .count i; opened = opened-same i }), list-said .rows)
+
+    module _ (x : Change) {m' n' : List ℕ} {r s : Answer} (p : ChangePromise x m lent r m' lent') (p' : ChangePromise x n lent s n' lent'') where
+      change-said : SameSaid (r .verdict) (s .verdict) (r .count) (s .count) lent' lent''
+      change-said =
+          by-soundness alike bytes
+          (λ t k k'. said-same (p .sound t k) (subst (λ (b : Board). ChangeSaid x b lent (s .verdict) (s .count) lent'') (alike .board) (p' .sound t k')))
+          (λ f f'. said-same (p .unsound f .0) (p' .unsound f' .0))
+
+      change-alone : (s ≡ r) × (lent'' ≡ lent')
+      change-alone = ((λ i. record { verdict = change-said .verdict i; count = change-said .count i }), change-said .rows)
+
+      same-memory : m' ≡ m → n' ≡ n → Alike m' n'
+      same-memory e e' = subst₂ Alike (sym e) (sym e') alike
+
+      after-alike : (w w' : ℕ → Bool) (k : ℕ) (b : Board) (t : Tree) → MemoryAfter w k m m' b t → MemoryAfter w' k n n' b t → Alike m' n'
+      unfolding MemoryAfter
+      after-alike w w' zero b t a a' = holding-alike (a .holding) (a' .holding)
+      after-alike w w' (suc k) b t a a' = same-memory a a'
+
+      change-alike : Alike m' n'
+      change-alike =
+          by-soundness alike bytes
+          (λ t k k'.
+          after-alike (changeWrites (sizeIn m)) (changeWrites (sizeIn n)) (numberOf (r .verdict)) (changed (boardIn m) x) (changeTree (dimensionIn m) x t)
+          (p .left t k)
+          (subst₃
+          (λ (v : Verdict) (b : Board) (d : ℕ). MemoryAfter (changeWrites (sizeIn n)) (numberOf v) n n' (changed b x) (changeTree d x t))
+          (change-said .verdict) (alike .board) (alike-dimension alike) (p' .left t k')))
+          (λ f f'. same-memory (p .unsound f .1) (p' .unsound f' .1))
+
+-- ---- the whole
+
+-- Equal calls on the two memories, lent equal rows, say and tell the same, and equal changes leave memories that again hold the
+-- same: the later calls of a run say the same too.
+pub record SameAnswers (m n : List ℕ) : Type 0 where
+  pub lists : (lent lent' lent'' : List Row) (r s : ListAnswer) → ListPromise m lent r lent' → ListPromise n lent s lent'' → (s ≡ r) × (lent'' ≡ lent')
+  pub queries : (q : Query) (lent lent' lent'' : List Row) (r s : Answer) → QueryPromise q m lent r lent' → QueryPromise q n lent s lent'' → (s ≡ r) × (lent'' ≡ lent')
+  pub changes : (x : Change) (lent lent' lent'' : List Row) (r s : Answer) (m' n' : List ℕ) → ChangePromise x m lent r m' lent' → ChangePromise x n lent s n' lent''
+      → (s ≡ r) × (lent'' ≡ lent') × Alike m' n'
+
+pub alike-answers : (m n : List ℕ) → Bytes m → Alike m n → SameAnswers m n
+alike-answers m n bytes alike =
+    record {
+      lists = λ lent lent' lent'' r s p p'. list-alone bytes alike p p';
+      queries = λ q lent lent' lent'' r s p p'. query-alone bytes alike q p p';
+      changes = λ x lent lent' lent'' r s m' n' p p'. let same = change-alone bytes alike x p p' in (same .0, same .1, change-alike bytes alike x p p');
+    }
+
+pub answers-alone : (m n : List ℕ) → Bytes m → SameInUse m n → SameAnswers m n
+answers-alone m n bytes same = alike-answers m n bytes (used-alike m n same)
