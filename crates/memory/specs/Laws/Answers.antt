@@ -1,21 +1,22 @@
 -- No answer depends on bytes not in use: what two calls say, from their promises alone.
 use Prim.Native.Nat.{ℕ, zero, suc}
 use mathlib.Core.Bool.{Bool, cond}
-use mathlib.Core.List.{List}
+use mathlib.Core.List.{List, map}
 use mathlib.Core.Path.{_≡_, refl, sym, ap, ap₂, _∙_, subst, subst₂, subst₃}
 use lib.Dec.{eqb}
 use lib.ListN.{length}
-use Rattle.model.specs.Moves.{Row}
+use Rattle.model.specs.Moves.{InputRow, Row, moveOf}
 use Rattle.model.specs.Tree.{Tree}
+use Rattle.model.specs.Loading.{loadTree}
 use Rattle.model.specs.Calls as calls
-use Rattle.model.specs.Calls.{Board, Query, list, Change, changed}
+use Rattle.model.specs.Calls.{Board, loadAnswer, loaded, Query, list, Change, changed}
 use Rattle.model.specs.Changing.{changeTree}
 use Rattle.model.specs.Nodes.{nodesOpened}
 use Rattle.promises.specs.Layout.{sizeIn, dimensionIn, boardIn}
-use Rattle.promises.specs.Written.{changeWrites}
+use Rattle.promises.specs.Written.{changeWrites, loadWrites}
 use Rattle.promises.specs.Used.{SameInUse}
 use Rattle.promises.specs.Answers.{answerOf, numberOf, detailOf, counted, rowsAfter}
-use Rattle.promises.specs.Promise.{MemoryAfter, Said, QuerySaid, ListPromise, QueryPromise, ChangeSaid, ChangePromise}
+use Rattle.promises.specs.Promise.{MemoryAfter, LoadPromise, Said, QuerySaid, ListPromise, QueryPromise, ChangeSaid, ChangePromise}
 use Rattle.promises.specs.Run.{Bytes}
 use Rattle.promises.specs.declared.Verdict.{Verdict}
 use Rattle.promises.specs.declared.Verdict.the-variants.{Accepted, ShortMemory, OutOfRange, Unsound, NumberTooLarge, NumberTwice, NumberAbsent, BadArgument, FewRows}
@@ -66,7 +67,27 @@ said-same {a} {rows} {lent} {v = v} {v' = v'} s s' =
       rows = s' .tells ∙ ap (λ (w : Verdict). rowsAfter (numberOf w) rows lent) e ∙ sym (s .tells);
     }
 
+-- ---- what is left
+
+module _ {m n : List ℕ} (alike : Alike m n) (m' n' : List ℕ) where
+  same-memory : m' ≡ m → n' ≡ n → Alike m' n'
+  same-memory e e' = subst₂ Alike (sym e) (sym e') alike
+
+  after-alike : (w w' : ℕ → Bool) (k : ℕ) (b : Board) (t : Tree) → MemoryAfter w k m m' b t → MemoryAfter w' k n n' b t → Alike m' n'
+  unfolding MemoryAfter
+  after-alike w w' zero b t a a' = holding-alike (a .holding) (a' .holding)
+  after-alike w w' (suc k) b t a a' = same-memory a a'
+
 -- ---- the calls
+
+module _ (c d : ℕ) (rows : List InputRow) {m n m' n' : List ℕ} (alike : Alike m n) {v w : Verdict} (p : LoadPromise c d rows m v m') (p' : LoadPromise c d rows n w n') (same : length n ≡ length m) where
+  load-alone : w ≡ v
+  load-alone = verdict-same w v (p' .said ∙ ap (λ (k : ℕ). loadAnswer k c d rows) same ∙ sym (p .said))
+
+  load-alike : Alike m' n'
+  load-alike =
+      let after : Verdict → Type 0 = λ u. MemoryAfter (loadWrites c) (numberOf u) n n' (loaded c d rows) (loadTree d (map moveOf rows)) in
+      after-alike alike m' n' (loadWrites c) (loadWrites c) (numberOf v) (loaded c d rows) (loadTree d (map moveOf rows)) (p .left) (subst after load-alone (p' .left))
 
 module _ {m n : List ℕ} (bytes : Bytes m) (alike : Alike m n) where
   module _ {lent lent' lent'' : List Row} where
@@ -110,30 +131,24 @@ module _ {m n : List ℕ} (bytes : Bytes m) (alike : Alike m n) where
       change-alone : (s ≡ r) × (lent'' ≡ lent')
       change-alone = ((λ i. record { verdict = change-said .verdict i; count = change-said .count i }), change-said .rows)
 
-      same-memory : m' ≡ m → n' ≡ n → Alike m' n'
-      same-memory e e' = subst₂ Alike (sym e) (sym e') alike
-
-      after-alike : (w w' : ℕ → Bool) (k : ℕ) (b : Board) (t : Tree) → MemoryAfter w k m m' b t → MemoryAfter w' k n n' b t → Alike m' n'
-      unfolding MemoryAfter
-      after-alike w w' zero b t a a' = holding-alike (a .holding) (a' .holding)
-      after-alike w w' (suc k) b t a a' = same-memory a a'
-
       change-alike : Alike m' n'
       change-alike =
           by-soundness alike bytes
           (λ t k k'.
-          after-alike (changeWrites (sizeIn m)) (changeWrites (sizeIn n)) (numberOf (r .verdict)) (changed (boardIn m) x) (changeTree (dimensionIn m) x t)
+          after-alike alike m' n' (changeWrites (sizeIn m)) (changeWrites (sizeIn n)) (numberOf (r .verdict)) (changed (boardIn m) x) (changeTree (dimensionIn m) x t)
           (p .left t k)
           (subst₃
           (λ (v : Verdict) (b : Board) (d : ℕ). MemoryAfter (changeWrites (sizeIn n)) (numberOf v) n n' (changed b x) (changeTree d x t))
           (change-said .verdict) (alike .board) (alike-dimension alike) (p' .left t k')))
-          (λ f f'. same-memory (p .unsound f .1) (p' .unsound f' .1))
+          (λ f f'. same-memory alike m' n' (p .unsound f .1) (p' .unsound f' .1))
 
 -- ---- the whole
 
--- Equal calls on the two memories, lent equal rows, say and tell the same, and equal changes leave memories that again hold the
--- same: the later calls of a run say the same too.
+-- Equal calls on the two memories, lent equal rows, say and tell the same, and equal changes and loads leave memories that again
+-- hold the same: the later calls say the same too. (What a load says depends on how long the memory is, and on none of its bytes.)
 pub record SameAnswers (m n : List ℕ) : Type 0 where
+  pub loads : (c d : ℕ) (rows : List InputRow) (v w : Verdict) (m' n' : List ℕ) → length n ≡ length m → LoadPromise c d rows m v m' → LoadPromise c d rows n w n'
+      → (w ≡ v) × Alike m' n'
   pub lists : (lent lent' lent'' : List Row) (r s : ListAnswer) → ListPromise m lent r lent' → ListPromise n lent s lent'' → (s ≡ r) × (lent'' ≡ lent')
   pub queries : (q : Query) (lent lent' lent'' : List Row) (r s : Answer) → QueryPromise q m lent r lent' → QueryPromise q n lent s lent'' → (s ≡ r) × (lent'' ≡ lent')
   pub changes : (x : Change) (lent lent' lent'' : List Row) (r s : Answer) (m' n' : List ℕ) → ChangePromise x m lent r m' lent' → ChangePromise x n lent s n' lent''
@@ -142,6 +157,7 @@ pub record SameAnswers (m n : List ℕ) : Type 0 where
 pub alike-answers : (m n : List ℕ) → Bytes m → Alike m n → SameAnswers m n
 alike-answers m n bytes alike =
     record {
+      loads = λ c d rows v w m' n' same p p'. (load-alone c d rows alike p p' same, load-alike c d rows alike p p' same);
       lists = λ lent lent' lent'' r s p p'. list-alone bytes alike p p';
       queries = λ q lent lent' lent'' r s p p'. query-alone bytes alike q p p';
       changes = λ x lent lent' lent'' r s m' n' p p'. let same = change-alone bytes alike x p p' in (same .0, same .1, change-alike bytes alike x p p');
