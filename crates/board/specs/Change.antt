@@ -13,9 +13,10 @@ use Rattle.model.specs.Calls.{changeRefusal, refusedWith, changed}
 use Rattle.model.specs.Changing.{changeTree}
 use Rattle.line.specs.Line.{movesIn}
 use Rattle.line.specs.Enter.{placeFor}
-use Rattle.promises.specs.Layout.{dimensionIn, numberIn, costsIn, boardIn, lineFrom}
+use Rattle.promises.specs.Layout.{sizeIn, dimensionIn, numberIn, costsIn, boardIn, lineFrom}
 use Rattle.promises.specs.Sound.{Stands}
 use Rattle.promises.specs.Answers.{answerOf}
+use Rattle.promises.specs.Written.{changeWrites}
 use Rattle.promises.specs.Promise.{Kept}
 use Rattle.promises.specs.declared.Verdict.{Verdict}
 use Rattle.dominance.specs.Move.{asMove}
@@ -52,7 +53,7 @@ noticeBy c d n k m =
 
 -- What each change leaves of sound memory.
 pub record Made (x : calls.Change) (m m' : List ℕ) : Type 0 where
-  pub kept : (t : Tree) → Stands m t → Kept m m' (changed (boardIn m) x) (changeTree (dimensionIn m) x t)
+  pub kept : (t : Tree) → Stands m t → Kept (changeWrites (sizeIn m)) m m' (changed (boardIn m) x) (changeTree (dimensionIn m) x t)
 
 abbrev pub EnterMade : model.Move → List ℕ → List ℕ → Type 0
 EnterMade x = Made (calls.enter (x .number) (x .costs))

@@ -1,6 +1,7 @@
 -- What the stores leave of each field, and that the tests decide `Sound`.
 pub mod Tab
 pub mod Frames
+pub mod Written
 pub mod Fields
 pub mod Stored
 pub mod Lines
@@ -10,5 +11,8 @@ pub mod Levels
 pub mod Head
 pub mod Marks
 pub mod Decide
+pub mod Used
 pub mod Front
+pub mod Alike
+pub mod Answers
 pub mod Held

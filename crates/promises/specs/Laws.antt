@@ -3,3 +3,4 @@ pub mod Tab
 pub mod Stands
 pub mod Demand3
 pub mod Accept
+pub mod Written

@@ -1,37 +1,39 @@
 -- What each call promises, for every content of the lent memory: what is said (answer and rows), and what is left (memory).
--- Free, and so named by no promise: the bytes not in use (docs/DECISIONS.md lists them).
+-- Free, and so named by no promise: the bytes that a call may write and that are not in use (`Written`, `Used`).
 use Prim.Native.Nat.{ℕ, zero, suc}
-use mathlib.Core.Bool.{true}
+use mathlib.Core.Bool.{Bool, true, false}
 use mathlib.Core.List.{List, [], map}
 use mathlib.Core.Path.{_≡_}
-use lib.ListN.{length, drop}
+use lib.ListN.{length, getD}
 use Rattle.model.specs.Moves.{InputRow, Row, moveOf}
 use Rattle.model.specs.Tree.{Tree}
 use Rattle.model.specs.Loading.{loadTree}
 use Rattle.model.specs.Calls as calls
-use Rattle.model.specs.Calls.{Board, memoryNeed, loadAnswer, loaded, refusedWith, Query, queryAnswer, queryRows, Change, changeAnswer, changeNotice, changed, changesNothing}
+use Rattle.model.specs.Calls.{Board, loadAnswer, loaded, refusedWith, Query, queryAnswer, queryRows, Change, changeAnswer, changeNotice, changed, changesNothing}
 use Rattle.model.specs.Changing.{changeTree, queryOpens, changeOpens}
-use Rattle.promises.specs.Layout.{dimensionIn, boardIn}
+use Rattle.promises.specs.Layout.{sizeIn, dimensionIn, boardIn}
+use Rattle.promises.specs.Written.{changeWrites, loadWrites}
 use Rattle.promises.specs.Sound.{Stands, Sound, Holding}
 use Rattle.promises.specs.Answers.{answerOf, numberOf, counted, rowsAfter}
 use Rattle.promises.specs.declared.Verdict.{Verdict}
 use Rattle.promises.specs.declared.Answer.{Answer}
 
 -- The memory after a call that answered with this number: refused, "every byte as before"; accepted, sound with this board and
--- this tree, as long as before, and "Memory past the first 64·C + 1,024 bytes is never written."
-pub record Kept (m m' : List ℕ) (b : Board) (t : Tree) : Type 0 where
+-- this tree, as long as before, and every byte as before that the call does not write. ("Memory past the first 64·C + 1,024
+-- bytes is never written": Laws/Written.)
+pub record Kept (writes : ℕ → Bool) (m m' : List ℕ) (b : Board) (t : Tree) : Type 0 where
   pub holding : Holding m' b t
   pub length : length m' ≡ length m
-  pub past : drop (memoryNeed (b .size)) m' ≡ drop (memoryNeed (b .size)) m
+  pub others : (i : ℕ) → writes i ≡ false → getD m' i 0 ≡ getD m i 0
 
-unfoldable pub MemoryAfter : ℕ → List ℕ → List ℕ → Board → Tree → Type 0
-MemoryAfter zero m m' b t = Kept m m' b t
-MemoryAfter (suc k) m m' b t = m' ≡ m
+unfoldable pub MemoryAfter : (ℕ → Bool) → ℕ → List ℕ → List ℕ → Board → Tree → Type 0
+MemoryAfter writes zero m m' b t = Kept writes m m' b t
+MemoryAfter writes (suc k) m m' b t = m' ≡ m
 
 -- Load.
 pub record LoadPromise (c d : ℕ) (rows : List InputRow) (m : List ℕ) (v : Verdict) (m' : List ℕ) : Type 0 where
   pub said : answerOf v ≡ loadAnswer (length m) c d rows
-  pub left : MemoryAfter (numberOf v) m m' (loaded c d rows) (loadTree d (map moveOf rows))
+  pub left : MemoryAfter (loadWrites c) (numberOf v) m m' (loaded c d rows) (loadTree d (map moveOf rows))
 
 -- What is said: the answer, how many rows were told, the nodes opened, and the lent rows afterwards.
 pub record Said (answer : calls.Answer) (rows : List Row) (nodes : ℕ) (lent : List Row) (r : Answer) (lent' : List Row) : Type 0 where
@@ -61,6 +63,6 @@ pub record ChangePromise (x : Change) (m : List ℕ) (lent : List Row) (r : Answ
   pub left :
       (t : Tree)
       → Stands m t
-      → MemoryAfter (numberOf (r .verdict)) m m' (changed (boardIn m) x) (changeTree (dimensionIn m) x t)
+      → MemoryAfter (changeWrites (sizeIn m)) (numberOf (r .verdict)) m m' (changed (boardIn m) x) (changeTree (dimensionIn m) x t)
   pub nothing : Sound m → changesNothing (boardIn m) x ≡ true → m' ≡ m
   pub unsound : (Sound m → ⊥) → UnsoundSaid lent r lent' × (m' ≡ m)

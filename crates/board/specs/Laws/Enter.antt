@@ -14,8 +14,9 @@ use Rattle.model.specs.Changing.{changeTree}
 use Rattle.model.specs.Sound.{Fit}
 use Rattle.model.specs.Laws.Order.{move-order}
 use Rattle.model.specs.Laws.Entering.{enter-moves}
-use Rattle.promises.specs.Layout.{dimensionIn, markIn, boardIn}
+use Rattle.promises.specs.Layout.{sizeIn, dimensionIn, markIn, boardIn}
 use Rattle.promises.specs.Sound.{Stands}
+use Rattle.promises.specs.Written.{changeWrites}
 use Rattle.promises.specs.Promise.{Kept}
 use Rattle.promises.specs.Run.{Bytes}
 use Rattle.dominance.specs.Move.{asMove}
@@ -23,7 +24,7 @@ use Rattle.dominance.specs.declared.Move.{Move}
 use Rattle.memory.specs.Held.{SoundAt}
 use Rattle.memory.specs.Stores.{setListed, setCosts, setCount}
 use Rattle.memory.specs.Frame.{MarksOnly, CostsOnly}
-use Rattle.memory.specs.Laws.Frames.{frame-trans, frame-widen}
+use Rattle.memory.specs.Laws.Written.{only-trans, rows-written, marks-written, costs-written}
 use Rattle.memory.specs.Laws.Fields.{mark-over-rows, mark-over-costs}
 use Rattle.tree.specs.Hold.{RowsHold}
 use Rattle.tree.specs.Enter as tree
@@ -70,13 +71,12 @@ module _ {c d n : ℕ} {x : Move} {u : Upkeep} {m m₁ m₂ m₃ : List ℕ} (a 
     costs : CostsOnly c m₂ m₃
     costs = stored-frame (marked-holds t stands) (a .asked .fit refl) (off t stands) e₃
 
-    enter-kept : Kept m m₅ (changed (boardIn m) (calls.enter (x .number) (x .costs))) (changeTree (dimensionIn m) (calls.enter (x .number) (x .costs)) t)
+    enter-kept : Kept (changeWrites (sizeIn m)) m m₅ (changed (boardIn m) (calls.enter (x .number) (x .costs))) (changeTree (dimensionIn m) (calls.enter (x .number) (x .costs)) t)
     unfolding changeTree calls.changedMoves movesAfter
     enter-kept =
         let h = holds-sound s b t stands in
         made s (calls.enter (x .number) (x .costs)) t
-        (frame-trans (frame-widen (omega arith) (omega arith) marked)
-        (frame-trans (frame-widen (omega arith) (omega arith) costs) (frame-widen (omega arith) (omega arith) (entered .frame))))
+        (only-trans (marks-written c marked) (only-trans (costs-written c costs) (rows-written c (entered .frame))))
         (entered .holds t (stored-holds (marked-holds t stands) (a .asked .fit refl) (off t stands) e₃))
         (enter-moves d (Fit c d) (move-order d c (h .dimension)) (asMove x) (a .asked .fit refl) t (h .rules) (h .fits) ∙ ap (insert d (asMove x)) (sym (holds-moves h)))
         (subst (MarksRight c d m₄) (ap (insert d (asMove x)) (entering-moves c d n m))

@@ -1,13 +1,11 @@
 -- The end of every change: rows that hold the new tree, marks that say who is in its list, and then the count.
-use Prim.Native.Nat.{ℕ, _+_, _*_, _-_, _<_}
+use Prim.Native.Nat.{ℕ, _-_, _<_}
 use mathlib.Core.Bool.{not}
 use mathlib.Core.List.{List}
-use mathlib.Core.Logic.{inr}
 use mathlib.Core.Path.{_≡_, sym, ap, ap₂, _∙_, subst, subst₃}
 use native.Mathlib.Omega.{arith}
 use lib.Dec.{eqb}
-use lib.ListN.{length, drop, length-drop}
-use lib.Seq.{ext-getD, getD-drop}
+use lib.ListN.{length}
 use Rattle.zorder.specs.Refusal.{costCountBad}
 use Rattle.model.specs.Basics.{Each}
 use Rattle.model.specs.Moves.{Move}
@@ -20,13 +18,14 @@ use Rattle.line.specs.Line.{movesIn, lineOf}
 use Rattle.line.specs.Laws.Line.{moves-line}
 use Rattle.promises.specs.Layout.{sizeIn, dimensionIn, countIn, markIn, moveIn, placedIn, lineFrom, lineIn, boardIn, keptFrom, keptIn}
 use Rattle.promises.specs.Sound.{Stands}
+use Rattle.promises.specs.Written.{changeWrites}
 use Rattle.promises.specs.Promise.{Kept}
 use Rattle.promises.specs.Laws.Tab.{each-tab}
 use Rattle.memory.specs.Held.{SoundAt}
 use Rattle.memory.specs.Stores.{setCount}
-use Rattle.memory.specs.Frame.{Frame}
-use Rattle.memory.specs.Laws.Frames.{frame-trans, frame-widen}
-use Rattle.memory.specs.Laws.Fields.{size-over, dimension-over, number-over-head, mark-over-head}
+use Rattle.memory.specs.Frame.{Frame, ChangeOnly}
+use Rattle.memory.specs.Laws.Written.{only-trans, count-written, size-left, dimension-left}
+use Rattle.memory.specs.Laws.Fields.{number-over-head, mark-over-head}
 use Rattle.memory.specs.Laws.Stored.{setCount-head, count-setCount, size-setCount, dimension-setCount}
 use Rattle.memory.specs.Laws.Lines.{lineIn-line, line-over-head}
 use Rattle.tree.specs.Hold.{RowsHold}
@@ -35,11 +34,7 @@ use Rattle.tree.specs.Hold.{RowsHold}
 abbrev pub MarksRight : ℕ → ℕ → List ℕ → List Move → Type 0
 MarksRight c d m ms = Each (λ x. eqb (markIn c m (x .number)) 1 ≡ not (hidden d ms x)) ms
 
--- What a change may write before the count: rows, marks, costs and the work area.
-abbrev pub Written : ℕ → List ℕ → List ℕ → Type 0
-Written c = Frame 16 (16 + 23 * c)
-
-module _ {c d n k : ℕ} {m m₁ : List ℕ} {t : Tree} (s : SoundAt c d n m) (f : Written c m m₁) (h : RowsHold c d k m₁ t)
+module _ {c d n k : ℕ} {m m₁ : List ℕ} {t : Tree} (s : SoundAt c d n m) (f : ChangeOnly c m m₁) (h : RowsHold c d k m₁ t)
     (marks : MarksRight c d m₁ (movesOf t)) where
   abbrev m' : List ℕ
   m' = setCount k m₁
@@ -48,10 +43,10 @@ module _ {c d n k : ℕ} {m m₁ : List ℕ} {t : Tree} (s : SoundAt c d n m) (f
   head = setCount-head k m₁
 
   size : sizeIn m' ≡ c
-  size = size-setCount k m₁ ∙ size-over f (omega arith) ∙ sym (s .size)
+  size = size-setCount k m₁ ∙ size-left c f ∙ sym (s .size)
 
   dimension : dimensionIn m' ≡ d
-  dimension = dimension-setCount k m₁ ∙ dimension-over f (omega arith) ∙ sym (s .dimension)
+  dimension = dimension-setCount k m₁ ∙ dimension-left c f ∙ sym (s .dimension)
 
   count : countIn m' ≡ k
   count = count-setCount k m₁ (omega (arith, h .room))
@@ -94,35 +89,28 @@ module _ {c d n k : ℕ} {m m₁ : List ℕ} {t : Tree} (s : SoundAt c d n m) (f
         kept = kept;
       }
 
-  all : Frame 0 (16 + 23 * c) m m'
-  all = frame-trans (frame-widen (omega arith) (omega arith) f) (frame-widen (omega arith) (omega arith) head)
+  all : ChangeOnly c m m'
+  all = only-trans f (count-written c k m₁)
 
-  past : drop (memoryNeed c) m' ≡ drop (memoryNeed c) m
-  unfolding memoryNeed
-  past =
-      ext-getD 0 (drop (memoryNeed c) m') (drop (memoryNeed c) m)
-      (length-drop (memoryNeed c) m' ∙ ap (λ (v : ℕ). v - memoryNeed c) (all .length) ∙ sym (length-drop (memoryNeed c) m))
-      (λ i _. getD-drop (memoryNeed c) m' i 0 ∙ all .same (memoryNeed c + i) (inr (omega arith)) ∙ sym (getD-drop (memoryNeed c) m i 0))
-
-  kept-counted : (ms : List Move) → movesOf t ≡ ms → Kept m m' (record { size = c; dimension = d; moves = ms }) t
+  kept-counted : (ms : List Move) → movesOf t ≡ ms → Kept (changeWrites c) m m' (record { size = c; dimension = d; moves = ms }) t
   unfolding boardIn
   kept-counted ms e =
       record {
         holding = record { stands = stands; board = λ i. record { size = size i; dimension = dimension i; moves = (moves ∙ e) i } };
         length = all .length;
-        past = past;
+        others = all .same;
       }
 
 -- The same for a change of the board that sound memory holds.
-pub made : {c d n k : ℕ} {m m₁ m' : List ℕ} (s : SoundAt c d n m) (x : Change) (t : Tree) → Written c m m₁ → RowsHold c d k m₁ (changeTree d x t)
+pub made : {c d n k : ℕ} {m m₁ m' : List ℕ} (s : SoundAt c d n m) (x : Change) (t : Tree) → ChangeOnly c m m₁ → RowsHold c d k m₁ (changeTree d x t)
     → movesOf (changeTree d x t) ≡ changedMoves d x (movesIn (lineFrom c d n m))
     → MarksRight c d m₁ (changedMoves d x (movesIn (lineFrom c d n m)))
     → m' ≡ setCount k m₁
-    → Kept m m' (changed (boardIn m) x) (changeTree (dimensionIn m) x t)
+    → Kept (changeWrites (sizeIn m)) m m' (changed (boardIn m) x) (changeTree (dimensionIn m) x t)
 unfolding changed boardIn lineIn
 made {c} {d} {n} {k} {m} {m₁} s x t f h moves marks e =
-    subst (λ (w : List ℕ). Kept m w (changed (boardIn m) x) (changeTree (dimensionIn m) x t)) (sym e)
+    subst (λ (w : List ℕ). Kept (changeWrites (sizeIn m)) m w (changed (boardIn m) x) (changeTree (dimensionIn m) x t)) (sym e)
     (subst₃
-    (λ (c d n : ℕ). Kept m (setCount k m₁) (record { size = c; dimension = d; moves = changedMoves d x (movesIn (lineFrom c d n m)) }) (changeTree d x t))
+    (λ (c d n : ℕ). Kept (changeWrites c) m (setCount k m₁) (record { size = c; dimension = d; moves = changedMoves d x (movesIn (lineFrom c d n m)) }) (changeTree d x t))
     (s .size) (s .dimension) (s .count)
     (kept-counted s f h (subst (MarksRight c d m₁) (sym moves) marks) (changedMoves d x (movesIn (lineFrom c d n m))) moves))

@@ -10,9 +10,10 @@ use Rattle.model.specs.Tree.{Tree}
 use Rattle.model.specs.Calls as calls
 use Rattle.model.specs.Calls.{changeAnswer, changeNotice, changed, changesNothing}
 use Rattle.model.specs.Changing.{changeTree, changeOpens}
-use Rattle.promises.specs.Layout.{dimensionIn, boardIn}
+use Rattle.promises.specs.Layout.{sizeIn, dimensionIn, boardIn}
 use Rattle.promises.specs.Sound.{Stands, Sound}
 use Rattle.promises.specs.Answers.{numberOf, resultRow}
+use Rattle.promises.specs.Written.{changeWrites}
 use Rattle.promises.specs.Promise.{MemoryAfter, ChangePromise}
 use Rattle.upkeep.specs.Telling.{toldRows}
 use Rattle.upkeep.specs.Planned.{answerIn, Plans}
@@ -31,7 +32,7 @@ module _ {x : calls.Change} {m m' : List ℕ} {lent : ℕ} {p : Plan} (plan : Pl
   accepted-made e true f = subst (λ (y : calls.Change). Made y m m') (plan .makes f) (out .made f)
   accepted-made e false f = subst (Made x m) (sym (out .idle f)) (plan .idle f e)
 
-  plan-left : (k : ℕ) → numberOf (p .verdict) ≡ k → (t : Tree) → Stands m t → MemoryAfter k m m' (changed (boardIn m) x) (changeTree (dimensionIn m) x t)
+  plan-left : (k : ℕ) → numberOf (p .verdict) ≡ k → (t : Tree) → Stands m t → MemoryAfter (changeWrites (sizeIn m)) k m m' (changed (boardIn m) x) (changeTree (dimensionIn m) x t)
   unfolding MemoryAfter
   plan-left zero e = accepted-made e (p .makes) refl .kept
   plan-left (suc k) e = λ t _. refused-idle k e (p .makes) refl

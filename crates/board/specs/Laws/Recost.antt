@@ -22,8 +22,9 @@ use Rattle.model.specs.Laws.Notice.{equal-true}
 use Rattle.model.specs.Laws.Order.{move-order}
 use Rattle.model.specs.Laws.Entering.{enter-moves}
 use Rattle.line.specs.Line.{movesIn}
-use Rattle.promises.specs.Layout.{dimensionIn, numberIn, costsIn, markIn, moveIn, lineFrom, boardIn}
+use Rattle.promises.specs.Layout.{sizeIn, dimensionIn, numberIn, costsIn, markIn, moveIn, lineFrom, boardIn}
 use Rattle.promises.specs.Sound.{Stands}
+use Rattle.promises.specs.Written.{changeWrites}
 use Rattle.promises.specs.Promise.{Kept}
 use Rattle.promises.specs.Run.{Bytes}
 use Rattle.promises.specs.Laws.Tab.{each-tab}
@@ -31,8 +32,8 @@ use Rattle.dominance.specs.Move.{asMove}
 use Rattle.dominance.specs.declared.Move.{Move}
 use Rattle.memory.specs.Held.{SoundAt}
 use Rattle.memory.specs.Stores.{setListed, setCosts, setCount}
-use Rattle.memory.specs.Frame.{MarksOnly, CostsOnly}
-use Rattle.memory.specs.Laws.Frames.{frame-trans, frame-widen}
+use Rattle.memory.specs.Frame.{ChangeOnly, MarksOnly, CostsOnly}
+use Rattle.memory.specs.Laws.Written.{only-trans, rows-written, marks-written, costs-written}
 use Rattle.memory.specs.Laws.Fields.{mark-over-rows, mark-over-costs}
 use Rattle.memory.specs.Laws.Places.{any-tab, anyTo-found}
 use Rattle.memory.specs.Laws.Lines.{movesIn-line}
@@ -45,7 +46,7 @@ use Rattle.upkeep.specs.Notice.{SetMarks}
 use Rattle.upkeep.specs.declared.change.Upkeep.{Upkeep}
 use Rattle.board.specs.Change.{RecostAsked, RecostMade}
 use Rattle.board.specs.Laws.Rows.{holds-sound, holds-moves, holds-over-marks, holds-counted}
-use Rattle.board.specs.Laws.Kept.{Written, MarksRight, made}
+use Rattle.board.specs.Laws.Kept.{MarksRight, made}
 use Rattle.board.specs.Laws.Marks.{rest-without, marks-come}
 use Rattle.board.specs.Laws.Steps.{listed-frame, stored-frame, stored-holds, stored-asked, gone-written, gone-mark, gone-holds, gone-moves}
 
@@ -113,8 +114,8 @@ module _ {c d n p : ℕ} {x : Move} {u : Upkeep} {m m₁ m₂ : List ℕ} (a : R
       ∙ sym (equal-true (x .costs) (costsOn (x .number) (movesOf t)) e))))
       (λ _. ap (λ (k : ℕ). enterTree d (asMove x) (withdrawTree d k t)) (a .number))
 
-  pub recost-written : {m₃ : List ℕ} → withdraw.Withdrawn c d n p m₂ m₃ → Written c m m₃
-  recost-written w = frame-trans (frame-widen (omega arith) (omega arith) marked) (gone-written w)
+  pub recost-written : {m₃ : List ℕ} → withdraw.Withdrawn c d n p m₂ m₃ → ChangeOnly c m m₃
+  recost-written w = only-trans (marks-written c marked) (gone-written w)
 
   module _ {m₃ m₄ : List ℕ} (w : withdraw.Withdrawn c d n p m₂ m₃) (e₄ : m₄ ≡ setCosts c (x .number) (x .costs) m₃) where
     gone : (t : Tree) → Stands m t → RowsHold c d (n - 1) m₃ (withdrawTree d (numberIn c m p) t)
@@ -145,12 +146,11 @@ module _ {c d n p : ℕ} {x : Move} {u : Upkeep} {m m₁ m₂ : List ℕ} (a : R
           subst₂ (λ (k : ℕ) (r : Tree). RowsHold c d k m₅ r) all (recost-tree t stands)
           (entered .holds (withdrawTree d (numberIn c m p) t) (stored-holds (gone t stands) fit (off t stands) e₄))
 
-      recost-kept : Kept m m₆ (changed (boardIn m) (calls.recost (x .number) (x .costs))) (changeTree (dimensionIn m) (calls.recost (x .number) (x .costs)) t)
+      recost-kept : Kept (changeWrites (sizeIn m)) m m₆ (changed (boardIn m) (calls.recost (x .number) (x .costs))) (changeTree (dimensionIn m) (calls.recost (x .number) (x .costs)) t)
       unfolding changeTree calls.changedMoves movesAfter
       recost-kept =
           made s (calls.recost (x .number) (x .costs)) t
-          (frame-trans (recost-written w)
-          (frame-trans (frame-widen (omega arith) (omega arith) costs) (frame-widen (omega arith) (omega arith) (entered .frame))))
+          (only-trans (recost-written w) (only-trans (costs-written c costs) (rows-written c (entered .frame))))
           held
           (ap movesOf (sym (recost-tree t stands)) ∙ moves ∙ ap (insert d (asMove x)) (sym rest))
           (subst (MarksRight c d m₅) (ap (insert d (asMove x)) (sym rest))

@@ -20,8 +20,9 @@ use Rattle.promises.specs.Run.{Bytes}
 use Rattle.memory.specs.Room.{Room}
 use Rattle.memory.specs.Held.{SoundAt}
 use Rattle.memory.specs.Stores.{setListed, setCosts}
-use Rattle.memory.specs.Frame.{Frame, MarksOnly, CostsOnly}
-use Rattle.memory.specs.Laws.Frames.{frame-trans, frame-widen, room-over}
+use Rattle.memory.specs.Frame.{ChangeOnly, MarksOnly, CostsOnly}
+use Rattle.memory.specs.Laws.Frames.{frame-trans}
+use Rattle.memory.specs.Laws.Written.{only-trans, only-room, rows-written, work-written}
 use Rattle.memory.specs.Laws.Fields.{number-over-marks, mark-over-rows, mark-over-work}
 use Rattle.memory.specs.Laws.Stored.{setListed-marks, setCosts-costs, costs-setCosts}
 use Rattle.memory.specs.Laws.Held.{held-room}
@@ -31,12 +32,11 @@ use Rattle.tree.specs.Withdraw.{Withdrawn}
 use Rattle.upkeep.specs.Change.{dropAt, Asked}
 use Rattle.upkeep.specs.declared.change.Change.{Change}
 use Rattle.board.specs.Laws.Rows.{holds-sound, holds-moves, holds-over-marks, holds-setCosts, enter-asked}
-use Rattle.board.specs.Laws.Kept.{Written}
 use Rattle.board.specs.Laws.Marks.{rest-without}
 
 -- What storing the mark and the costs of a coming move asks, whatever was written before.
-pub coming-asked : {c d n a b : ℕ} {k : Change} {m m₁ : List ℕ} → Asked c d n k m → k .comes ≡ true → Frame a b m m₁ → Room c m₁ × (k .coming .number < c)
-coming-asked {c} {d} {n} {m = m} asked comes f = (room-over c f (held-room c d n m (asked .sound)), asked .fit comes .number)
+pub coming-asked : {c d n : ℕ} {k : Change} {m m₁ : List ℕ} → Asked c d n k m → k .comes ≡ true → ChangeOnly c m m₁ → Room c m₁ × (k .coming .number < c)
+coming-asked {c} {d} {n} {m = m} asked comes f = (only-room c f (held-room c d n m (asked .sound)), asked .fit comes .number)
 
 -- Its mark, after those of the others.
 pub listed-frame : {c : ℕ} {m m₁ m₂ : List ℕ} (k : ℕ) (b : Bool) → k < c → MarksOnly c m m₁ → m₂ ≡ setListed c k b m₁ → MarksOnly c m m₂
@@ -62,8 +62,8 @@ module _ {c d n : ℕ} {x : model.Move} {m m' : List ℕ} {t : Tree} (h : RowsHo
 
 -- A move goes.
 module _ {c d n p : ℕ} {m₁ m₂ : List ℕ} (w : Withdrawn c d n p m₁ m₂) where
-  pub gone-written : Written c m₁ m₂
-  gone-written = frame-trans (frame-widen (omega arith) (omega arith) (w .work)) (frame-widen (omega arith) (omega arith) (w .rows))
+  pub gone-written : ChangeOnly c m₁ m₂
+  gone-written = only-trans (work-written c (w .work)) (rows-written c (w .rows))
 
   pub gone-mark : (v : ℕ) → v < c → markIn c m₂ v ≡ markIn c m₁ v
   gone-mark v k = mark-over-rows c (w .rows) v ∙ mark-over-work c (w .work) v k

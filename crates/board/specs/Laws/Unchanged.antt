@@ -91,6 +91,6 @@ module _ {c d n : ℕ} {m : List ℕ} (s : SoundAt c d n m) (b : Bytes m) (x : M
             record {
               holding = record { stands = subst (Stands m) (sym (same-tree t stands)) stands; board = sym same-board };
               length = refl;
-              past = refl;
+              others = λ i free. refl;
             };
       }

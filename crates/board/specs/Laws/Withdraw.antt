@@ -2,7 +2,6 @@
 use Prim.Native.Nat.{ℕ, _-_, _≤_, _<_}
 use mathlib.Core.List.{List}
 use mathlib.Core.Path.{_≡_, refl, _∙_, subst}
-use native.Mathlib.Omega.{arith}
 use lib.ListN.{length}
 use Rattle.model.specs.Calls as calls
 use Rattle.model.specs.Changing.{changeTree}
@@ -10,7 +9,7 @@ use Rattle.promises.specs.Layout.{numberIn}
 use Rattle.promises.specs.Run.{Bytes}
 use Rattle.memory.specs.Held.{SoundAt}
 use Rattle.memory.specs.Stores.{setCount}
-use Rattle.memory.specs.Laws.Frames.{frame-trans, frame-widen}
+use Rattle.memory.specs.Laws.Written.{only-trans, marks-written}
 use Rattle.tree.specs.Withdraw as withdraw
 use Rattle.upkeep.specs.Change.{movesAfter}
 use Rattle.upkeep.specs.Notice.{SetMarks}
@@ -43,7 +42,7 @@ module _ {c d n p : ℕ} {u : Upkeep} {m m₁ : List ℕ} (a : WithdrawAsked c d
       record {
         kept = λ t stands.
             made s (calls.withdraw (numberIn c m p)) t
-            (frame-trans (frame-widen (omega arith) (omega arith) (set .frame)) (gone-written w))
+            (only-trans (marks-written c (set .frame)) (gone-written w))
             (gone-holds w s b (a .place) (set .frame) t stands)
             (gone-moves w s b (a .place) (set .frame) t stands ∙ rest-without c d n p m s b (a .place))
             (subst (MarksRight c d m₂) (rest-without c d n p m s b (a .place))

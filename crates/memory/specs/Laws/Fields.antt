@@ -6,7 +6,7 @@ use mathlib.Core.Logic.{inl, inr, ⊎-map}
 use mathlib.Core.Path.{_≡_, ap}
 use native.Mathlib.Omega.{arith}
 use Rattle.zorder.specs.Address.{rowCosts, padded}
-use Rattle.promises.specs.Layout.{numberPlace, heightPlace, markPlace, costPlace, workPlace, sizeIn, dimensionIn, countIn, numberIn, heightIn, markIn, costIn, workIn, costsIn}
+use Rattle.promises.specs.Layout.{numberPlace, heightPlace, markPlace, costPlace, workPlace, numberIn, heightIn, markIn, costIn, workIn, costsIn}
 use Rattle.memory.specs.Frame.{Frame, RowsOnly, MarksOnly, CostsOnly, WorkOnly}
 use Rattle.memory.specs.Laws.Frames.{Apart, byte-across, word-across}
 use Rattle.memory.specs.Laws.Tab.{tab-ext}
@@ -14,18 +14,6 @@ use Rattle.memory.specs.Laws.Tab.{tab-ext}
 -- ---- each field, over any frame
 
 module _ {a b : ℕ} {m m' : List ℕ} (f : Frame a b m m') where
-  pub size-over : 16 ≤ a → sizeIn m' ≡ sizeIn m
-  unfolding sizeIn
-  size-over h = word-across f 0 (inl (omega arith))
-
-  pub dimension-over : 16 ≤ a → dimensionIn m' ≡ dimensionIn m
-  unfolding dimensionIn
-  dimension-over h = byte-across f 2 (inl (omega arith))
-
-  pub count-over : 16 ≤ a → countIn m' ≡ countIn m
-  unfolding countIn
-  count-over h = word-across f 4 (inl (omega arith))
-
   module _ (c : ℕ) where
     pub number-over : (i : ℕ) → Apart a b (16 + 2 * i) (18 + 2 * i) → numberIn c m' i ≡ numberIn c m i
     unfolding numberIn numberPlace

@@ -2,7 +2,7 @@
 use Prim.Native.Nat.{ℕ, _+_, _*_, _/_, _%_, _≤_, _<_}
 use mathlib.Core.List.{List}
 use mathlib.Core.Logic.{_⊎_, ⊎-elim, ⊎-map}
-use mathlib.Core.Path.{_≡_, refl, sym, ap₂, _∙_}
+use mathlib.Core.Path.{_≡_, refl, ap₂, _∙_}
 use native.Mathlib.Nat.{div-add-mod'}
 use native.Mathlib.Omega.{arith}
 use lib.ListN.{length, getD, set, length-set}
@@ -18,9 +18,6 @@ frame-refl m = record { length = refl; same = λ i h. refl }
 
 pub frame-trans : {a b : ℕ} {m m' m'' : List ℕ} → Frame a b m m' → Frame a b m' m'' → Frame a b m m''
 frame-trans f g = record { length = g .length ∙ f .length; same = λ i h. g .same i h ∙ f .same i h }
-
-pub frame-sym : {a b : ℕ} {m m' : List ℕ} → Frame a b m m' → Frame a b m' m
-frame-sym f = record { length = sym (f .length); same = λ i h. sym (f .same i h) }
 
 pub frame-widen : {a b a' b' : ℕ} {m m' : List ℕ} → a' ≤ a → b ≤ b' → Frame a b m m' → Frame a' b' m m'
 frame-widen l u f = record { length = f .length; same = λ i h. f .same i (⊎-map (λ k. omega arith) (λ k. omega arith) h) }

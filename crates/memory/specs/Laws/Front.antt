@@ -1,133 +1,92 @@
--- A memory holds at most one tree; its board, its tree and whether it is sound depend on its first bytes alone, as many as its
--- size needs.
+-- A memory holds at most one tree; of sound memory the bytes in use are among its first bytes, as many as its size needs.
 use Prim.Native.Nat.{ℕ, _+_, _*_, _≤_, _<_}
-use mathlib.Core.Bool.{Bool}
+use mathlib.Core.Bool.{true, _||_}
 use mathlib.Core.List.{List}
-use mathlib.Core.Path.{_≡_, sym, ap, ap₂, _∙_, subst}
+use mathlib.Core.Path.{_≡_, sym, _∙_, subst}
 use native.Mathlib.Omega.{arith}
+use borrow.Author.Tests.{le-leb, eqb-true}
 use lib.Dec.{eqb}
 use lib.ListN.{length, getD}
-use Rattle.zorder.specs.Address.{padded}
-use Rattle.zorder.specs.Between.{rowCosts}
-use Rattle.model.specs.Basics.{Each}
-use Rattle.model.specs.Moves.{Move}
-use Rattle.model.specs.Lists.{skyline}
-use Rattle.model.specs.Tree.{Tree, movesOf, ruled}
-use Rattle.model.specs.Calls.{sizeBad, memoryNeed}
-use Rattle.model.specs.Laws.Basics.{each-map, each-mono, select-ext}
+use Rattle.model.specs.Basics.{any}
+use Rattle.model.specs.Tree.{Tree}
+use Rattle.model.specs.Calls.{memoryNeed}
+use Rattle.model.specs.Laws.Bool.{or-cases}
+use Rattle.model.specs.Laws.Basics.{each-mem, any-witness}
 use Rattle.model.specs.Laws.Tree.{ruled-filled}
-use Rattle.line.specs.Line.{movesIn}
 use Rattle.line.specs.Laws.Decode.{line-injective}
-use Rattle.zorder.specs.Refusal.{costCountBad}
-use Rattle.promises.specs.Layout.{wordAt, numberPlace, heightPlace, markPlace, costPlace, sizeIn, dimensionIn, countIn, numberIn, heightIn, markIn, costIn, costsIn, lineFrom, lineIn, boardIn, keptFrom, keptIn}
+use Rattle.promises.specs.Layout.{numberPlace, heightPlace, markPlace, costPlace, sizeIn, dimensionIn, countIn, numberIn, tab, boardIn}
 use Rattle.promises.specs.Sound.{Stands}
+use Rattle.promises.specs.Written.{inArea}
+use Rattle.promises.specs.Used.{headUse, rowsUse, moveUse, inUse, longEnough, SameInUse}
+use Rattle.promises.specs.Laws.Tab.{each-tab}
 use Rattle.promises.specs.Laws.Stands.{stands-dimension}
-use Rattle.memory.specs.Room.{Numbers}
-use Rattle.memory.specs.Laws.Tab.{tab-ext}
-use Rattle.memory.specs.Laws.Lines.{line-ext}
+use Rattle.promises.specs.Laws.Written.{area-ends}
 use Rattle.memory.specs.Laws.Decide.{stands-numbers}
+use Rattle.memory.specs.Laws.Used.{word-same, used-board, used-stands}
 
 pub one-tree : (m : List ℕ) (t u : Tree) → Stands m t → Stands m u → t ≡ u
 one-tree m t u s r =
     line-injective t u (ruled-filled (dimensionIn m) t (s .rules)) (ruled-filled (dimensionIn m) u (r .rules)) (sym (s .line) ∙ r .line)
 
--- ---- fields by their bytes
-
-module _ (c : ℕ) (m m' : List ℕ) (same : (i : ℕ) → i < memoryNeed c → getD m' i 0 ≡ getD m i 0) where
-  word-same : (o : ℕ) → o + 1 < 64 * c + 1024 → wordAt o m' ≡ wordAt o m
-  unfolding wordAt memoryNeed
-  word-same o l = ap₂ (λ (a b : ℕ). a + 256 * b) (same o (omega arith)) (same (o + 1) l)
-
-  number-same : (i : ℕ) → i < c → numberIn c m' i ≡ numberIn c m i
-  unfolding numberIn numberPlace
-  number-same i l = word-same (16 + 2 * i) (omega arith)
-
-  height-same : (i : ℕ) → i < c → heightIn c m' i ≡ heightIn c m i
-  unfolding heightIn heightPlace memoryNeed
-  height-same i l = same (16 + 2 * c + i) (omega arith)
-
-  mark-same : (n : ℕ) → n < c → markIn c m' n ≡ markIn c m n
-  unfolding markIn markPlace memoryNeed
-  mark-same n l = same (16 + 3 * c + n) (omega arith)
-
-  module _ (d : ℕ) (k : d ≤ rowCosts) where
-    costs-same : (n : ℕ) → n < c → costsIn c d m' n ≡ costsIn c d m n
-    unfolding costsIn costIn costPlace
-    costs-same n l =
-        ap (padded d) (tab-ext (costIn c m' n) (costIn c m n) d (λ j g. word-same (16 + 5 * c + 16 * n + 2 * j) (omega arith)))
-
-    line-same : (n : ℕ) → n ≤ c → Numbers c n m → lineFrom c d n m' ≡ lineFrom c d n m
-    line-same n l h =
-        line-ext c d m m' n (λ i g. number-same i (omega arith)) (λ i g. height-same i (omega arith)) (λ i g. costs-same (numberIn c m i) (h i g))
-
-  kept-same : (ms : List Move) → Each (λ x. x .number < c) ms → keptFrom c m' ms ≡ keptFrom c m ms
-  unfolding keptFrom
-  kept-same ms es =
-      select-ext listed' listed ms (each-mono (λ x. x .number < c) (λ x. listed' x ≡ listed x) ms (λ x l. ap (λ (v : ℕ). eqb v 1) (mark-same (x .number) l)) es)
-    where
-      listed' : Move → Bool
-      listed' x = eqb (markIn c m' (x .number)) 1
-
-      listed : Move → Bool
-      listed x = eqb (markIn c m (x .number)) 1
-
--- ---- the whole
-
 -- Two memories agree on as many first bytes as the size in the first needs.
 abbrev pub SameFront : List ℕ → List ℕ → Type 0
 SameFront m m' = (i : ℕ) → i < memoryNeed (sizeIn m) → getD m' i 0 ≡ getD m i 0
 
+-- The bytes in use of sound memory are among them.
+module _ {m : List ℕ} {t : Tree} (s : Stands m t) (i : ℕ) where
+  rows-front : rowsUse (sizeIn m) (countIn m) i ≡ true → i < memoryNeed (sizeIn m)
+  unfolding rowsUse numberPlace heightPlace memoryNeed
+  rows-front h =
+      or-cases (inArea 16 (16 + 2 * countIn m) i) (inArea (16 + 2 * sizeIn m + 0) (16 + 2 * sizeIn m + countIn m) i) h
+      (λ r. omega (arith, area-ends 16 (16 + 2 * countIn m) i r, s .count))
+      (λ r. omega (arith, area-ends (16 + 2 * sizeIn m + 0) (16 + 2 * sizeIn m + countIn m) i r, s .count))
+
+  move-front : (number : ℕ) → number < sizeIn m → moveUse (sizeIn m) (dimensionIn m) i number ≡ true → i < memoryNeed (sizeIn m)
+  unfolding moveUse markPlace costPlace memoryNeed
+  move-front number l h =
+      or-cases (eqb i (markPlace (sizeIn m) number)) (inArea (costPlace (sizeIn m) number 0) (costPlace (sizeIn m) number (dimensionIn m)) i) h
+      (λ r. omega (arith, eqb-true i (markPlace (sizeIn m) number) r))
+      (λ r. omega (arith, area-ends (costPlace (sizeIn m) number 0) (costPlace (sizeIn m) number (dimensionIn m)) i r, stands-dimension m t s))
+
+  moves-front : any (moveUse (sizeIn m) (dimensionIn m) i) (tab (numberIn (sizeIn m) m) (countIn m)) ≡ true → i < memoryNeed (sizeIn m)
+  moves-front h =
+      let numbers = tab (numberIn (sizeIn m) m) (countIn m) in
+      let w = any-witness (moveUse (sizeIn m) (dimensionIn m) i) numbers h in
+      move-front (w .0) (each-mem (λ k. k < sizeIn m) (each-tab (numberIn (sizeIn m) m) (λ k. k < sizeIn m) (countIn m) (stands-numbers m s)) (w .1)) (w .2)
+
+  pub use-front : inUse m i ≡ true → i < memoryNeed (sizeIn m)
+  unfolding inUse headUse memoryNeed
+  use-front h =
+      or-cases (headUse i || rowsUse (sizeIn m) (countIn m) i) (any (moveUse (sizeIn m) (dimensionIn m) i) (tab (numberIn (sizeIn m) m) (countIn m))) h
+      (λ k.
+      or-cases (headUse i) (rowsUse (sizeIn m) (countIn m) i) k
+      (λ r. or-cases (inArea 0 3 i) (inArea 4 6 i) r (λ e. omega (arith, area-ends 0 3 i e)) (λ e. omega (arith, area-ends 4 6 i e)))
+      rows-front)
+      moves-front
+
 module _ (m m' : List ℕ) (same : SameFront m m') where
-  size-same : sizeIn m' ≡ sizeIn m
-  unfolding sizeIn
-  size-same = word-same (sizeIn m) m m' same 0 (omega arith)
+  front-size : sizeIn m' ≡ sizeIn m
+  unfolding sizeIn memoryNeed
+  front-size = word-same m m' 0 (same 0 (omega arith)) (same 1 (omega arith))
 
-  dimension-same : dimensionIn m' ≡ dimensionIn m
-  unfolding dimensionIn memoryNeed
-  dimension-same = same 2 (omega arith)
+  pub front-used : {t : Tree} → Stands m t → memoryNeed (sizeIn m) ≤ length m' → SameInUse m m'
+  unfolding longEnough
+  front-used s l =
+      record {
+        bytes = λ i h. same i (use-front s i h);
+        long = le-leb (memoryNeed (sizeIn m')) (length m') (subst (λ (c : ℕ). memoryNeed c ≤ length m') (sym front-size) l) ∙ sym (le-leb (memoryNeed (sizeIn m)) (length m) (s .room));
+      }
 
-  count-same : countIn m' ≡ countIn m
-  unfolding countIn
-  count-same = word-same (sizeIn m) m m' same 4 (omega arith)
+  pub front-board : {t : Tree} → Stands m t → memoryNeed (sizeIn m) ≤ length m' → boardIn m' ≡ boardIn m
+  front-board s l = used-board m m' (front-used s l)
 
-  pub same-front : SameFront m' m
-  same-front i l = sym (same i (subst (λ (c : ℕ). i < memoryNeed c) size-same l))
+  same-front : SameFront m' m
+  same-front i l = sym (same i (subst (λ (c : ℕ). i < memoryNeed c) front-size l))
 
-  module _ {t : Tree} (s : Stands m t) where
-    line-in-same : lineIn m' ≡ lineIn m
-    unfolding lineIn
-    line-in-same =
-        (λ i. lineFrom (size-same i) (dimension-same i) (count-same i) m')
-        ∙ line-same (sizeIn m) m m' same (dimensionIn m) (stands-dimension m t s) (countIn m) (s .count)
-        (stands-numbers m s)
-
-    kept-in-same : keptIn m' ≡ keptIn m
-    unfolding keptIn movesIn
-    kept-in-same =
-        (λ i. keptFrom (size-same i) m' (movesIn (line-in-same i)))
-        ∙ kept-same (sizeIn m) m m' same (movesIn (lineIn m)) (each-map (λ x. x .number < sizeIn m) (λ r. r .move) (lineIn m) (s .numbers))
-
-    pub front-board : boardIn m' ≡ boardIn m
-    unfolding boardIn
-    front-board = λ i. record { size = size-same i; dimension = dimension-same i; moves = movesIn (line-in-same i) }
-
-    pub front-stands : memoryNeed (sizeIn m) ≤ length m' → Stands m' t
-    front-stands l =
-        record {
-          size = ap sizeBad size-same ∙ s .size;
-          dimension = ap costCountBad dimension-same ∙ s .dimension;
-          room = subst (λ (c : ℕ). memoryNeed c ≤ length m') (sym size-same) l;
-          count = omega (arith, count-same, size-same, s .count);
-          numbers = subst (λ (c : ℕ). Each (λ r. r .move .number < c) (lineIn m')) (sym size-same) (subst (Each (λ r. r .move .number < sizeIn m)) (sym line-in-same) (s .numbers));
-          line = line-in-same ∙ s .line;
-          rules = ap (λ (d : ℕ). ruled d t) dimension-same ∙ s .rules;
-          kept = kept-in-same ∙ s .kept ∙ ap (λ (d : ℕ). skyline d (movesOf t)) (sym dimension-same);
-        }
-
--- The same trees stand in both.
+-- The same trees stand in two memories that are long enough and agree on their first bytes.
 pub front-alone : (m m' : List ℕ) → SameFront m m' → memoryNeed (sizeIn m) ≤ length m → memoryNeed (sizeIn m) ≤ length m'
     → (t : Tree) → (Stands m t → Stands m' t) × (Stands m' t → Stands m t)
 front-alone m m' same l l' t = (
-  λ s. front-stands m m' same s l',
-  λ s. front-stands m' m (same-front m m' same) s (subst (λ (c : ℕ). memoryNeed c ≤ length m) (sym (size-same m m' same)) l),
+  λ s. used-stands m m' (front-used m m' same s l') s,
+  λ s. used-stands m' m (front-used m' m (same-front m m' same) s (subst (λ (c : ℕ). memoryNeed c ≤ length m) (sym (front-size m m' same)) l)) s,
 )

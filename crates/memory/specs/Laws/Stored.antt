@@ -92,12 +92,6 @@ setCount-head n m = frame-widen (omega arith) (omega arith) (setCount-frame n m)
 
 -- ---- the length
 
-pub length-setHead : (c d n : ℕ) (m : List ℕ) → length (setHead c d n m) ≡ length m
-length-setHead c d n m = setHead-frame c d n m .length
-
-pub length-setCount : (n : ℕ) (m : List ℕ) → length (setCount n m) ≡ length m
-length-setCount n m = setCount-frame n m .length
-
 pub length-setNumber : (c i v : ℕ) (m : List ℕ) → length (setNumber c i v m) ≡ length m
 length-setNumber c i v m = setNumber-frame c i m v .length
 

@@ -17,7 +17,8 @@ use Rattle.model.specs.Changing.{changeTree, queryOpens, changeOpens}
 use Rattle.model.specs.Sound.{SoundBoard}
 use Rattle.model.specs.Holder.{change, isAccepted, plainNext, Answered, followed, heldAfter, Demand3}
 use Rattle.model.specs.Laws.Holder.{Reads, Keeps, EachKeeps, change-held, keeps-demand3}
-use Rattle.promises.specs.Layout.{dimensionIn}
+use Rattle.promises.specs.Layout.{sizeIn, dimensionIn}
+use Rattle.promises.specs.Written.{changeWrites, loadWrites}
 use Rattle.promises.specs.Sound.{Holding}
 use Rattle.promises.specs.Answers.{answerOf, numberOf, counted, rowsAfter}
 use Rattle.promises.specs.Promise.{MemoryAfter, LoadPromise, Said, QueryPromise, QuerySaid, ChangePromise, ChangeSaid}
@@ -51,17 +52,17 @@ at-board : {m : List ℕ} {b : Board} → At m b → SoundBoard b
 at-board {m} {b} a = holding-board m b (a .tree) (a .holding) (a .bytes)
 
 -- What is left by a call that answered with this number.
-module _ (m m' : List ℕ) (b' : Board) (t : Tree) where
-  left-accepted : (n : ℕ) → n ≡ 0 → MemoryAfter n m m' b' t → Bytes m' → At m' b'
+module _ (writes : ℕ → Bool) (m m' : List ℕ) (b' : Board) (t : Tree) where
+  left-accepted : (n : ℕ) → n ≡ 0 → MemoryAfter writes n m m' b' t → Bytes m' → At m' b'
   unfolding MemoryAfter
-  left-accepted n e l k = record { tree = t; holding = subst (λ (n : ℕ). MemoryAfter n m m' b' t) e l .holding; bytes = k }
+  left-accepted n e l k = record { tree = t; holding = subst (λ (n : ℕ). MemoryAfter writes n m m' b' t) e l .holding; bytes = k }
 
-  left-refused : (n : ℕ) → ¬ (n ≡ 0) → MemoryAfter n m m' b' t → m' ≡ m
+  left-refused : (n : ℕ) → ¬ (n ≡ 0) → MemoryAfter writes n m m' b' t → m' ≡ m
   unfolding MemoryAfter
   left-refused zero f l = absurd (f refl)
   left-refused (suc n) f l = l
 
-  left-at : (n : ℕ) {b : Board} → MemoryAfter n m m' b' t → Bytes m' → At m b → At m' (cond (eqb n 0) b' b)
+  left-at : (n : ℕ) {b : Board} → MemoryAfter writes n m m' b' t → Bytes m' → At m b → At m' (cond (eqb n 0) b' b)
   left-at zero l k a = left-accepted 0 refl l k
   left-at (suc n) {b} l k a =
       subst (λ (c : Bool). At m' (cond c b' b)) (sym (eqb·suc-zero n))
@@ -73,9 +74,9 @@ module _ (x : Change) (m m' : List ℕ) (lent lent' : List Row) (r : Answer) (p 
       subst (λ (b : Board). ChangeSaid x b (changeOpens (dimensionIn m) x (a .tree)) lent r lent') (a .holding .board)
       (p .sound (a .tree) (a .holding .stands))
 
-  change-left : MemoryAfter (numberOf (r .verdict)) m m' (changed b x) (changeTree (dimensionIn m) x (a .tree))
+  change-left : MemoryAfter (changeWrites (sizeIn m)) (numberOf (r .verdict)) m m' (changed b x) (changeTree (dimensionIn m) x (a .tree))
   change-left =
-      subst (λ (b : Board). MemoryAfter (numberOf (r .verdict)) m m' (changed b x) (changeTree (dimensionIn m) x (a .tree))) (a .holding .board)
+      subst (λ (b : Board). MemoryAfter (changeWrites (sizeIn m)) (numberOf (r .verdict)) m m' (changed b x) (changeTree (dimensionIn m) x (a .tree))) (a .holding .board)
       (p .left (a .tree) (a .holding .stands))
 
   -- the answer is the plain board's, so what becomes of it is known
@@ -88,7 +89,7 @@ module _ (x : Change) (m m' : List ℕ) (lent lent' : List Row) (r : Answer) (p 
 
   change-at : Bytes m' → At m' next
   unfolding isAccepted answerOf
-  change-at k = left-at m m' (changed b x) (changeTree (dimensionIn m) x (a .tree)) (numberOf (r .verdict)) change-left k a
+  change-at k = left-at (changeWrites (sizeIn m)) m m' (changed b x) (changeTree (dimensionIn m) x (a .tree)) (numberOf (r .verdict)) change-left k a
 
   change-keeps : (k : Bytes m') → Keeps b (eventOf (changes x lent lent' r k p))
   unfolding eventOf Answered Reads heldAfter
@@ -133,11 +134,11 @@ step-at {m} {m'} (changes x lent lent' r k p) b a =
     subst (At m') (sym (change-next x m m' lent lent' r p b a)) (change-at x m m' lent lent' r p b a k)
 step-at (lists lent lent' r p) b a = a
 step-at {m} {m'} (loadRefused c d rows v p f) b a =
-    subst (λ (m : List ℕ). At m b) (sym (left-refused m m' (loaded c d rows) (loadTree d (map moveOf rows)) (numberOf v) f (p .left))) a
+    subst (λ (m : List ℕ). At m b) (sym (left-refused (loadWrites c) m m' (loaded c d rows) (loadTree d (map moveOf rows)) (numberOf v) f (p .left))) a
 step-at leaves b a = a
 
 load-at : (c d : ℕ) (rows : List InputRow) (v : Verdict) {m m' : List ℕ} → LoadPromise c d rows m v m' → numberOf v ≡ 0 → Bytes m' → At m' (loaded c d rows)
-load-at c d rows v {m} {m'} p e k = left-accepted m m' (loaded c d rows) (loadTree d (map moveOf rows)) (numberOf v) e (p .left) k
+load-at c d rows v {m} {m'} p e k = left-accepted (loadWrites c) m m' (loaded c d rows) (loadTree d (map moveOf rows)) (numberOf v) e (p .left) k
 
 -- ---- the run
 

@@ -3,6 +3,7 @@ use mathlib.Core.Path.{refl}
 use native.Mathlib.Omega.{arith}
 use borrow.Author.Needs.{needs}
 use Rattle.promises.specs.Run.{Bytes}
+use Rattle.memory.specs.Laws.Written.{marks-written}
 use Rattle.board.specs.Laws.Rows.{marks-asked}
 use Rattle.board.specs.Laws.Steps.{coming-asked}
 use Rattle.board.specs.Laws.Recost.{recost-withdraw-asked, recost-written, recost-enter-asked, recost-count-asked, recost-made}
@@ -20,7 +21,7 @@ set-listed-requires : tie.Need-set-listed-requires
 set-listed-requires c κs =
     let marks = c .before .before .before in
     let start = marks .before .before .before .before in
-    coming-asked (start .pre .asked) refl (marks .set-marks .ensures .frame)
+    coming-asked (start .pre .asked) refl (marks-written (start .args .c) (marks .set-marks .ensures .frame))
 
 withdraw-line-requires : tie.Need-withdraw-line-requires
 unfolding Bytes

@@ -1,0 +1,114 @@
+-- What no call writes.
+use Prim.Native.Nat.{ℕ, zero, suc, _+_, _*_, _-_, _≤_, _<_}
+use mathlib.Core.Bool.{Bool, true, false, not, _&&_}
+use mathlib.Core.List.{List, map}
+use mathlib.Core.Path.{_≡_, sym, ap, _∙_}
+use native.Mathlib.Omega.{arith}
+use borrow.Author.Tests.{leb-true, ltb-true, le-leb, lt-leb, lt-ltb, le-ltb}
+use lib.Dec.{leb, ltb}
+use lib.ListN.{length, drop, length-drop}
+use lib.Seq.{ext-getD, getD-drop}
+use Rattle.model.specs.Moves.{InputRow, Row, moveOf}
+use Rattle.model.specs.Tree.{Tree}
+use Rattle.model.specs.Loading.{loadTree}
+use Rattle.model.specs.Changing.{changeTree}
+use Rattle.model.specs.Calls.{Board, memoryNeed, loaded, Change, changed}
+use Rattle.model.specs.Laws.Bool.{and-left, and-right, and-both, and-false-right, or-false-both, or-left, or-right}
+use Rattle.promises.specs.Layout.{sizeIn, dimensionIn, boardIn}
+use Rattle.promises.specs.Sound.{Sound}
+use Rattle.promises.specs.Written.{inArea, changeWrites, loadWrites}
+use Rattle.promises.specs.Promise.{Kept, MemoryAfter, LoadPromise, ChangePromise}
+use Rattle.promises.specs.Answers.{numberOf}
+use Rattle.promises.specs.declared.Verdict.{Verdict}
+use Rattle.promises.specs.declared.Answer.{Answer}
+
+-- ---- areas
+
+module _ (a b i : ℕ) where
+  pub in-area : a ≤ i → i < b → inArea a b i ≡ true
+  unfolding inArea
+  in-area l u = and-both (leb a i) (ltb i b) (le-leb a i l) (lt-ltb i b u)
+
+  pub area-starts : inArea a b i ≡ true → a ≤ i
+  unfolding inArea
+  area-starts e = leb-true a i (and-left (leb a i) (ltb i b) e)
+
+  pub area-ends : inArea a b i ≡ true → i < b
+  unfolding inArea
+  area-ends e = ltb-true i b (and-right (leb a i) (ltb i b) e)
+
+  pub before-area : i < a → inArea a b i ≡ false
+  unfolding inArea
+  before-area l = ap (λ (t : Bool). t && ltb i b) (lt-leb a i l)
+
+  pub past-area : b ≤ i → inArea a b i ≡ false
+  unfolding inArea
+  past-area l = and-false-right (leb a i) (ltb i b) (le-ltb i b l)
+
+-- ---- what a change writes, and what not
+
+module _ (c i : ℕ) where
+  abbrev blocks : Bool
+  blocks = inArea (16 + 4 * c) (16 + 5 * c) i
+
+  pub writes-count : 4 ≤ i → i < 6 → changeWrites c i ≡ true
+  unfolding changeWrites
+  writes-count l u = or-left (inArea 4 6 i) (inArea 16 (16 + 23 * c) i && not blocks) (in-area 4 6 i l u)
+
+  area-written : 16 ≤ i → i < 16 + 23 * c → inArea (16 + 4 * c) (16 + 5 * c) i ≡ false → changeWrites c i ≡ true
+  unfolding changeWrites
+  area-written l u free =
+      or-right (inArea 4 6 i) (inArea 16 (16 + 23 * c) i && not blocks)
+      (and-both (inArea 16 (16 + 23 * c) i) (not blocks) (in-area 16 (16 + 23 * c) i l u) (ap not free))
+
+  pub writes-rows : 16 ≤ i → i < 16 + 4 * c → changeWrites c i ≡ true
+  writes-rows l u = area-written l (omega arith) (before-area (16 + 4 * c) (16 + 5 * c) i u)
+
+  pub writes-costs : 16 + 5 * c ≤ i → i < 16 + 23 * c → changeWrites c i ≡ true
+  writes-costs l u = area-written (omega arith) u (past-area (16 + 4 * c) (16 + 5 * c) i l)
+
+  -- C, d and the byte behind them.
+  pub leaves-head : i < 4 → changeWrites c i ≡ false
+  unfolding changeWrites
+  leaves-head l =
+      or-false-both (inArea 4 6 i) (inArea 16 (16 + 23 * c) i && not blocks) (before-area 4 6 i l)
+      (ap (λ (t : Bool). t && not blocks) (before-area 16 (16 + 23 * c) i (omega arith)))
+
+  change-ends : 16 + 23 * c ≤ i → changeWrites c i ≡ false
+  unfolding changeWrites
+  change-ends l =
+      or-false-both (inArea 4 6 i) (inArea 16 (16 + 23 * c) i && not blocks) (past-area 4 6 i (omega arith))
+      (ap (λ (t : Bool). t && not blocks) (past-area 16 (16 + 23 * c) i l))
+
+  load-ends : 16 + 23 * c ≤ i → loadWrites c i ≡ false
+  unfolding loadWrites
+  load-ends l = or-false-both (inArea 0 3 i) (changeWrites c i) (past-area 0 3 i (omega arith)) (change-ends l)
+
+-- ---- "Memory past the first 64·C + 1,024 bytes is never written."
+
+module _ (c : ℕ) (writes : ℕ → Bool) (ends : (i : ℕ) → 16 + 23 * c ≤ i → writes i ≡ false) (m m' : List ℕ) (b : Board) (t : Tree) where
+  past-kept : Kept writes m m' b t → drop (memoryNeed c) m' ≡ drop (memoryNeed c) m
+  unfolding memoryNeed
+  past-kept k =
+      ext-getD 0 (drop need m') (drop need m)
+      (length-drop need m' ∙ ap (λ (n : ℕ). n - need) (k .length) ∙ sym (length-drop need m))
+      (λ i _. getD-drop need m' i 0 ∙ k .others (need + i) (ends (need + i) (omega arith)) ∙ sym (getD-drop need m i 0))
+    where
+      need : ℕ
+      need = 64 * c + 1024
+
+  past-left : (k : ℕ) → MemoryAfter writes k m m' b t → drop (memoryNeed c) m' ≡ drop (memoryNeed c) m
+  unfolding MemoryAfter
+  past-left zero k = past-kept k
+  past-left (suc n) e = ap (drop (memoryNeed c)) e
+
+-- (Of memory that is not sound a change writes nothing.)
+module _ {m m' : List ℕ} where
+  pub load-past : {c d : ℕ} {rows : List InputRow} {v : Verdict} → LoadPromise c d rows m v m' → drop (memoryNeed c) m' ≡ drop (memoryNeed c) m
+  load-past {c} {d} {rows} {v} p =
+      past-left c (loadWrites c) (load-ends c) m m' (loaded c d rows) (loadTree d (map moveOf rows)) (numberOf v) (p .left)
+
+  pub change-past : {x : Change} {lent lent' : List Row} {r : Answer} → Sound m → ChangePromise x m lent r m' lent' → drop (memoryNeed (sizeIn m)) m' ≡ drop (memoryNeed (sizeIn m)) m
+  change-past {x} {r = r} s p =
+      past-left (sizeIn m) (changeWrites (sizeIn m)) (change-ends (sizeIn m)) m m' (changed (boardIn m) x) (changeTree (dimensionIn m) x (s .tree)) (numberOf (r .verdict))
+      (p .left (s .tree) (s .stands))
