@@ -2,7 +2,9 @@
 use Prim.Native.Nat.{ℕ, _+_, _*_, _≤_, _<_}
 use mathlib.Core.List.{List}
 use lib.ListN.{length}
+use Rattle.zorder.specs.Address.{rowCosts}
 use Rattle.promises.specs.Layout.{numberIn}
+use Rattle.memory.specs.declared.sound.Head.{Head}
 
 -- The memory is long enough for a board of size c, and c is small enough for offsets not to wrap.
 abbrev pub Room : ℕ → List ℕ → Type 0
@@ -11,3 +13,10 @@ Room c m = (64 * c + 1024 ≤ length m) × (c ≤ 4096)
 -- The numbers at the first n places are below c.
 abbrev pub Numbers : ℕ → ℕ → List ℕ → Type 0
 Numbers c n m = (i : ℕ) → i < n → numberIn c m i < c
+
+-- What the readers of a board's moves ask: this size, this number of costs, and so many moves.
+pub record Readable (h : Head) (m : List ℕ) : Type 0 where
+  pub room : Room (h .size) m
+  pub rows : h .count ≤ h .size
+  pub numbers : Numbers (h .size) (h .count) m
+  pub dimension : h .dimension ≤ rowCosts

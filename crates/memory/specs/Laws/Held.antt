@@ -21,7 +21,7 @@ use Rattle.promises.specs.Layout.{sizeIn, dimensionIn, countIn, numberIn, markI
 use Rattle.promises.specs.Sound.{Stands, Sound}
 use Rattle.promises.specs.Run.{Bytes}
 use Rattle.promises.specs.Laws.Stands.{stands-dimension, stands-moves, stands-order, stands-fit, stands-once}
-use Rattle.memory.specs.Room.{Room, Numbers}
+use Rattle.memory.specs.Room.{Room, Numbers, Readable}
 use Rattle.memory.specs.Held.{SoundAt, HeldIn}
 use Rattle.memory.specs.Tests.{isListed}
 use Rattle.memory.specs.Laws.Tab.{length-tab, getD-tab, map-tab}
@@ -142,3 +142,11 @@ sound-held {m} p e = subst (HeldIn m) e p
 pub unsound-held : {m : List ℕ} {r : Held} → HeldIn m r → r ≡ held.Unsound → Sound m → ⊥
 unfolding HeldIn
 unsound-held {m} p e = subst (HeldIn m) e p
+
+-- Sound memory can be read.
+pub held-readable : {h : Head} {m : List ℕ} → SoundAt (h .size) (h .dimension) (h .count) m → Readable h m
+held-readable {h} {m} s =
+    let c = h .size in
+    let d = h .dimension in
+    let n = h .count in
+    record { room = held-room c d n m s; rows = held-few c d n m s; numbers = held-numbers c d n m s; dimension = held-dimension c d n m s }
