@@ -2,7 +2,7 @@
 use borrow.Author.Needs.{needs}
 use mathlib.Core.Path.{refl}
 use Rattle.model.specs.Calls.{memoryNeed}
-use Rattle.framing.specs.Session.{unloaded}
+use Rattle.framing.specs.State.{unloaded}
 use Rattle.framing.specs.Serving.{StateIn, Ready, Lent}
 use native.Mathlib.Omega.{arith}
 use Rattle.frames.proofs.main.Statement.{statement}
