@@ -6,3 +6,4 @@ pub mod Judged
 pub mod Pairs
 pub mod Frames
 pub mod Serving
+pub mod Feeding

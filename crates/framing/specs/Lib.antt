@@ -8,4 +8,5 @@ pub mod Example
 pub mod Reading
 pub mod Writing
 pub mod Serving
+pub mod Feeding
 pub mod Laws

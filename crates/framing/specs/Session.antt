@@ -68,6 +68,10 @@ linesFrom [] [] = []
 linesFrom (b ∷ line) [] = (b ∷ line) ∷ []
 linesFrom line (b ∷ bs) = cond (eqb b lineEnd) (line ∷ linesFrom [] bs) (linesFrom (line ++ b ∷ []) bs)
 
+-- What is printed of an input, where s is held and `line` was read of its first line.
+unfoldable pub printed : State → List ℕ → List ℕ → List ℕ
+printed s line input = answersTo s (linesFrom line input)
+
 -- What the program prints.
 unfoldable pub output : List ℕ → List ℕ
-output input = answersTo unloaded (linesFrom [] input)
+output input = printed unloaded [] input

@@ -1,14 +1,17 @@
 // Frames (document 01, "Frames"): which line is which frame, what the board's call says of it, and which bytes that is.
 mod digits;
+mod feeding;
 mod frame;
 mod reading;
 mod said;
 mod serving;
 mod text;
 
-pub use reading::Line;
-pub use serving::Answered;
-pub use serving::answer;
+pub use feeding::Fed;
+pub use feeding::Point;
+pub use feeding::feed;
+pub use feeding::finish;
+pub use feeding::start;
 use zorder::COSTS;
 
 // The board's size, the bytes that it needs, and the rows lent to each call.
