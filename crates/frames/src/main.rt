@@ -2,8 +2,6 @@
 // here: which bytes are a line, and what is answered, is `framing::feed`.
 use framing::BYTES;
 use framing::Point;
-use framing::ROW;
-use framing::ROWS;
 use framing::TEXT;
 use framing::feed;
 use framing::finish;
@@ -17,21 +15,15 @@ struct Turn {
 }
 
 // All of these bytes, and the answers to the lines that they end.
-fn answer_all(
-    p: Point,
-    bytes: &[u8],
-    m: &mut [u8],
-    rows: &mut [[u16; ROW]],
-    out: &mut [u8],
-) -> Point
+fn answer_all(p: Point, bytes: &[u8], m: &mut [u8], out: &mut [u8]) -> Point
     requires { ⌜ Ready (p .dimension) (now m) ⌝ }
-    requires { ⌜ Lent (now m) (now rows) (now out) ⌝ }
+    requires { ⌜ Lent (now m) (now out) ⌝ }
     ensures { λ r. ⌜ Ready (r .dimension) (now (m .exit)) ⌝ }
 {
     let mut q = p;
     let mut i = 0;
     while i < bytes.len() {
-        let fed = feed(q, &bytes[i..], m, rows, out);
+        let fed = feed(q, &bytes[i..], m, out);
         let n = fed.answered;
         io::write_all(libc::STDOUT_FILENO, &out[..n]);
         let next = fed.point;
@@ -41,31 +33,30 @@ fn answer_all(
     q
 }
 
-fn answer_read(p: Point, m: &mut [u8], rows: &mut [[u16; ROW]], out: &mut [u8]) -> Turn
+fn answer_read(p: Point, m: &mut [u8], out: &mut [u8]) -> Turn
     requires { ⌜ Ready (p .dimension) (now m) ⌝ }
-    requires { ⌜ Lent (now m) (now rows) (now out) ⌝ }
+    requires { ⌜ Lent (now m) (now out) ⌝ }
     ensures { λ r. ⌜ Ready (r .point .dimension) (now (m .exit)) ⌝ }
 {
     let mut buffer = [0u8; 512];
     let got = libc::read(libc::STDIN_FILENO, &mut buffer);
     let n = io::count(got, &buffer);
-    let point = answer_all(p, &buffer[..n], m, rows, out);
+    let point = answer_all(p, &buffer[..n], m, out);
     Turn { point, more: 0 < n }
 }
 
 // Nothing says that the input ends, so the loop counts down from a number that no run uses up.
 fn main() {
     let mut m = [0u8; BYTES];
-    let mut rows = [[0u16; ROW]; ROWS];
     let mut out = [0u8; TEXT];
     let mut p = start();
     let mut turns = u64::MAX;
     while 0 < turns {
-        let t = answer_read(p, &mut m, &mut rows, &mut out);
+        let t = answer_read(p, &mut m, &mut out);
         let next = t.point;
         p = next;
         if !t.more {
-            let n = finish(p, &mut m, &mut rows, &mut out);
+            let n = finish(p, &mut m, &mut out);
             io::write_all(libc::STDOUT_FILENO, &out[..n]);
             return;
         }

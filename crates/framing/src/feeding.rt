@@ -1,5 +1,4 @@
 // The input as it comes, in parts of any length that may end in the middle of a line.
-use crate::ROW;
 use crate::reading::Line;
 use crate::serving::answer;
 ghost use Rattle.framing.specs.Serving.{Ready, Lent};
@@ -60,9 +59,9 @@ pub fn start() -> Point
 
 // Takes bytes up to a line end and with it, or all where there is none. The answer to a line that ended is put at the start of
 // `out`.
-pub fn feed(p: Point, bytes: &[u8], m: &mut [u8], rows: &mut [[u16; ROW]], out: &mut [u8]) -> Fed
+pub fn feed(p: Point, bytes: &[u8], m: &mut [u8], out: &mut [u8]) -> Fed
     requires { ⌜ Ready (p .dimension) (now m) ⌝ }
-    requires { ⌜ Lent (now m) (now rows) (now out) ⌝ }
+    requires { ⌜ Lent (now m) (now out) ⌝ }
     ensures { λ r. ⌜ Feeds p (now (bytes .entry)) (now (m .entry)) r (now (m .exit)) (now (out .exit)) ⌝ }
 {
     let begun = p.line;
@@ -79,7 +78,7 @@ pub fn feed(p: Point, bytes: &[u8], m: &mut [u8], rows: &mut [[u16; ROW]], out: 
             answered: 0,
         };
     }
-    let r = answer(m, p.dimension, line, rows, out);
+    let r = answer(m, p.dimension, line, out);
     Fed {
         point: Point {
             line: Line::new(),
@@ -91,15 +90,15 @@ pub fn feed(p: Point, bytes: &[u8], m: &mut [u8], rows: &mut [[u16; ROW]], out: 
 }
 
 // The end of the input: a last line without a line end is answered. Gives how many bytes were put at the start of `out`.
-pub fn finish(p: Point, m: &mut [u8], rows: &mut [[u16; ROW]], out: &mut [u8]) -> usize
+pub fn finish(p: Point, m: &mut [u8], out: &mut [u8]) -> usize
     requires { ⌜ Ready (p .dimension) (now m) ⌝ }
-    requires { ⌜ Lent (now m) (now rows) (now out) ⌝ }
+    requires { ⌜ Lent (now m) (now out) ⌝ }
     ensures { λ r. ⌜ Finishes p (now (m .entry)) r (now (out .exit)) ⌝ }
 {
     let line = p.line;
     if line.count == 0 {
         return 0;
     }
-    let r = answer(m, p.dimension, line, rows, out);
+    let r = answer(m, p.dimension, line, out);
     r.count
 }

@@ -14,15 +14,12 @@ pub use feeding::finish;
 pub use feeding::start;
 use zorder::COSTS;
 
-// The board's size, the bytes that it needs, and the rows lent to each call.
-pub const SIZE: usize = 256;
+// The board's size, the bytes that it needs, and the rows that an answer has space for.
+const SIZE: usize = 256;
 
 pub const BYTES: usize = 17408;
 
-pub const ROWS: usize = 257;
+const ROWS: usize = 257;
 
 // The longest answer: ten digits before the rows, 22 for each row, and a line end.
-pub const TEXT: usize = 257 * (4 * COSTS + 6) + 11;
-
-// A row that a call tells: mark, number, costs.
-pub const ROW: usize = COSTS + 2;
+pub const TEXT: usize = ROWS * (4 * COSTS + 6) + 11;

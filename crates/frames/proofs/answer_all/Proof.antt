@@ -10,11 +10,11 @@ use Rattle.frames.proofs.answer_all.Statement.{statement}
 use Rattle.frames.proofs.answer_all.Tie as tie
 
 abbrev Inv-loop : tie.InvT-loop
-Inv-loop bytes m₀ rows₀ out₀ q₀ i₀ m rows out q i =
-    (i ≤ length bytes) × Ready (q .dimension) m × Lent m rows out
+Inv-loop bytes m₀ out₀ q₀ i₀ m out q i =
+    (i ≤ length bytes) × Ready (q .dimension) m × Lent m out
 
 abbrev μ-loop : tie.MeasureT-loop
-μ-loop bytes m₀ rows₀ out₀ q₀ i₀ m rows out q i = length bytes - i
+μ-loop bytes m₀ out₀ q₀ i₀ m out q i = length bytes - i
 
 loop-holds : tie.Need-loop-holds Inv-loop μ-loop
 loop-holds c = (omega arith, c .before .before .before .pre .0, c .before .before .before .pre .1)
@@ -35,22 +35,22 @@ slice-reshare-prefix-write-all : tie.Need-slice-reshare-prefix-write-all Inv-loo
 slice-reshare-prefix-write-all c = search needs
 
 slice-aggregate-write-all : tie.Need-slice-aggregate-write-all Inv-loop μ-loop
-slice-aggregate-write-all c = sym (length-take-le _ _ (c .before .before .before .before .before .before .feed .ensures .within))
+slice-aggregate-write-all c = sym (length-take-le _ _ (c .before .before .before .before .before .feed .ensures .within))
 
 write-all-requires : tie.Need-write-all-requires Inv-loop μ-loop
 write-all-requires c κs = search needs
 
 add-i : tie.Need-add-i Inv-loop μ-loop
-add-i c = omega (arith, c .before .before .before .before .before .before .before .before .before .before .before .before .before .before .before .before .before .before .before .good, c .before .before .before .before .before .before .before .before .before .feed .ensures .taken)
+add-i c = omega (arith, c .before .before .before .before .before .before .before .before .before .before .before .before .before .before .before .before .before .good, c .before .before .before .before .before .before .before .before .feed .ensures .taken)
 
 loop-less : tie.Need-loop-less Inv-loop μ-loop
-loop-less c = omega (arith, c .before .before .before .before .before .before .before .before .before .feed .ensures .some (omega arith), c .before .before .before .before .before .before .before .before .before .feed .ensures .taken)
+loop-less c = omega (arith, c .before .before .before .before .before .before .before .before .feed .ensures .some (omega arith), c .before .before .before .before .before .before .before .before .feed .ensures .taken)
 
 loop-again : tie.Need-loop-again Inv-loop μ-loop
 loop-again c = (
-  omega (arith, c .before .before .before .before .before .before .before .before .before .feed .ensures .taken),
-  c .before .before .before .before .before .before .before .before .before .feed .ensures .ready,
-  record { memory = omega arith; table = omega arith; text = omega arith },
+  omega (arith, c .before .before .before .before .before .before .before .before .feed .ensures .taken),
+  c .before .before .before .before .before .before .before .before .feed .ensures .ready,
+  record { memory = omega arith; text = omega arith },
 )
 
 same-length : tie.Need-same-length Inv-loop μ-loop
@@ -58,9 +58,6 @@ same-length c = omega arith
 
 same-length-2 : tie.Need-same-length-2 Inv-loop μ-loop
 same-length-2 c = omega arith
-
-same-length-3 : tie.Need-same-length-3 Inv-loop μ-loop
-same-length-3 c = omega arith
 
 returns : tie.Need-returns Inv-loop μ-loop
 returns c = c .before .loop .inv .1
@@ -84,5 +81,4 @@ answer-all-spec =
     loop-again
     same-length
     same-length-2
-    same-length-3
     returns)

@@ -10,10 +10,10 @@ use Rattle.frames.proofs.main.Statement.{statement}
 use Rattle.frames.proofs.main.Tie as tie
 
 abbrev Inv-loop : tie.InvT-loop
-Inv-loop m₀ rows₀ out₀ p₀ turns₀ m rows out p turns = Ready (p .dimension) m × Lent m rows out
+Inv-loop m₀ out₀ p₀ turns₀ m out p turns = Ready (p .dimension) m × Lent m out
 
 abbrev μ-loop : tie.MeasureT-loop
-μ-loop m₀ rows₀ out₀ p₀ turns₀ m rows out p turns = turns
+μ-loop m₀ out₀ p₀ turns₀ m out p turns = turns
 
 start-requires : tie.Need-start-requires Inv-loop μ-loop
 start-requires c κs = search needs
@@ -22,7 +22,7 @@ loop-holds : tie.Need-loop-holds Inv-loop μ-loop
 unfolding StateIn memoryNeed
 loop-holds c = (
   record { state = unloaded; holds = c .start .ensures .dimension },
-  record { memory = refl; table = refl; text = refl },
+  record { memory = refl; text = refl },
 )
 
 slice-aggregate-answer-read : tie.Need-slice-aggregate-answer-read Inv-loop μ-loop
@@ -31,9 +31,6 @@ slice-aggregate-answer-read c = omega arith
 
 slice-aggregate-answer-read-2 : tie.Need-slice-aggregate-answer-read-2 Inv-loop μ-loop
 slice-aggregate-answer-read-2 c = omega arith
-
-slice-aggregate-answer-read-3 : tie.Need-slice-aggregate-answer-read-3 Inv-loop μ-loop
-slice-aggregate-answer-read-3 c = omega arith
 
 answer-read-requires : tie.Need-answer-read-requires Inv-loop μ-loop
 answer-read-requires c κs = search needs
@@ -45,18 +42,15 @@ slice-aggregate-finish c = omega arith
 slice-aggregate-finish-2 : tie.Need-slice-aggregate-finish-2 Inv-loop μ-loop
 slice-aggregate-finish-2 c = omega arith
 
-slice-aggregate-finish-3 : tie.Need-slice-aggregate-finish-3 Inv-loop μ-loop
-slice-aggregate-finish-3 c = omega arith
-
 finish-requires : tie.Need-finish-requires Inv-loop μ-loop
 finish-requires c κs =
-    (c .before .before .before .before .before .before .before .before .before .answer-read .ensures, record { memory = omega arith; table = omega arith; text = omega arith })
+    (c .before .before .before .before .before .before .before .answer-read .ensures, record { memory = omega arith; text = omega arith })
 
 array-share-prefix-out : tie.Need-array-share-prefix-out Inv-loop μ-loop
-array-share-prefix-out c = omega (arith, c .before .before .before .finish .ensures .within)
+array-share-prefix-out c = omega (arith, c .before .before .finish .ensures .within)
 
 slice-aggregate-write-all : tie.Need-slice-aggregate-write-all Inv-loop μ-loop
-slice-aggregate-write-all c = sym (length-take-le _ _ (c .before .before .before .before .finish .ensures .within))
+slice-aggregate-write-all c = sym (length-take-le _ _ (c .before .before .before .finish .ensures .within))
 
 write-all-requires : tie.Need-write-all-requires Inv-loop μ-loop
 write-all-requires c κs = search needs
@@ -72,7 +66,7 @@ loop-less c = omega arith
 
 loop-again : tie.Need-loop-again Inv-loop μ-loop
 loop-again c =
-    (c .before .before .before .before .before .before .answer-read .ensures, record { memory = omega arith; table = omega arith; text = omega arith })
+    (c .before .before .before .before .before .answer-read .ensures, record { memory = omega arith; text = omega arith })
 
 returns-2 : tie.Need-returns-2 Inv-loop μ-loop
 returns-2 c = search needs
@@ -87,11 +81,9 @@ main-spec =
     loop-holds
     slice-aggregate-answer-read
     slice-aggregate-answer-read-2
-    slice-aggregate-answer-read-3
     answer-read-requires
     slice-aggregate-finish
     slice-aggregate-finish-2
-    slice-aggregate-finish-3
     finish-requires
     array-share-prefix-out
     slice-aggregate-write-all

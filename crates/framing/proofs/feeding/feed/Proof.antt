@@ -21,8 +21,9 @@ answer-requires c κs = search needs
 new-requires : tie.Need-new-requires
 new-requires c κs = search needs
 
-add-t21 : tie.Need-add-t21
-add-t21 c = omega (arith, c .before .before .before .before .before .before .before .before .before .before .before .before .before .before .before .before .before .before .good, c .before .before .before .before .before .before .before .before .before .before .before .before .before .read-on .ensures .ended (not-false _ (c .before .before .before .before .before .before .before .before .before .before .if1 .left)) .0)
+add-t18 : tie.Need-add-t18
+add-t18 c =
+    omega (arith, c .before .before .before .before .before .before .before .before .before .before .before .before .before .before .before .before .good, c .before .before .before .before .before .before .before .before .before .before .before .read-on .ensures .ended (not-false _ (c .before .before .before .before .before .before .before .before .if1 .left)) .0)
 
 same-length : tie.Need-same-length
 same-length c = search needs
@@ -30,15 +31,12 @@ same-length c = search needs
 same-length-2 : tie.Need-same-length-2
 same-length-2 c = search needs
 
-same-length-3 : tie.Need-same-length-3
-same-length-3 c = search needs
-
 returns-2 : tie.Need-returns-2
 returns-2 c =
-    let p = c .before .before .before .before .before .before .before .before .before .before .before .before .before .before .before .before .before .before .args .p in
-    let read = c .before .before .before .before .before .before .before .before .before .before .before .before .before .read-on in
-    let made = c .before .before .before .before .before .before .answer in
-    feeds-line p _ _ (read .result) (read .ensures) (c .new .result) (made .result) _ _ (not-false _ (c .before .before .before .before .before .before .before .before .before .before .if1 .left)) (c .new .ensures) (made .ensures)
+    let p = c .before .before .before .before .before .before .before .before .before .before .before .before .before .before .before .before .args .p in
+    let read = c .before .before .before .before .before .before .before .before .before .before .before .read-on in
+    let made = c .before .before .before .before .before .answer in
+    feeds-line p _ _ (read .result) (read .ensures) (c .new .result) (made .result) _ _ (not-false _ (c .before .before .before .before .before .before .before .before .if1 .left)) (c .new .ensures) (made .ensures)
 
 pub feed-spec : {M : Type 1} → statement M
 feed-spec =
@@ -48,8 +46,7 @@ feed-spec =
     returns
     answer-requires
     new-requires
-    add-t21
+    add-t18
     same-length
     same-length-2
-    same-length-3
     returns-2)

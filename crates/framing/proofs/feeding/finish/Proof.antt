@@ -16,15 +16,11 @@ same-length c = search needs
 same-length-2 : tie.Need-same-length-2
 same-length-2 c = search needs
 
-same-length-3 : tie.Need-same-length-3
-same-length-3 c = search needs
-
 returns-2 : tie.Need-returns-2
 returns-2 c =
-    let p = c .before .before .before .before .before .before .before .before .before .before .before .before .before .before .args .p in
-    let made = c .before .before .before .before .before .answer in
-    finishes-line p _ (made .result) _ _ (c .before .before .before .before .before .before .before .before .before .if1 .left) (made .ensures)
+    let made = c .before .before .before .before .answer in
+    finishes-line (c .before .before .before .before .before .before .before .before .before .before .before .before .args .p) _ (made .result) _ _ (c .before .before .before .before .before .before .before .if1 .left) (made .ensures)
 
 pub finish-spec : {M : Type 1} → statement M
 finish-spec =
-    tie.close (tie.spec returns answer-requires same-length same-length-2 same-length-3 returns-2)
+    tie.close (tie.spec returns answer-requires same-length same-length-2 returns-2)
