@@ -1,14 +1,13 @@
 -- The program's answers, line after line (document 01, "Frames"): a board of C = 256, 257 rows lent to each call.
 use Prim.Native.Nat.{ℕ}
-use mathlib.Core.Bool.{Bool, true, false, cond}
+use mathlib.Core.Bool.{cond}
 use mathlib.Core.List.{List, [], _∷_, _++_}
 use lib.Dec.{eqb}
-use Rattle.model.specs.Moves.{Row}
 use Rattle.model.specs.Loading.{loadTree}
 use Rattle.model.specs.Nodes.{nodesOpened}
 use Rattle.model.specs.Changing.{changeTree}
 use Rattle.model.specs.Calls as calls
-use Rattle.model.specs.Calls.{Change, memoryNeed, loadAnswer, changeAnswer, changeNotice, changed, queryAnswer, queryRows}
+use Rattle.model.specs.Calls.{memoryNeed, loadAnswer, changeAnswer, changeNotice, changed, queryAnswer, queryRows}
 use Rattle.framing.specs.State.{State, unloaded, holds, dimensionOf}
 use Rattle.framing.specs.Frames.{Frame, load, change, list, early, wrong, frameOf}
 use Rattle.framing.specs.Text.{Reply, refused, notice, listed, answerText, lineEnd}

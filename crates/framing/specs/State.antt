@@ -7,7 +7,7 @@ pub data State : Type 0 where
   unloaded : State
   holds : Board → Tree → State
 
--- The costs of each row that it tells.
+-- How many costs its rows have.
 unfoldable pub dimensionOf : State → ℕ
 dimensionOf unloaded = 0
 dimensionOf (holds b t) = b .dimension

@@ -1,4 +1,5 @@
-// Frames (document 01, "Frames"): which line is which frame, what the board's call says of it, and which bytes that is.
+// Frames (document 01, "Frames"): where a line ends, which line is which frame, what the board's call says of it, and which bytes
+// that is.
 mod digits;
 mod feeding;
 mod frame;
@@ -14,7 +15,7 @@ pub use feeding::finish;
 pub use feeding::start;
 use zorder::COSTS;
 
-// The board's size, the bytes that it needs, and the rows that an answer has space for.
+// The board's size, the bytes that it needs, and the rows lent to each call: an answer has space for so many.
 const SIZE: usize = 256;
 
 pub const BYTES: usize = 17408;

@@ -1,8 +1,8 @@
 -- An input taken in parts prints what the whole prints.
-use Prim.Native.Nat.{ℕ, suc, _+_, _<_, _≤_, min}
+use Prim.Native.Nat.{ℕ, _+_, _<_}
 use mathlib.Core.Bool.{Bool, true, false, cond}
 use mathlib.Core.List.{List, [], _∷_, _++_, append-nil, append-assoc}
-use mathlib.Core.Path.{_≡_, refl, sym, ap, ap₂, subst, _∙_}
+use mathlib.Core.Path.{_≡_, refl, sym, ap, subst, _∙_}
 use borrow.Author.Tests.{eq-eqb, ne-eqb}
 use native.Mathlib.Numerals.{add-one}
 use native.Mathlib.Omega.{arith}
@@ -10,17 +10,16 @@ use lib.Dec.{eqb}
 use lib.ListN.{length, getD, take, drop}
 use lib.Seq.{take-suc, drop-cons}
 use Rattle.upkeep.specs.Laws.Telling.{length-none}
-use Rattle.framing.specs.State.{State, unloaded}
+use Rattle.framing.specs.State.{State}
 use Rattle.framing.specs.Text.{lineEnd}
 use Rattle.framing.specs.Session.{answerTo, after, answersTo, linesFrom, printed, output}
 use Rattle.framing.specs.Reading.{Judged, Stepped}
 use Rattle.framing.specs.Serving.{StateIn, Ready, Answers}
-use Rattle.framing.specs.Feeding.{ReadOn, LineRead, At, Starts, Onward, Feeds, Finishes, Run, feed, read, finish}
+use Rattle.framing.specs.Feeding.{ReadOn, LineRead, At, Starts, Feeds, Finishes, Run, feed, read, finish}
 use Rattle.framing.specs.declared.reading.Line.{Line}
 use Rattle.framing.specs.declared.serving.Answered.{Answered}
 use Rattle.framing.specs.declared.feeding.Read.{Read}
 use Rattle.framing.specs.declared.feeding.Point.{Point}
-use Rattle.framing.specs.declared.feeding.Fed.{Fed}
 
 -- ---- the lines of an input
 

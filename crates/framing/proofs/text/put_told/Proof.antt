@@ -1,5 +1,4 @@
 -- `text::put_told` meets its contract. Assumes nothing.
-use borrow.Author.Needs.{needs}
 use Prim.Native.Nat.{_+_, _-_, _*_, _≤_}
 use mathlib.Core.List.{map, flatMap}
 use mathlib.Core.Path.{_≡_, refl}
