@@ -1,14 +1,9 @@
 -- `places::side_between` meets its contract: the costs of both rows are those of the line. Assumes nothing.
-use Prim.Native.Nat.{ℕ, _≤_}
-use mathlib.Core.List.{List}
 use mathlib.Core.Path.{ap₂, _∙_}
 use native.Mathlib.Omega.{arith}
 use borrow.Author.Needs.{needs}
-use lib.Pow.{pow-mono}
-use Rattle.zorder.specs.Address.{address}
 use Rattle.zorder.specs.Between.{sideOf}
-use Rattle.zorder.specs.Region.{side}
-use Rattle.zorder.specs.Laws.Region.{unkept-le}
+use Rattle.zorder.specs.Laws.Between.{side-small}
 use Rattle.line.specs.Places.{sideAt}
 use Rattle.tree.proofs.Rows.{costs-line}
 use Rattle.tree.proofs.places.side_between.Statement.{statement}
@@ -28,10 +23,6 @@ costs-of-requires-2 c κs = search needs
 
 side-of-requires : tie.Need-side-of-requires
 side-of-requires c κs = search needs
-
-side-small : (d : ℕ) (p q : List ℕ) → sideOf d p q ≤ 65536
-unfolding sideOf side
-side-small d p q = pow-mono (unkept-le d (address d p) (address d q))
 
 returns : tie.Need-returns
 unfolding sideAt

@@ -19,7 +19,8 @@ use Rattle.zorder.specs.Laws.Inverse.{costsOf-costs}
 use Rattle.zorder.specs.declared.RegionAnswer.{RegionAnswer}
 use Rattle.zorder.specs.declared.Verdict.{Verdict}
 use Rattle.zorder.specs.declared.Verdict.the-variants.{Accepted, BadCostCount, BadArgument}
-use Rattle.zorder.proofs.Checks.{three-checks, count-right, address-right, no-detail}
+use Rattle.zorder.specs.Laws.Refusal.{count-right, address-right}
+use Rattle.zorder.proofs.Checks.{three-checks, no-detail}
 use Rattle.zorder.proofs.Row.{take-padded}
 use Rattle.zorder.proofs.corners.region.Statement.{statement}
 use Rattle.zorder.proofs.corners.region.Tie as tie

@@ -10,7 +10,8 @@ use Rattle.zorder.specs.Promise.{CostsPromise, numberOf}
 use Rattle.zorder.specs.Refusal.{orZeros, costCountBad, addressBad, costsRefusal, refusal}
 use Rattle.zorder.specs.declared.Verdict.{Verdict}
 use Rattle.zorder.specs.declared.Verdict.the-variants.{Accepted, BadCostCount, BadArgument}
-use Rattle.zorder.proofs.Checks.{two-checks, count-right, no-detail}
+use Rattle.zorder.specs.Laws.Refusal.{count-right}
+use Rattle.zorder.proofs.Checks.{two-checks, no-detail}
 use Rattle.zorder.proofs.separate.costs.Statement.{statement}
 use Rattle.zorder.proofs.separate.costs.Tie as tie
 
