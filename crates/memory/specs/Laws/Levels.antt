@@ -16,7 +16,7 @@ use Rattle.line.specs.Line.{Placed, none}
 use Rattle.line.specs.Heights.{firstHighest, countsFrom, countsAt, rootCount, levelsRight, heightsRight}
 use Rattle.promises.specs.Layout.{heightIn, placedIn, tab, lineFrom}
 use Rattle.memory.specs.Tests.{allTo}
-use Rattle.memory.specs.Laws.Tab.{tab-cons}
+use Rattle.promises.specs.Laws.Tab.{tab-cons}
 use Rattle.memory.specs.Laws.Lines.{length-line, getD-line}
 use Rattle.memory.specs.Laws.Places.{allTo-fails, allTo-next, all-tab}
 

@@ -1,7 +1,7 @@
 -- `enter::enter_line` meets its contract. Assumes nothing.
 use native.Mathlib.Omega.{arith}
 use borrow.Author.Needs.{needs}
-use Rattle.tree.proofs.Entered.{entered-first, put-asked, cascade-asked, entered-more}
+use Rattle.tree.specs.Laws.Entered.{entered-first, put-asked, cascade-asked, entered-more}
 use Rattle.tree.proofs.enter.enter_line.Statement.{statement}
 use Rattle.tree.proofs.enter.enter_line.Tie as tie
 

@@ -1,7 +1,7 @@
 -- `enter::put_row` meets its contract. Assumes nothing.
 use mathlib.Core.Path.{sym, _∙_}
 use borrow.Author.Needs.{needs}
-use Rattle.tree.proofs.Putting.{put-over, put-under}
+use Rattle.tree.specs.Laws.Putting.{put-over, put-under}
 use Rattle.tree.proofs.enter.put_row.Statement.{statement}
 use Rattle.tree.proofs.enter.put_row.Tie as tie
 

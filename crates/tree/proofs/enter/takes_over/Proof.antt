@@ -3,7 +3,7 @@ use Prim.Native.Nat.{_-_}
 use native.Mathlib.Omega.{arith}
 use borrow.Author.Needs.{needs}
 use Rattle.dominance.specs.Move.{asMove}
-use Rattle.tree.proofs.Putting.{over-first, over-past, over-none, over-gap}
+use Rattle.tree.specs.Laws.Putting.{over-first, over-past, over-none, over-gap}
 use Rattle.tree.proofs.enter.takes_over.Statement.{statement}
 use Rattle.tree.proofs.enter.takes_over.Tie as tie
 

@@ -7,7 +7,7 @@ use mathlib.Core.Path.{_≡_, sym, ap, _∙_, subst}
 use native.Mathlib.Omega.{arith}
 use Rattle.model.specs.Dominance.{dominates}
 use Rattle.tree.specs.Search.{cornerDominated}
-use Rattle.tree.proofs.Search.{corner-none, corner-more, corner-found}
+use Rattle.tree.specs.Laws.Search.{corner-none, corner-more, corner-found}
 use Rattle.tree.proofs.nodes.corner_dominated.Statement.{statement}
 use Rattle.tree.proofs.nodes.corner_dominated.Tie as tie
 

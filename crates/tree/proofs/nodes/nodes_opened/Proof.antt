@@ -8,7 +8,7 @@ use native.Mathlib.Omega.{arith}
 use borrow.Author.Tests.{eqb-true, eqb-false}
 use Rattle.model.specs.Laws.Bool.{both-ways}
 use Rattle.promises.specs.Run.{Bytes}
-use Rattle.tree.proofs.Search.{Searchable, sound-searchable, Searching, search-start, counted-one, counted-none, search-on, search-down, search-opened}
+use Rattle.tree.specs.Laws.Search.{Searchable, sound-searchable, Searching, search-start, counted-one, counted-none, search-on, search-down, search-opened}
 use Rattle.tree.proofs.nodes.nodes_opened.Statement.{statement}
 use Rattle.tree.proofs.nodes.nodes_opened.Tie as tie
 

@@ -9,7 +9,7 @@ use borrow.Author.Needs.{needs}
 use Rattle.line.specs.Places.{entries}
 use Rattle.promises.specs.Layout.{lineFrom}
 use Rattle.memory.specs.Laws.Lines.{length-line, heightAt-line}
-use Rattle.tree.proofs.Steps.{entry-here, entry-none, entries-end}
+use Rattle.tree.specs.Laws.Steps.{entry-here, entry-none, entries-end}
 use Rattle.tree.proofs.places.entries.Statement.{statement}
 use Rattle.tree.proofs.places.entries.Tie as tie
 

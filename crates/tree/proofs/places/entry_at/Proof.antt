@@ -4,7 +4,7 @@ use mathlib.Core.Path.{_≡_, refl, ap, _∙_}
 use native.Mathlib.Omega.{arith}
 use Rattle.line.specs.Places.{entryAt}
 use Rattle.promises.specs.Layout.{lineFrom}
-use Rattle.tree.proofs.Steps.{entry-turn}
+use Rattle.tree.specs.Laws.Steps.{entry-turn}
 use Rattle.tree.proofs.places.entry_at.Statement.{statement}
 use Rattle.tree.proofs.places.entry_at.Tie as tie
 

@@ -8,7 +8,7 @@ use lib.ListN.{drop}
 use Rattle.line.specs.Places.{lower, nodeEnd}
 use Rattle.promises.specs.Layout.{lineFrom}
 use Rattle.memory.specs.Laws.Lines.{length-line, heightAt-line}
-use Rattle.tree.proofs.Steps.{end-first, end-here, end-later, end-last}
+use Rattle.tree.specs.Laws.Steps.{end-first, end-here, end-later, end-last}
 use Rattle.tree.proofs.places.node_end.Statement.{statement}
 use Rattle.tree.proofs.places.node_end.Tie as tie
 

@@ -8,7 +8,7 @@ use borrow.Author.Needs.{needs}
 use Rattle.line.specs.Places.{nodeStart}
 use Rattle.promises.specs.Layout.{lineFrom}
 use Rattle.memory.specs.Laws.Lines.{heightAt-line}
-use Rattle.tree.proofs.Steps.{start-here, start-earlier, start-first}
+use Rattle.tree.specs.Laws.Steps.{start-here, start-earlier, start-first}
 use Rattle.tree.proofs.places.node_start.Statement.{statement}
 use Rattle.tree.proofs.places.node_start.Tie as tie
 

@@ -5,7 +5,7 @@ use borrow.Author.Needs.{needs}
 use Rattle.zorder.specs.Between.{sideOf}
 use Rattle.zorder.specs.Laws.Between.{side-small}
 use Rattle.line.specs.Places.{sideAt}
-use Rattle.tree.proofs.Rows.{costs-line}
+use Rattle.tree.specs.Laws.Rows.{costs-line}
 use Rattle.tree.proofs.places.side_between.Statement.{statement}
 use Rattle.tree.proofs.places.side_between.Tie as tie
 

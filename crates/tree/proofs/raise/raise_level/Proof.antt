@@ -4,7 +4,7 @@ use Prim.Native.Nat.{_-_, _≤_}
 use mathlib.Core.Logic.{⊎-elim}
 use mathlib.Core.Path.{sym, _∙_}
 use native.Mathlib.Omega.{arith}
-use Rattle.tree.proofs.Raising.{Raising, raising-none, raising-at, raising-low, raising-same, raising-more, raising-all}
+use Rattle.tree.specs.Laws.Raising.{Raising, raising-none, raising-at, raising-low, raising-same, raising-more, raising-all}
 use Rattle.tree.proofs.raise.raise_level.Statement.{statement}
 use Rattle.tree.proofs.raise.raise_level.Tie as tie
 

@@ -2,7 +2,7 @@
 -- most half the entries of the one below, so that there are few. Assumes nothing.
 use native.Mathlib.Omega.{arith}
 use borrow.Author.Needs.{needs}
-use Rattle.tree.proofs.Raising.{Levels, levels-none, levels-more, levels-all, levels-few}
+use Rattle.tree.specs.Laws.Raising.{Levels, levels-none, levels-more, levels-all, levels-few}
 use Rattle.tree.proofs.raise.raise_levels.Statement.{statement}
 use Rattle.tree.proofs.raise.raise_levels.Tie as tie
 

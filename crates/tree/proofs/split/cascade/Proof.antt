@@ -4,7 +4,7 @@ use Prim.Native.Nat.{suc, _+_}
 use mathlib.Core.Path.{ap, _∙_}
 use native.Mathlib.Numerals.{add-one}
 use native.Mathlib.Omega.{arith}
-use Rattle.tree.proofs.Cascade.{Climbed, climb-first, climb-end, climb-few, climb-nine, climb-more}
+use Rattle.tree.specs.Laws.Cascade.{Climbed, climb-first, climb-end, climb-few, climb-nine, climb-more}
 use Rattle.tree.proofs.split.cascade.Statement.{statement}
 use Rattle.tree.proofs.split.cascade.Tie as tie
 

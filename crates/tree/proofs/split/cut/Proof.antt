@@ -1,7 +1,7 @@
 -- `split::cut` meets its contract. Assumes nothing.
 use mathlib.Core.Path.{sym, _∙_}
 use borrow.Author.Needs.{needs}
-use Rattle.tree.proofs.Cascade.{cut-below, cut-root}
+use Rattle.tree.specs.Laws.Cascade.{cut-below, cut-root}
 use Rattle.tree.proofs.split.cut.Statement.{statement}
 use Rattle.tree.proofs.split.cut.Tie as tie
 

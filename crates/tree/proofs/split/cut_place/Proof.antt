@@ -4,8 +4,8 @@ use Prim.Native.Nat.{_+_, _-_}
 use mathlib.Core.Logic.{⊎-elim}
 use native.Mathlib.Omega.{arith}
 use Rattle.promises.specs.Layout.{lineFrom}
-use Rattle.tree.proofs.Steps.{entry-turn}
-use Rattle.tree.proofs.Cut.{Tried, nine-entry, nine-cut, tried-first, tried-less, tried-more, tried-all}
+use Rattle.tree.specs.Laws.Steps.{entry-turn}
+use Rattle.tree.specs.Laws.Cut.{Tried, nine-entry, nine-cut, tried-first, tried-less, tried-more, tried-all}
 use Rattle.tree.proofs.split.cut_place.Statement.{statement}
 use Rattle.tree.proofs.split.cut_place.Tie as tie
 

@@ -2,7 +2,7 @@
 use Prim.Native.Nat.{_+_, _-_}
 use mathlib.Core.Path.{_≡_, sym, subst}
 use native.Mathlib.Omega.{arith}
-use Rattle.tree.proofs.Gap.{Closing, closing-none, closing-more, closing-all}
+use Rattle.tree.specs.Laws.Gap.{Closing, closing-none, closing-more, closing-all}
 use Rattle.tree.proofs.withdraw.close_gap.Statement.{statement}
 use Rattle.tree.proofs.withdraw.close_gap.Tie as tie
 

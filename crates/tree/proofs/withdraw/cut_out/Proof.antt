@@ -6,7 +6,7 @@ use native.Mathlib.Omega.{arith}
 use borrow.Author.Needs.{needs}
 use Rattle.memory.specs.Stores.{setHeight}
 use Rattle.tree.specs.Withdraw.{CutOut}
-use Rattle.tree.proofs.Gap.{cut-none, cut-low, cut-high}
+use Rattle.tree.specs.Laws.Gap.{cut-none, cut-low, cut-high}
 use Rattle.tree.proofs.withdraw.cut_out.Statement.{statement}
 use Rattle.tree.proofs.withdraw.cut_out.Tie as tie
 

@@ -3,7 +3,7 @@ use Prim.Native.Nat.{_+_, _-_}
 use mathlib.Core.Path.{_≡_, sym, subst}
 use native.Mathlib.Omega.{arith}
 use Rattle.tree.specs.Enter.{EnterAsked, Entered}
-use Rattle.tree.proofs.Again.{Entering, entering-none, entering-low, entering-read, entering-asked, entering-more, entering-all}
+use Rattle.tree.specs.Laws.Again.{Entering, entering-none, entering-low, entering-read, entering-asked, entering-more, entering-all}
 use Rattle.tree.proofs.withdraw.enter_saved.Statement.{statement}
 use Rattle.tree.proofs.withdraw.enter_saved.Tie as tie
 

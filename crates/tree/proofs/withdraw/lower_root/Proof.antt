@@ -2,7 +2,7 @@
 use Prim.Native.Nat.{_-_}
 use mathlib.Core.Path.{sym, subst}
 use native.Mathlib.Omega.{arith}
-use Rattle.tree.proofs.Lowering.{Lowers, lowers-none, lowers-first, lowers-end, lowers-stop, lowers-more}
+use Rattle.tree.specs.Laws.Lowering.{Lowers, lowers-none, lowers-first, lowers-end, lowers-stop, lowers-more}
 use Rattle.tree.proofs.withdraw.lower_root.Statement.{statement}
 use Rattle.tree.proofs.withdraw.lower_root.Tie as tie
 

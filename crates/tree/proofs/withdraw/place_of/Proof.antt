@@ -6,7 +6,7 @@ use native.Mathlib.Omega.{arith}
 use borrow.Author.Count.{below-none, below-more}
 use borrow.Author.Needs.{needs}
 use Rattle.promises.specs.Layout.{numberIn}
-use Rattle.tree.proofs.Saving.{place-of}
+use Rattle.tree.specs.Laws.Saving.{place-of}
 use Rattle.tree.proofs.withdraw.place_of.Statement.{statement}
 use Rattle.tree.proofs.withdraw.place_of.Tie as tie
 

@@ -5,7 +5,7 @@ use mathlib.Core.Path.{_≡_, sym, ap, _∙_, subst₂}
 use native.Mathlib.Omega.{arith}
 use Rattle.memory.specs.Stores.{setWork}
 use Rattle.tree.specs.Withdraw.{others}
-use Rattle.tree.proofs.Saving.{Saving, saving-none, saving-less, saving-more}
+use Rattle.tree.specs.Laws.Saving.{Saving, saving-none, saving-less, saving-more}
 use Rattle.tree.proofs.withdraw.save.Statement.{statement}
 use Rattle.tree.proofs.withdraw.save.Tie as tie
 

@@ -1,7 +1,7 @@
 -- `withdraw::widened` meets its contract. The loop's invariant: what is left of the widening gives the whole. Assumes nothing.
 use Prim.Native.Nat.{_-_}
 use native.Mathlib.Omega.{arith}
-use Rattle.tree.proofs.Widening.{Widens, widens-first, widens-end, widens-stop, widens-more}
+use Rattle.tree.specs.Laws.Widening.{Widens, widens-first, widens-end, widens-stop, widens-more}
 use Rattle.tree.proofs.withdraw.widened.Statement.{statement}
 use Rattle.tree.proofs.withdraw.widened.Tie as tie
 

@@ -3,7 +3,7 @@ use Prim.Native.Nat.{ℕ}
 use mathlib.Core.Path.{subst}
 use borrow.Author.Needs.{needs}
 use Rattle.tree.specs.Withdraw.{Saved}
-use Rattle.tree.proofs.Removal.{saved-asked, withdrawn}
+use Rattle.tree.specs.Laws.Removal.{saved-asked, withdrawn}
 use Rattle.tree.proofs.withdraw.withdraw_line.Statement.{statement}
 use Rattle.tree.proofs.withdraw.withdraw_line.Tie as tie
 
