@@ -9,21 +9,6 @@ use Rattle.tree.specs.Laws.Rows.{costs-line}
 use Rattle.tree.proofs.places.side_between.Statement.{statement}
 use Rattle.tree.proofs.places.side_between.Tie as tie
 
-number-at-requires : tie.Need-number-at-requires
-number-at-requires c κs = search needs
-
-costs-of-requires : tie.Need-costs-of-requires
-costs-of-requires c κs = search needs
-
-number-at-requires-2 : tie.Need-number-at-requires-2
-number-at-requires-2 c κs = search needs
-
-costs-of-requires-2 : tie.Need-costs-of-requires-2
-costs-of-requires-2 c κs = search needs
-
-side-of-requires : tie.Need-side-of-requires
-side-of-requires c κs = search needs
-
 returns : tie.Need-returns
 unfolding sideAt
 returns c =
@@ -43,9 +28,9 @@ pub side-between-spec : {M : Type 1} → statement M
 side-between-spec =
     tie.close
     (tie.spec
-    number-at-requires
-    costs-of-requires
-    number-at-requires-2
-    costs-of-requires-2
-    side-of-requires
+    (λ c κs. search needs)
+    (λ c κs. search needs)
+    (λ c κs. search needs)
+    (λ c κs. search needs)
+    (λ c κs. search needs)
     returns)

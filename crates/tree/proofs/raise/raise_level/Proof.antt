@@ -19,27 +19,6 @@ loop-holds c =
     let a = c .before .args in
     (omega arith, omega arith, raising-none (a .c) (a .n) (a .l) (a .entries) (a .m .now))
 
-height-at-requires : tie.Need-height-at-requires Inv-loop μ-loop
-height-at-requires c κs = omega arith
-
-starts-group-requires : tie.Need-starts-group-requires Inv-loop μ-loop
-starts-group-requires c κs = omega arith
-
-add-set-height : tie.Need-add-set-height Inv-loop μ-loop
-add-set-height c = omega arith
-
-set-height-requires : tie.Need-set-height-requires Inv-loop μ-loop
-set-height-requires c κs = omega arith
-
-add-j : tie.Need-add-j Inv-loop μ-loop
-add-j c = omega arith
-
-add-i : tie.Need-add-i Inv-loop μ-loop
-add-i c = omega arith
-
-loop-less : tie.Need-loop-less Inv-loop μ-loop
-loop-less c = omega arith
-
 loop-again : tie.Need-loop-again Inv-loop μ-loop
 loop-again c =
     let a = c .before .before .before .before .before .before .args in
@@ -78,13 +57,13 @@ raise-level-spec =
     Inv-loop
     μ-loop
     loop-holds
-    height-at-requires
-    starts-group-requires
-    add-set-height
-    set-height-requires
-    add-j
-    add-i
-    loop-less
+    (λ c κs. omega arith)
+    (λ c κs. omega arith)
+    (λ c. omega arith)
+    (λ c κs. omega arith)
+    (λ c. omega arith)
+    (λ c. omega arith)
+    (λ c. omega arith)
     loop-again
     same-length
     returns)
