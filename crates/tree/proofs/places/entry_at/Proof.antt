@@ -24,12 +24,6 @@ node-end-requires c κs =
     let l = c .before .loop in
     (asked .room, asked .rows, omega (arith, l .inv .1 0, asked .inside 0 (l .k) (l .inv .0)))
 
-add-k : tie.Need-add-k Inv-loop μ-loop
-add-k c = omega arith
-
-loop-less : tie.Need-loop-less Inv-loop μ-loop
-loop-less c = omega arith
-
 loop-again : tie.Need-loop-again Inv-loop μ-loop
 loop-again c =
     let a = c .before .before .before .before .args in
@@ -50,4 +44,4 @@ returns c =
 pub entry-at-spec : {M : Type 1} → statement M
 entry-at-spec =
     tie.close
-    (tie.spec Inv-loop μ-loop loop-holds node-end-requires add-k loop-less loop-again returns)
+    (tie.spec Inv-loop μ-loop loop-holds node-end-requires (λ c. omega arith) (λ c. omega arith) loop-again returns)

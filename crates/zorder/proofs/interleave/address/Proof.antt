@@ -38,9 +38,6 @@ module _ (d : ℕ) (costs : List ℕ) where
     unfolding numberOf orZero addressRefusal refusal costPastBad
     accepted good a told = promised Accepted a (two-checks false false right (ap not good)) told
 
-count-bad-requires : tie.Need-count-bad-requires
-count-bad-requires c κs = search needs
-
 returns : tie.Need-returns
 returns c =
     let a = c .before .before .args in
@@ -77,7 +74,7 @@ pub address-spec : {M : Type 1} → statement M
 address-spec =
     tie.close
     (tie.spec
-    count-bad-requires
+    (λ c κs. search needs)
     returns
     zero-past-requires
     interleaved-requires

@@ -38,9 +38,6 @@ module _ (d a : ℕ) where
     unfolding numberOf orZeros costsRefusal refusal
     accepted good cs told = promised Accepted cs (two-checks false false right good) told
 
-count-bad-requires : tie.Need-count-bad-requires
-count-bad-requires c κs = search needs
-
 returns : tie.Need-returns
 returns c =
     let a = c .before .before .args in
@@ -76,4 +73,4 @@ returns-3 c =
 pub costs-spec : {M : Type 1} → statement M
 costs-spec =
     tie.close
-    (tie.spec count-bad-requires returns too-large-requires returns-2 separated-requires returns-3)
+    (tie.spec (λ c κs. search needs) returns too-large-requires returns-2 separated-requires returns-3)
