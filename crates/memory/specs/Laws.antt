@@ -1,5 +1,4 @@
 -- What the stores leave of each field, and that the tests decide `Sound`.
-pub mod Tab
 pub mod Frames
 pub mod Written
 pub mod Fields

@@ -1,7 +1,8 @@
--- What the operations on the rows of the lent memory ask and leave.
+-- What the operations on the rows of the lent memory ask and leave; then their laws.
 pub mod Rows
 pub mod Search
 pub mod Split
 pub mod Hold
 pub mod Enter
 pub mod Withdraw
+pub mod Laws

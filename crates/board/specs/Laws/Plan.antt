@@ -1,5 +1,5 @@
 -- The plan of a call, for each of its answers.
-use Prim.Native.Nat.{ℕ, zero, suc, _≤_, _<_}
+use Prim.Native.Nat.{ℕ, _≤_, _<_}
 use mathlib.Core.Bool.{Bool, true, false, _&&_}
 use mathlib.Core.List.{List, []}
 use mathlib.Core.Path.{_≡_, refl, sym, ap, ap₂, _∙_, subst}
@@ -13,7 +13,7 @@ use Rattle.model.specs.Calls.{changeRefusal, changeAnswer, changeNotice, change
 use Rattle.model.specs.Withdrawing.{costsOn, unchanged}
 use Rattle.model.specs.Changing.{changeOpens}
 use Rattle.model.specs.Laws.Bool.{both-ways, byCases, and-left, and-right}
-use Rattle.model.specs.Laws.Notice.{equal-refl}
+use Rattle.model.specs.Laws.Basics.{equal-refl}
 use Rattle.promises.specs.Layout.{dimensionIn, numberIn, costsIn, boardIn}
 use Rattle.promises.specs.Sound.{Sound}
 use Rattle.promises.specs.Answers.{numberOf}

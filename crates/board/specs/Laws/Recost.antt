@@ -18,7 +18,7 @@ use Rattle.model.specs.Calls.{onBoard, changed}
 use Rattle.model.specs.Changing.{changeTree}
 use Rattle.model.specs.Sound.{Fit}
 use Rattle.model.specs.Laws.Bool.{condCases, both-ways}
-use Rattle.model.specs.Laws.Notice.{equal-true}
+use Rattle.model.specs.Laws.Basics.{equal-true}
 use Rattle.model.specs.Laws.Order.{move-order}
 use Rattle.model.specs.Laws.Entering.{enter-moves}
 use Rattle.line.specs.Line.{movesIn}

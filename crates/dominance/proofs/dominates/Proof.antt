@@ -1,7 +1,7 @@
 -- `dominates` meets its contract. The loop's invariant: what is left to decide gives the whole answer. Assumes nothing.
-use Prim.Native.Nat.{ℕ, zero, suc, _+_, _-_, _≤_, _<_}
+use Prim.Native.Nat.{ℕ, _+_, _-_, _≤_, _<_}
 use mathlib.Core.Bool.{Bool, true, false, cond, not, _&&_, _||_, or-false}
-use mathlib.Core.List.{List, [], _∷_}
+use mathlib.Core.List.{List, _∷_}
 use mathlib.Core.Logic.{⊎-elim}
 use mathlib.Core.Path.{_≡_, refl, sym, ap, ap₂, _∙_}
 use native.Mathlib.Numerals.{add-one}
@@ -9,18 +9,13 @@ use native.Mathlib.Omega.{arith}
 use lib.ListN.{length, getD, take, drop, drop-of-length-le}
 use lib.Seq.{drop-cons, getD-take, length-take-le}
 use Rattle.model.specs.Dominance.{less, nowhereGreater, somewhereLess, better, dominates}
+use Rattle.model.specs.Laws.Bool.{one-turn}
 use Rattle.dominance.proofs.dominates.Statement.{statement}
 use Rattle.dominance.proofs.dominates.Tie as tie
 
 -- What is left to decide of two lists, where a lesser cost was found before them or not.
 decided : Bool → List ℕ → List ℕ → Bool
 decided s p q = nowhereGreater p q && (s || somewhereLess p q)
-
-one-turn : (g l s n m : Bool) → ((not g && n) && (s || (l || m))) ≡ cond g false (n && (cond l true s || m))
-one-turn true l s n m = refl
-one-turn false true true n m = refl
-one-turn false true false n m = refl
-one-turn false false s n m = refl
 
 left : ℕ → List ℕ → List ℕ → Bool → ℕ → Bool
 left d p q s i = decided s (drop i (take d p)) (drop i (take d q))

@@ -13,7 +13,7 @@ use Rattle.model.specs.Entering.{childPlace, split, replaceAt, enterNode}
 use Rattle.model.specs.Laws.Bool.{condCases}
 use Rattle.model.specs.Laws.Basics.{each-right}
 use Rattle.model.specs.Laws.Sorting.{length-insert}
-use Rattle.model.specs.Laws.Tree.{flatMap-append, leaf-moves}
+use Rattle.model.specs.Laws.Tree.{moves-append, leaf-moves}
 use Rattle.model.specs.Laws.Entering.{childPlace-in, split-length, split-moves}
 use Rattle.line.specs.Line.{Placed, lineAt}
 use Rattle.line.specs.Laws.Line.{Whole}
@@ -91,10 +91,6 @@ unfolding insertPlace
 insertPlace-in d x [] = omega arith
 insertPlace-in d x (m ∷ ms) =
     condCases (λ (i : ℕ). i ≤ suc (length ms)) (moveBefore d x m) (λ t. omega arith) (λ t. omega (arith, insertPlace-in d x ms))
-
-pub moves-append : (h : ℕ) (es fs : List (Entry h)) → movesUnder (suc h) (es ++ fs) ≡ movesUnder (suc h) es ++ movesUnder (suc h) fs
-unfolding movesUnder
-moves-append h es fs = flatMap-append (movesUnder h) es fs
 
 pub moves-length : (h : ℕ) (es fs : List (Entry h)) → length (movesUnder (suc h) (es ++ fs)) ≡ length (movesUnder (suc h) es) + length (movesUnder (suc h) fs)
 moves-length h es fs = ap length (moves-append h es fs) ∙ length-append (movesUnder (suc h) es) (movesUnder (suc h) fs)

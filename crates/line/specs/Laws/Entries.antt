@@ -79,9 +79,6 @@ pub line-size : (h k : ℕ) (e : Entry h) → length (lineAt h k e) ≡ length (
 unfolding movesIn
 line-size h k e = sym (length-map (lineAt h k e) (λ r. r .move)) ∙ ap length (line-moves h k e)
 
-pub line-length : (l j k : ℕ) (c : Entry l) → Whole l c → length (lineAt l j c) ≡ length (lineAt l k c)
-line-length l j k c w = ap length (line-cons l j c w) ∙ sym (ap length (line-cons l k c w))
-
 pub line-starts : (h k l : ℕ) (c : Entry h) (ys : List Placed) → Whole h c → l ≤ k → Starts l (lineAt h k c ++ ys)
 line-starts h k l c ys w t = subst (λ (rs : List Placed). Starts l (rs ++ ys)) (sym (line-cons h k c w)) t
 

@@ -1,18 +1,17 @@
 -- The line of a tree: its moves, its heights, its length and its number of nodes.
-use Prim.Native.Nat.{ℕ, zero, suc, _+_, _*_, _^_, _≤_, _<_}
+use Prim.Native.Nat.{ℕ, zero, suc, _*_, _^_, _≤_, _<_}
 use mathlib.Core.Bool.{true}
-use mathlib.Core.List.{List, [], _∷_, _++_, map, map-append, flatMap, sum, sum-append}
+use mathlib.Core.List.{List, [], _∷_, _++_, map, map-append, flatMap}
 use mathlib.Core.Path.{_≡_, refl, sym, ap, ap₂, _∙_}
-use native.Mathlib.Nat.{zero-add, add-assoc, mul-zero, mul-suc, pow-suc, mul-le-mul-left, le-trans, le-refl, lt-of-not-le, le-of-suc-le-suc, pow-le-pow-right}
+use native.Mathlib.Nat.{mul-zero, mul-suc, pow-suc, mul-le-mul-left, le-trans, le-refl, lt-of-not-le, le-of-suc-le-suc, pow-le-pow-right}
 use native.Mathlib.Omega.{arith}
 use lib.ListN.{length, length-append, length-map}
 use Rattle.model.specs.Basics.{Each, firstOr}
 use Rattle.model.specs.Moves.{Move, noMove}
 use Rattle.model.specs.Tree.{Entry, Tree, empty, rooted, movesUnder, movesOf, firstMove, filledTree, rootLeast}
-use Rattle.model.specs.Nodes.{nodesFrom, nodesOf}
 use Rattle.model.specs.Laws.Basics.{each-mono, each-append}
 use Rattle.model.specs.Laws.Tree.{Filled, filled-full, tree-full, rootLeast-range}
-use Rattle.line.specs.Line.{Placed, lineAt, lineOf, movesIn, heightsIn}
+use Rattle.line.specs.Line.{Placed, lineAt, lineOf, movesIn}
 
 abbrev pub row : Move → ℕ → Placed
 row m k = record { move = m; height = k }
@@ -162,51 +161,3 @@ pub tree-depth : (h : ℕ) (es : List (Entry h)) → filledTree (rooted h es) �
 tree-depth zero es f l = omega arith
 tree-depth (suc h) es f l =
     le-of-suc-le-suc (lt-of-not-le (λ g. omega (arith, tree-length h es f, pow-le-pow-right {n = 3} (omega arith) {i = 7} {j = suc h} g)))
-
--- ---- the nodes
-
-unfoldable pub heightSum : List Placed → ℕ
-heightSum rs = sum _+_ 0 (heightsIn rs)
-
-heightSum-append : (rs ss : List Placed) → heightSum (rs ++ ss) ≡ heightSum rs + heightSum ss
-unfolding heightSum heightsIn
-heightSum-append rs ss =
-    ap (sum _+_ 0) (map-append (λ r. r .height) rs ss) ∙ sum-append _+_ 0 zero-add add-assoc (heightsIn rs) (heightsIn ss)
-
-nodeCount : (h : ℕ) → Entry h → ℕ
-nodeCount zero m = 0
-nodeCount (suc h) es = length (nodesFrom h es)
-
-sum-zero : {A : Type 0} (xs : List A) → sum _+_ 0 (map (λ x. 0) xs) ≡ 0
-unfolding sum
-sum-zero [] = refl
-sum-zero (x ∷ xs) = zero-add _ ∙ sum-zero xs
-
-length-flatMap-sum : {A B : Type 0} (f : A → List B) (xs : List A) → length (flatMap f xs) ≡ sum _+_ 0 (map (λ x. length (f x)) xs)
-unfolding flatMap sum
-length-flatMap-sum f [] = refl
-length-flatMap-sum f (x ∷ xs) = length-append (f x) (flatMap f xs) ∙ ap (λ (n : ℕ). length (f x) + n) (length-flatMap-sum f xs)
-
-nodes-suc : (h : ℕ) (es : List (Entry h)) → length (nodesFrom h es) ≡ suc (sum _+_ 0 (map (nodeCount h) es))
-unfolding nodesFrom nodeCount
-nodes-suc zero ms = ap suc (sym (sum-zero ms))
-nodes-suc (suc h) es = ap suc (length-flatMap-sum (nodesFrom h) es)
-
-sum-lines : (h : ℕ) → ((k : ℕ) (e : Entry h) → Whole h e → heightSum (lineAt h k e) + h ≡ nodeCount h e + k)
-    → (es : List (Entry h)) → Each (Whole h) es → heightSum (flatMap (lineAt h h) es) ≡ sum _+_ 0 (map (nodeCount h) es)
-unfolding flatMap heightSum heightsIn sum
-sum-lines h ih [] w = refl
-sum-lines h ih (e ∷ es) w =
-    omega (arith, heightSum-append (lineAt h h e) (flatMap (lineAt h h) es), ih h e (w .0), sum-lines h ih es (w .1))
-
-sum-line : (h k : ℕ) (e : Entry h) → Whole h e → heightSum (lineAt h k e) + h ≡ nodeCount h e + k
-unfolding lineAt nodeCount heightSum heightsIn sum
-sum-line zero k m w = omega arith
-sum-line (suc h) k [] w = absurd (omega arith)
-sum-line (suc h) k (e ∷ es) w =
-    omega (arith, heightSum-append (lineAt h k e) (flatMap (lineAt h h) es), sum-line h k e (w .1 .0), sum-lines h (sum-line h) es (w .1 .1), nodes-suc h (e ∷ es))
-
-pub node-count : (t : Tree) → WholeTree t → length (nodesOf t) ≡ heightSum (lineOf t)
-unfolding nodesOf lineOf nodeCount heightSum heightsIn sum
-node-count empty w = refl
-node-count (rooted h es) w = omega (arith, sum-line (suc h) (suc h) es w)

@@ -14,7 +14,7 @@ use Rattle.model.specs.Tree.{Entry, movesUnder}
 use Rattle.model.specs.Withdrawing.{without, Remainder, keepChild, keepChildren, withdrawNode}
 use Rattle.model.specs.Laws.Bool.{not-flip}
 use Rattle.model.specs.Laws.Basics.{each-mono, count-append, select-append, select-all}
-use Rattle.model.specs.Laws.Tree.{flatMap-append, Filled, filled-full}
+use Rattle.model.specs.Laws.Tree.{moves-append, Filled, filled-full}
 
 perm-swap : {A : Type 0} (xs ys : List A) → List·Permᴰ (xs ++ ys) (ys ++ xs)
 perm-swap [] ys = Permᴰ·symm (Permᴰ·append-nil ys)
@@ -180,10 +180,6 @@ module _ (n : ℕ) where
   without-none ms z =
       select-all (λ m. not (numbered m)) ms
       (each-mono (λ m. numbered m ≡ false) (λ m. not (numbered m) ≡ true) ms (λ m. not-flip (numbered m)) (none-numbered ms z))
-
-  pub moves-append : (h : ℕ) (es fs : List (Entry h)) → movesUnder (suc h) (es ++ fs) ≡ movesUnder (suc h) es ++ movesUnder (suc h) fs
-  unfolding movesUnder
-  moves-append h = flatMap-append (movesUnder h)
 
   pub without-append : (ms ns : List Move) → without n (ms ++ ns) ≡ without n ms ++ without n ns
   unfolding without

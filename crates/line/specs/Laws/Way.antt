@@ -13,14 +13,14 @@ use Rattle.model.specs.Moves.{Move, noMove, moveBefore, insert}
 use Rattle.model.specs.Tree.{Entry, movesUnder, firstMove, lastMove}
 use Rattle.model.specs.Laws.Bool.{condCases}
 use Rattle.model.specs.Laws.Basics.{each-right, each-append}
-use Rattle.model.specs.Laws.Tree.{leaf-moves}
+use Rattle.model.specs.Laws.Tree.{moves-append, leaf-moves}
 use Rattle.line.specs.Line.{Placed, lineAt}
 use Rattle.line.specs.Enter.{placed}
 use Rattle.line.specs.Laws.Line.{row, Whole, whole-moves, restAt, rest-low, line-cons}
 use Rattle.line.specs.Laws.Places.{Starts}
 use Rattle.line.specs.Laws.Entries.{following, following-least, line-middle, line-one, line-size, lines-start}
 use Rattle.line.specs.Laws.Standing.{parts-each, Before, After, Front, front, not-both, AllBefore, AllAfter, Around, Standing, allBefore, allAfter, within, between, standing, first-after, last-before, child-within}
-use Rattle.line.specs.Laws.Descent.{placeNode, insertPlace, placeIn, place-line, place-in, moves-append}
+use Rattle.line.specs.Laws.Descent.{placeNode, insertPlace, placeIn, place-line, place-in}
 use Rattle.line.specs.Laws.Placing.{lead, lead-before, lead-after, before-place, after-place}
 use Rattle.line.specs.Laws.Placed.{placed-within}
 use Rattle.line.specs.Laws.Gap.{gap-place, gap-line, leaf-line}

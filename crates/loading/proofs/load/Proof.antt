@@ -60,9 +60,6 @@ fill-requires c κs =
     let range = in-range (c .before .before .before .before .before .before .before .before .before) in
     (((omega arith, range .0 .1), range .0 .0, range .1 .0, range .1 .1), accepted (c .before))
 
-same-length : tie.Need-same-length
-same-length c = search needs
-
 returns-6 : tie.Need-returns-6
 returns-6 c =
     load-accepted _ _ _ _ _ (in-range (c .before .before .before .before .before .before .before .before .before .before .before .before)) (omega arith) (c .before .before .before .before .before .before .before .before .before .before .judge .ensures) (accepted (c .before .before .before .before)) (c .before .before .fill .ensures)
@@ -80,5 +77,5 @@ load-spec =
     returns-4
     returns-5
     fill-requires
-    same-length
+    (λ c. search needs)
     returns-6)

@@ -1,5 +1,5 @@
 -- The tests together decide whether the memory is sound, whatever its bytes are.
-use Prim.Native.Nat.{ℕ, _≤_, _<_}
+use Prim.Native.Nat.{ℕ, _≤_}
 use mathlib.Core.Bool.{Bool, true, false, false≢true}
 use mathlib.Core.List.{List}
 use mathlib.Core.Path.{_≡_, sym, ap, _∙_, subst}
@@ -18,15 +18,15 @@ use Rattle.line.specs.Heights.{heightsRight}
 use Rattle.line.specs.Laws.Line.{moves-line}
 use Rattle.line.specs.Laws.Decode.{treeOf}
 use Rattle.line.specs.Laws.Heights.{heights-right, right-heights}
-use Rattle.promises.specs.Layout.{sizeIn, dimensionIn, countIn, numberIn, markIn, moveIn, placedIn, tab, heightsFrom, lineFrom, lineIn, boardIn, keptFrom, keptIn}
+use Rattle.promises.specs.Layout.{sizeIn, dimensionIn, countIn, numberIn, markIn, moveIn, tab, heightsFrom, lineFrom, lineIn, boardIn, keptFrom, keptIn}
 use Rattle.promises.specs.Sound.{Stands, Sound}
 use Rattle.promises.specs.Run.{Bytes}
 use Rattle.promises.specs.Laws.Tab.{each-tab}
 use Rattle.promises.specs.Laws.Stands.{costs-row, stands-dimension, stands-moves, stands-order}
 use Rattle.memory.specs.Room.{Numbers}
 use Rattle.memory.specs.Tests.{headRight, numbersRight, orderRight, isListed, hiddenBefore, marksRight, Decides}
-use Rattle.memory.specs.Laws.Lines.{movesIn-line, heightsIn-line}
-use Rattle.memory.specs.Laws.Places.{tab-each, rising-tab}
+use Rattle.memory.specs.Laws.Lines.{movesIn-line, heightsIn-line, numbers-each, each-numbers}
+use Rattle.memory.specs.Laws.Places.{rising-tab}
 use Rattle.memory.specs.Laws.Turns.{numbers-right, right-numbers}
 use Rattle.memory.specs.Laws.Head.{HeadRight, head-right, right-head}
 use Rattle.memory.specs.Laws.Marks.{marks-kept, kept-marks}
@@ -34,14 +34,6 @@ use Rattle.memory.specs.Laws.Marks.{marks-kept, kept-marks}
 -- ---- the moves of the line
 
 module _ (c d n : ℕ) (m : List ℕ) where
-  numbers-each : Numbers c n m → Each (λ r. r .move .number < c) (lineFrom c d n m)
-  unfolding lineFrom placedIn moveIn
-  numbers-each h = each-tab (placedIn c d m) (λ r. r .move .number < c) n h
-
-  each-numbers : Each (λ r. r .move .number < c) (lineFrom c d n m) → Numbers c n m
-  unfolding lineFrom placedIn moveIn
-  each-numbers es i l = tab-each (placedIn c d m) (λ r. r .move .number < c) n i l es
-
   order-right : ordered d (movesIn (lineFrom c d n m)) ≡ orderRight c d n m
   unfolding ordered orderRight
   order-right = ap (ordered d) (movesIn-line c d n m) ∙ rising-tab (moveIn c d m) (moveBefore d) n

@@ -9,7 +9,7 @@ use Rattle.zorder.specs.Address.{rowCosts, padded}
 use Rattle.promises.specs.Layout.{numberPlace, heightPlace, markPlace, costPlace, workPlace, numberIn, heightIn, markIn, costIn, workIn, costsIn}
 use Rattle.memory.specs.Frame.{Frame, RowsOnly, MarksOnly, CostsOnly, WorkOnly}
 use Rattle.memory.specs.Laws.Frames.{Apart, byte-across, word-across}
-use Rattle.memory.specs.Laws.Tab.{tab-ext}
+use Rattle.promises.specs.Laws.Tab.{tab-ext}
 
 -- ---- each field, over any frame
 
@@ -53,9 +53,6 @@ module _ (c : ℕ) {m m' : List ℕ} (f : Frame 0 16 m m') where
   pub costs-over-head : (d n : ℕ) → costsIn c d m' n ≡ costsIn c d m n
   costs-over-head d n = costs-over f c d n (inr (omega arith))
 
-  pub work-over-head : (i : ℕ) → workIn c m' i ≡ workIn c m i
-  work-over-head i = work-over f c i (inr (omega arith))
-
 module _ (c : ℕ) {m m' : List ℕ} (f : RowsOnly c m m') where
   pub mark-over-rows : (n : ℕ) → markIn c m' n ≡ markIn c m n
   mark-over-rows n = mark-over f c n (inr (omega arith))
@@ -76,9 +73,6 @@ module _ (c : ℕ) {m m' : List ℕ} (f : MarksOnly c m m') where
   pub costs-over-marks : (d n : ℕ) → costsIn c d m' n ≡ costsIn c d m n
   costs-over-marks d n = costs-over f c d n (inr (omega arith))
 
-  pub work-over-marks : (i : ℕ) → workIn c m' i ≡ workIn c m i
-  work-over-marks i = work-over f c i (inr (omega arith))
-
 module _ (c : ℕ) {m m' : List ℕ} (f : CostsOnly c m m') where
   pub number-over-costs : (i : ℕ) → i < c → numberIn c m' i ≡ numberIn c m i
   number-over-costs i h = number-over f c i (inl (omega arith))
@@ -88,9 +82,6 @@ module _ (c : ℕ) {m m' : List ℕ} (f : CostsOnly c m m') where
 
   pub mark-over-costs : (n : ℕ) → n < c → markIn c m' n ≡ markIn c m n
   mark-over-costs n h = mark-over f c n (inl (omega arith))
-
-  pub work-over-costs : (i : ℕ) → workIn c m' i ≡ workIn c m i
-  work-over-costs i = work-over f c i (inr (omega arith))
 
 module _ (c : ℕ) {m m' : List ℕ} (f : WorkOnly c m m') where
   pub number-over-work : (i : ℕ) → i < c → numberIn c m' i ≡ numberIn c m i

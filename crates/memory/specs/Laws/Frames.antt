@@ -70,6 +70,3 @@ word-stored o v m fits = ap₂ (λ (x y : ℕ). x + 256 * y) low high ∙ omega 
 
     high : getD (set m' (o + 1) (v / 256)) (o + 1) 0 ≡ v / 256
     high = getD-set-same m' (o + 1) (v / 256) 0 (omega (arith, length-set m o (v % 256)))
-
-pub word-apart : (o p v : ℕ) (m : List ℕ) → Apart p (p + 2) o (o + 2) → wordAt o (setWord p v m) ≡ wordAt o m
-word-apart o p v m = word-across (word-frame p v m) o

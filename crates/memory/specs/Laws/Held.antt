@@ -1,21 +1,22 @@
 -- What sound memory gives of its rows, its marks and its moves, for its own c, d and n.
 use Prim.Native.Nat.{ℕ, zero, suc, _≤_, _<_}
-use mathlib.Core.Bool.{Bool, true, false, not}
+use mathlib.Core.Bool.{true, false, not}
 use mathlib.Core.List.{List, [], _∷_, map, List·Memᴰ, List·Memᴰ·head, List·Memᴰ·tail}
 use mathlib.Core.Path.{_≡_, refl, sym, ap, _∙_, subst}
 use native.Mathlib.Nat.{le-of-suc-le-suc}
 use native.Mathlib.Omega.{arith}
-use borrow.Author.Tests.{leb-true, eqb-false, not-false}
-use lib.Dec.{eqb, leb}
+use borrow.Author.Tests.{eqb-false}
+use lib.Dec.{eqb}
 use lib.ListN.{length, getD}
 use Rattle.zorder.specs.Between.{rowCosts}
-use Rattle.model.specs.Basics.{Each, select, distinct, within, has}
+use Rattle.model.specs.Basics.{Each, distinct, has}
 use Rattle.model.specs.Moves.{Move, ordered}
 use Rattle.model.specs.Lists.{hidden, skyline}
-use Rattle.model.specs.Calls.{sizeBad, memoryNeed}
+use Rattle.model.specs.Calls.{memoryNeed}
 use Rattle.model.specs.Sound.{Fit}
-use Rattle.model.specs.Laws.Bool.{same-test, and-left, and-right, not-back}
-use Rattle.model.specs.Laws.Basics.{mem-each, each-mem, select-mem, mem-select, any-false}
+use Rattle.model.specs.Laws.Loading.{size-most}
+use Rattle.model.specs.Laws.Bool.{and-left, and-right, not-back}
+use Rattle.model.specs.Laws.Basics.{select-same, each-mem, any-false}
 use Rattle.line.specs.Line.{Placed, movesIn}
 use Rattle.promises.specs.Layout.{sizeIn, dimensionIn, countIn, numberIn, markIn, moveIn, placedIn, tab, lineFrom, lineIn, boardIn, keptFrom, keptIn}
 use Rattle.promises.specs.Sound.{Stands, Sound}
@@ -24,19 +25,12 @@ use Rattle.promises.specs.Laws.Stands.{stands-dimension, stands-moves, stands-o
 use Rattle.memory.specs.Room.{Room, Numbers, Readable}
 use Rattle.memory.specs.Held.{SoundAt, HeldIn}
 use Rattle.memory.specs.Tests.{isListed}
-use Rattle.memory.specs.Laws.Tab.{length-tab, getD-tab, map-tab}
+use Rattle.promises.specs.Laws.Tab.{length-tab, getD-tab, map-tab}
 use Rattle.memory.specs.Laws.Places.{tab-each}
 use Rattle.memory.specs.Laws.Lines.{movesIn-line}
 use Rattle.memory.specs.declared.sound.Head.{Head}
 use Rattle.memory.specs.declared.sound.Held.{Held}
 use Rattle.memory.specs.declared.sound.Held.the-variants as held
-
--- Two tests that select the same entries agree at each.
-pub select-same : {A : Type 0} (p q : A → Bool) (xs : List A) → select p xs ≡ select q xs → Each (λ x. p x ≡ q x) xs
-select-same p q xs e =
-    mem-each (λ x. p x ≡ q x) xs (λ x k.
-    same-test (p x) (q x) (λ h. select-mem q xs (subst (List·Memᴰ x) e (mem-select p k h)) .1)
-    (λ h. select-mem p xs (subst (List·Memᴰ x) (sym e) (mem-select q k h)) .1))
 
 mem-at : {A : Type 0} (xs : List A) (z : A) (i : ℕ) → i < length xs → List·Memᴰ (getD xs i z) xs
 mem-at [] z i h = absurd (omega arith)
@@ -58,10 +52,6 @@ distinct-places (n ∷ ns) r (suc i) zero h k e =
     absurd (no-other n ns (not-back (has n ns) (and-left (not (has n ns)) (distinct ns) r)) i (le-of-suc-le-suc h) (sym e))
 distinct-places (n ∷ ns) r (suc i) (suc j) h k e =
     ap suc (distinct-places ns (and-right (not (has n ns)) (distinct ns) r) i j (le-of-suc-le-suc h) (le-of-suc-le-suc k) e)
-
-size-most : (c : ℕ) → sizeBad c ≡ false → c ≤ 4096
-unfolding sizeBad within
-size-most c h = leb-true c 4096 (and-right (leb 16 c) (leb c 4096) (not-false (within 16 4096 c) h))
 
 module _ (c d n : ℕ) (m : List ℕ) (s : SoundAt c d n m) where
   own : (P : ℕ → ℕ → ℕ → Type 0) → P (sizeIn m) (dimensionIn m) (countIn m) → P c d n

@@ -15,7 +15,7 @@ use Rattle.model.specs.Laws.Bool.{and-both, and-false-right}
 use Rattle.line.specs.Heights.{firstHighest, countsFrom, countsAt, rootCount, levelsRight, heightsRight}
 use Rattle.promises.specs.Layout.{heightIn, tab, heightsFrom}
 use Rattle.memory.specs.Tests.{allTo}
-use Rattle.memory.specs.Laws.Tab.{tab-cons, length-tab, getD-tab}
+use Rattle.promises.specs.Laws.Tab.{tab-cons, length-tab, getD-tab}
 use Rattle.memory.specs.Laws.Places.{allTo-fails, allTo-next, all-tab}
 
 -- The place after i is lower than the first.

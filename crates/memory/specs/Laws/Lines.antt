@@ -1,25 +1,24 @@
 -- The line that rows of the memory hold: place by place, over frames, and after stores.
-use Prim.Native.Nat.{ℕ, suc, _+_, _^_, _≤_, _<_}
+use Prim.Native.Nat.{ℕ, suc, _≤_, _<_}
 use mathlib.Core.List.{List}
 use mathlib.Core.Logic.{_≢_}
 use mathlib.Core.Path.{_≡_, sym, ap, ap₂, _∙_}
-use native.Mathlib.Decide.{decLt}
 use native.Mathlib.Omega.{arith}
-use lib.ListN.{length, getD, take, List·getD-eq-default}
-use Rattle.zorder.specs.Address.{rowCosts, costBits}
-use Rattle.zorder.specs.Between.{RowCosts}
-use Rattle.zorder.specs.Laws.Between.{padded-row}
+use lib.ListN.{length, getD, take}
+use Rattle.zorder.specs.Address.{rowCosts}
+use Rattle.model.specs.Basics.{Each}
 use Rattle.model.specs.Moves.{Move}
 use Rattle.line.specs.Line.{Placed, none, movesIn, heightsIn}
 use Rattle.line.specs.Places as places
 use Rattle.line.specs.Places.{moveAt, heightAt, insertAt}
-use Rattle.promises.specs.Layout.{wordAt, sizeIn, dimensionIn, countIn, numberIn, heightIn, costPlace, costIn, costsIn, moveIn, placedIn, tab, lineFrom, lineIn}
+use Rattle.promises.specs.Layout.{sizeIn, dimensionIn, countIn, numberIn, heightIn, costsIn, moveIn, placedIn, tab, lineFrom, lineIn}
 use Rattle.memory.specs.Room.{Room, Numbers}
-use Rattle.memory.specs.Stores.{setNumber, setHeight, setCosts}
+use Rattle.memory.specs.Stores.{setHeight, setCosts}
 use Rattle.memory.specs.Frame.{Frame, MarksOnly, WorkOnly}
-use Rattle.memory.specs.Laws.Tab.{length-tab, getD-tab, tab-ext, tab-set, tab-insert, take-tab, map-tab}
+use Rattle.promises.specs.Laws.Tab.{each-tab, length-tab, getD-tab, tab-ext, tab-set, tab-insert, take-tab, map-tab}
+use Rattle.memory.specs.Laws.Places.{tab-each}
 use Rattle.memory.specs.Laws.Fields.{number-over-head, height-over-head, costs-over-head, costs-over-rows, number-over-marks, height-over-marks, costs-over-marks, number-over-costs, height-over-costs, number-over-work, height-over-work, costs-over-work}
-use Rattle.memory.specs.Laws.Stored.{setNumber-rows, setHeight-rows, setCosts-costs, number-setNumber-other, number-setHeight, height-setNumber, height-setHeight, height-setHeight-other, costs-setCosts-other}
+use Rattle.memory.specs.Laws.Stored.{setHeight-rows, setCosts-costs, number-setHeight, height-setHeight, height-setHeight-other, costs-setCosts-other}
 
 -- ---- place by place
 
@@ -51,6 +50,14 @@ module _ (c d n : ℕ) (m : List ℕ) where
   pub take-line : (k : ℕ) → k ≤ n → take k (lineFrom c d n m) ≡ lineFrom c d k m
   unfolding lineFrom
   take-line k h = take-tab (placedIn c d m) n k h
+
+  pub numbers-each : Numbers c n m → Each (λ r. r .move .number < c) (lineFrom c d n m)
+  unfolding lineFrom placedIn moveIn
+  numbers-each h = each-tab (placedIn c d m) (λ r. r .move .number < c) n h
+
+  pub each-numbers : Each (λ r. r .move .number < c) (lineFrom c d n m) → Numbers c n m
+  unfolding lineFrom placedIn moveIn
+  each-numbers es i l = tab-each (placedIn c d m) (λ r. r .move .number < c) n i l es
 
   pub lineIn-line : sizeIn m ≡ c → dimensionIn m ≡ d → countIn m ≡ n → lineIn m ≡ lineFrom c d n m
   unfolding lineIn
@@ -113,22 +120,6 @@ module _ (c d n : ℕ) (m : List ℕ) where
       (λ i b. height-over-costs c f i (omega arith))
       (λ i b. costs-setCosts-other c k m (numberIn c m i) (absent i b) d costs l count)
 
-  module _ (i : ℕ) (b : i < c) where
-    -- A row past the line.
-    pub line-setNumber-past : (v : ℕ) → n ≤ i → lineFrom c d n (setNumber c i v m) ≡ lineFrom c d n m
-    line-setNumber-past v past =
-        line-ext c d m (setNumber c i v m) n
-        (λ j h. number-setNumber-other c i m j (λ e. omega arith) v)
-        (λ j h. height-setNumber c i m j v b)
-        (λ j h. costs-over-rows c (setNumber-rows c i m b v) d _)
-
-    pub line-setHeight-past : (k : ℕ) → n ≤ i → lineFrom c d n (setHeight c i k m) ≡ lineFrom c d n m
-    line-setHeight-past k past =
-        line-ext c d m (setHeight c i k m) n
-        (λ j h. number-setHeight c i m j k (omega arith))
-        (λ j h. height-setHeight-other c i m j (λ e. omega arith) k)
-        (λ j h. costs-over-rows c (setHeight-rows c i m b k) d _)
-
   pub line-setHeight : (i k : ℕ) → Room c m → i < n → n ≤ c → lineFrom c d n (setHeight c i k m) ≡ places.setHeight i k (lineFrom c d n m)
   unfolding lineFrom placedIn places.setHeight
   line-setHeight i k room h few =
@@ -144,22 +135,3 @@ module _ (c d n : ℕ) (m : List ℕ) where
 
       costs : (j : ℕ) → costsIn c d m' (numberIn c m j) ≡ costsIn c d m (numberIn c m j)
       costs j = costs-over-rows c (setHeight-rows c i m (omega arith) k) d (numberIn c m j)
-
--- ---- bytes
-
-module _ (m : List ℕ) (bytes : (i : ℕ) → getD m i 0 < 256) where
-  pub word-lt : (o : ℕ) → wordAt o m < 65536
-  unfolding wordAt
-  word-lt o = omega (arith, bytes o, bytes (o + 1))
-
-  pub cost-lt : (c n j : ℕ) → costIn c m n j < 65536
-  unfolding costIn
-  cost-lt c n j = word-lt (costPlace c n j)
-
-  pub fit-move : (c d n : ℕ) → d ≤ rowCosts → RowCosts d (costsIn c d m n)
-  unfolding costsIn
-  fit-move c d n l = padded-row d (tab (costIn c m n) d) l (record { count = length-tab (costIn c m n) d; small = λ i. go i (decLt i d) })
-    where
-      go : (i : ℕ) → Dec (i < d) → getD (tab (costIn c m n) d) i 0 < 2 ^ costBits
-      go i (yes h) = omega (arith, getD-tab (costIn c m n) 0 d i h, cost-lt c n i)
-      go i (no h) = omega (arith, List·getD-eq-default (tab (costIn c m n) d) 0 {n = i} (omega (arith, length-tab (costIn c m n) d)))

@@ -1,16 +1,16 @@
 -- The test of the marks passes exactly if the marked moves are Definition 2's list.
 use Prim.Native.Nat.{ℕ, zero, suc, _≤_}
 use mathlib.Core.Bool.{Bool, true, false, not, _&&_, Bool·beq, false≢true}
-use mathlib.Core.List.{List, [], _∷_, _++_, List·Memᴰ, append-cancel-right}
-use mathlib.Core.Path.{_≡_, refl, sym, ap, ap₂, _∙_, subst}
+use mathlib.Core.List.{List, [], _∷_, _++_, append-cancel-right}
+use mathlib.Core.Path.{_≡_, refl, sym, ap, ap₂, _∙_}
 use Rattle.zorder.specs.Between.{rowCosts}
 use Rattle.model.specs.Basics.{Each, consIf, select}
 use Rattle.model.specs.Moves.{Move, moveBefore, ordered}
 use Rattle.model.specs.Dominance.{hides}
 use Rattle.model.specs.Lists.{hidden, skyline}
 use Rattle.model.specs.Sound.{Fit}
-use Rattle.model.specs.Laws.Bool.{and-left, and-right, and-both, same-test}
-use Rattle.model.specs.Laws.Basics.{mem-each, each-left, each-right, select-append, select-mem, mem-select, select-ext, any-select}
+use Rattle.model.specs.Laws.Bool.{and-left, and-right, and-both}
+use Rattle.model.specs.Laws.Basics.{select-same, each-left, each-right, select-append, select-ext, any-select}
 use Rattle.model.specs.Laws.Sorting.{rising-left}
 use Rattle.model.specs.Laws.Skyline.{skyline-append, skyline-earlier-listed}
 use Rattle.promises.specs.Layout.{tab}
@@ -26,13 +26,6 @@ beq-same false false e = refl
 same-beq : (a b : Bool) → a ≡ b → Bool·beq a b ≡ true
 same-beq true b e = ap (Bool·beq true) (sym e)
 same-beq false b e = ap (Bool·beq false) (sym e)
-
--- Two tests that select the same entries agree at each.
-select-same : {A : Type 0} (p q : A → Bool) (xs : List A) → select p xs ≡ select q xs → Each (λ x. p x ≡ q x) xs
-select-same p q xs e =
-    mem-each (λ x. p x ≡ q x) xs (λ x k.
-    same-test (p x) (q x) (λ h. select-mem q xs (subst (List·Memᴰ x) e (mem-select p k h)) .1)
-    (λ h. select-mem p xs (subst (List·Memᴰ x) (sym e) (mem-select q k h)) .1))
 
 module _ (d c : ℕ) (l : d ≤ rowCosts) (listed : Move → Bool) where
   -- ---- one move more, which stands last

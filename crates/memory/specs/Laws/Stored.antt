@@ -19,7 +19,7 @@ use Rattle.memory.specs.Stores.{setHead, setCount, setNumber, setHeight,
 use Rattle.memory.specs.Frame.{Frame, RowsOnly, MarksOnly, CostsOnly, WorkOnly}
 use Rattle.memory.specs.Laws.Frames.{frame-refl, frame-trans, frame-widen, byte-frame, word-frame, byte-across, word-across, word-stored, word-length}
 use Rattle.memory.specs.Laws.Fields.{number-over, height-over, mark-over, costs-over, work-over}
-use Rattle.memory.specs.Laws.Tab.{tab-of}
+use Rattle.promises.specs.Laws.Tab.{tab-of}
 
 apart : {i j : ℕ} → j ≢ i → (j < i) ⊎ (i < j)
 apart {i} {j} ne = go (decLt j i)
@@ -97,15 +97,6 @@ length-setNumber c i v m = setNumber-frame c i m v .length
 
 pub length-setHeight : (c i h : ℕ) (m : List ℕ) → length (setHeight c i h m) ≡ length m
 length-setHeight c i h m = setHeight-frame c i m h .length
-
-pub length-setListed : (c n : ℕ) (b : Bool) (m : List ℕ) → length (setListed c n b m) ≡ length m
-length-setListed c n b m = setListed-frame c n m b .length
-
-pub length-setCosts : (c n : ℕ) (costs m : List ℕ) → length (setCosts c n costs m) ≡ length m
-length-setCosts c n costs m = setCosts-frame c n costs m .length
-
-pub length-setWork : (c i v : ℕ) (m : List ℕ) → length (setWork c i v m) ≡ length m
-length-setWork c i v m = setWork-frame c i m v .length
 
 -- ---- the head
 

@@ -21,9 +21,8 @@ use Rattle.promises.specs.Layout.{wordAt, numberPlace, heightPlace, markPlace, 
 use Rattle.promises.specs.Sound.{Stands}
 use Rattle.promises.specs.Written.{inArea}
 use Rattle.promises.specs.Used.{headUse, rowsUse, moveUse, inUse, longEnough, SameInUse}
-use Rattle.promises.specs.Laws.Tab.{each-tab}
+use Rattle.promises.specs.Laws.Tab.{each-tab, tab-ext}
 use Rattle.promises.specs.Laws.Written.{in-area}
-use Rattle.memory.specs.Laws.Tab.{tab-ext}
 use Rattle.memory.specs.Laws.Places.{any-tab, anyTo-found}
 use Rattle.memory.specs.Laws.Lines.{line-ext, movesIn-line}
 

@@ -1,19 +1,15 @@
 -- Lists: members, the entries that pass a test, and how many.
-use Prim.Native.Nat.{ℕ, suc, _+_, _≤_, _<_, suc-le-suc}
+use Prim.Native.Nat.{ℕ, suc, _+_, _<_}
 use mathlib.Core.Bool.{Bool, true, false, cond, _&&_, _||_, or-assoc, and-assoc}
 use mathlib.Core.List.{List, [], _∷_, _++_, map, List·Memᴰ, List·Memᴰ·head, List·Memᴰ·tail, List·Memᴰ·not-nil, List·Memᴰ·cases-cons}
 use mathlib.Core.Logic.{_⊎_, inl, inr, ⊎-elim}
 use mathlib.Core.Path.{_≡_, refl, sym, ap, ap₂, _∙_, subst}
-use native.Mathlib.Nat.{zero-lt-suc, le-step, le-refl}
+use native.Mathlib.Nat.{zero-lt-suc}
+use lib.Dec.{eqb}
 use lib.ListN.{length, length-append}
-use Rattle.model.specs.Basics.{Each, consIf, select, any, all, count, lastOr}
-use Rattle.model.specs.Laws.Bool.{and-left, and-right, and-both, or-cases, or-left, or-right, or-false-left, or-false-right, or-false-both, both-ways}
-
-cond-le : (a b : Bool) (m n : ℕ) → (a ≡ true → b ≡ true) → m ≤ n → cond a (suc m) m ≤ cond b (suc n) n
-cond-le true true m n f h = suc-le-suc h
-cond-le true false m n f h = both-ways (f refl) refl
-cond-le false true m n f h = le-step h
-cond-le false false m n f h = h
+use borrow.Author.Tests.{eqb-true, eq-eqb}
+use Rattle.model.specs.Basics.{Each, consIf, select, any, all, count, lastOr, equal}
+use Rattle.model.specs.Laws.Bool.{and-left, and-right, and-both, or-cases, or-left, or-right, or-false-left, or-false-right, or-false-both, same-test, both-ways}
 
 module _ {A : Type 0} where
   -- ---- every entry
@@ -117,9 +113,6 @@ module _ {A : Type 0} where
     each-select P [] es = tt
     each-select P (x ∷ xs) es = each-consIf P (p x) x (select p xs) (es .0) (each-select P xs (es .1))
 
-    pub select-passes : (xs : List A) → Each (λ x. p x ≡ true) (select p xs)
-    select-passes xs = mem-each (λ x. p x ≡ true) (select p xs) (λ x m. select-mem xs m .1)
-
     pub once-select : (xs : List A) → Once xs → Once (select p xs)
     unfolding select
     once-select [] o = tt
@@ -215,15 +208,17 @@ module _ {A : Type 0} where
     select-ext [] es = refl
     select-ext (x ∷ xs) es = ap₂ (λ (b : Bool) (ys : List A). consIf b x ys) (es .0) (select-ext xs (es .1))
 
+    -- Two tests that select the same entries agree at each.
+    pub select-same : (xs : List A) → select p xs ≡ select q xs → Each (λ x. p x ≡ q x) xs
+    select-same xs e =
+        mem-each (λ x. p x ≡ q x) xs (λ x k.
+        same-test (p x) (q x) (λ h. select-mem q xs (subst (List·Memᴰ x) e (mem-select p k h)) .1)
+        (λ h. select-mem p xs (subst (List·Memᴰ x) (sym e) (mem-select q k h)) .1))
+
     pub any-ext : (xs : List A) → Each (λ x. p x ≡ q x) xs → any p xs ≡ any q xs
     unfolding any
     any-ext [] es = refl
     any-ext (x ∷ xs) es = ap₂ _||_ (es .0) (any-ext xs (es .1))
-
-    pub all-ext : (xs : List A) → Each (λ x. p x ≡ q x) xs → all p xs ≡ all q xs
-    unfolding all
-    all-ext [] es = refl
-    all-ext (x ∷ xs) es = ap₂ _&&_ (es .0) (all-ext xs (es .1))
 
     pub count-ext : (xs : List A) → Each (λ x. p x ≡ q x) xs → count p xs ≡ count q xs
     unfolding count
@@ -241,11 +236,6 @@ module _ {A : Type 0} where
     unfolding select
     select-select [] = refl
     select-select (x ∷ xs) = select-consIf p (q x) x (select q xs) ∙ ap (consIf (q x && p x) x) (select-select xs)
-
-    pub count-mono : (xs : List A) → Each (λ x. p x ≡ true → q x ≡ true) xs → count p xs ≤ count q xs
-    unfolding count select
-    count-mono [] es = le-refl 0
-    count-mono (x ∷ xs) es = rw (count-cons p x xs, count-cons q x xs) (cond-le (p x) (q x) (count p xs) (count q xs) (es .0) (count-mono xs (es .1)))
 
 module _ {A B : Type 0} where
   pub each-map : (Q : B → Type 0) (f : A → B) (xs : List A) → Each (λ x. Q (f x)) xs → Each Q (map f xs)
@@ -266,3 +256,18 @@ module _ {A B : Type 0} where
     unfolding select
     select-map [] = refl
     select-map (x ∷ xs) = ap (consIf (p (f x)) (f x)) (select-map xs) ∙ sym (map-consIf f (p (f x)) x (select (λ x. p (f x)) xs))
+
+-- ---- two lists of numbers
+
+pub equal-refl : (ps : List ℕ) → equal ps ps ≡ true
+unfolding equal
+equal-refl [] = refl
+equal-refl (p ∷ ps) = and-both (eqb p p) (equal ps ps) (eq-eqb p p refl) (equal-refl ps)
+
+pub equal-true : (ps qs : List ℕ) → equal ps qs ≡ true → ps ≡ qs
+unfolding equal
+equal-true [] [] h = refl
+equal-true [] (q ∷ qs) h = both-ways h refl
+equal-true (p ∷ ps) [] h = both-ways h refl
+equal-true (p ∷ ps) (q ∷ qs) h =
+    ap₂ _∷_ (eqb-true p q (and-left (eqb p q) (equal ps qs) h)) (equal-true ps qs (and-right (eqb p q) (equal ps qs) h))

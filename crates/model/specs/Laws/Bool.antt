@@ -1,6 +1,6 @@
 -- Tests, as the laws use them.
 use mathlib.Core.Bool.{Bool, true, false, cond, not, _&&_, _||_, true≢false, false≢true}
-use mathlib.Core.Path.{_≡_, refl, sym, _∙_}
+use mathlib.Core.Path.{_≡_, refl, sym, ap, _∙_}
 
 -- Case analysis on a test that a definition makes, with what the test says.
 pub byCases {ℓ} : {A : Type ℓ} (b : Bool) → (b ≡ true → A) → (b ≡ false → A) → A
@@ -88,6 +88,13 @@ pub and-drop-left : (a b : Bool) → a ≡ true → (a && b) ≡ false → b ≡
 and-drop-left true b e f = f
 and-drop-left false b e f = absurd (false≢true e)
 
-pub not-or : (a b : Bool) → not (a || b) ≡ (not a && not b)
-not-or true b = refl
-not-or false b = refl
+-- One turn of "nowhere greater and somewhere less": greater here, less here, less before, and both for what is left.
+pub less-turn : (s l m : Bool) → (s || (l || m)) ≡ (cond l true s || m)
+less-turn true true m = refl
+less-turn true false m = refl
+less-turn false true m = refl
+less-turn false false m = refl
+
+pub one-turn : (g l s n m : Bool) → ((not g && n) && (s || (l || m))) ≡ cond g false (n && (cond l true s || m))
+one-turn true l s n m = refl
+one-turn false l s n m = ap (λ (b : Bool). n && b) (less-turn s l m)

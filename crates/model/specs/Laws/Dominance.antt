@@ -11,10 +11,12 @@ use lib.Seq.{getD-take}
 use borrow.Author.Tests.{ltb-true, ltb-false, lt-ltb, le-ltb}
 use Rattle.zorder.specs.Between.{RowCosts, rowCosts, before}
 use Rattle.zorder.specs.Laws.Between.{earlier}
-use Rattle.model.specs.Moves.{Move, moveBefore, zBefore}
-use Rattle.model.specs.Dominance.{less, nowhereGreater, somewhereLess, better, dominates, hides}
+use Rattle.model.specs.Basics.{parts, numbersFrom}
+use Rattle.model.specs.Moves.{moveBefore, zBefore}
+use Rattle.model.specs.Dominance.{less, nowhereGreater, somewhereLess, better, dominates, at, dominatesAt, dominatesOn, hides}
 use Rattle.model.specs.Sound.{Fit}
 use Rattle.model.specs.Laws.Bool.{byCases, and-left, and-right, and-both, not-flip, not-back, or-cases, or-left, or-right}
+use Rattle.model.specs.Laws.Basics.{mem-each, any-none}
 
 -- ---- two lists of costs, place by place
 
@@ -112,11 +114,25 @@ unfolding somewhereLess less
 somewhere-less-irrefl [] = refl
 somewhere-less-irrefl (a ∷ p) = ap (λ (b : Bool). b || somewhereLess p p) (le-ltb a a (le-refl a)) ∙ somewhere-less-irrefl p
 
+-- Nothing dominates itself: on its first d costs, on chosen ones, or on some k of them.
+better-irrefl : (p : List ℕ) → better p p ≡ false
+unfolding better
+better-irrefl p = ap (λ (b : Bool). nowhereGreater p p && b) (somewhere-less-irrefl p) ∙ and-false (nowhereGreater p p)
+
 pub dominates-irrefl : (d : ℕ) (p : List ℕ) → dominates d p p ≡ false
-unfolding dominates better
-dominates-irrefl d p =
-    ap (λ (b : Bool). nowhereGreater (take d p) (take d p) && b) (somewhere-less-irrefl (take d p))
-    ∙ and-false (nowhereGreater (take d p) (take d p))
+unfolding dominates
+dominates-irrefl d p = better-irrefl (take d p)
+
+pub dominatesAt-irrefl : (s p : List ℕ) → dominatesAt s p p ≡ false
+unfolding dominatesAt
+dominatesAt-irrefl s p = better-irrefl (at s p)
+
+pub dominatesOn-irrefl : (d k : ℕ) (p : List ℕ) → dominatesOn d k p p ≡ false
+unfolding dominatesOn
+dominatesOn-irrefl d k p = any-none (λ s. dominatesAt s p p) ways (mem-each _ ways (λ s m. dominatesAt-irrefl s p))
+  where
+    ways : List (List ℕ)
+    ways = parts k (numbersFrom 0 d)
 
 -- "Equal costs do not dominate each other."
 pub equal-not-dominates : (d : ℕ) (p q : List ℕ) → take d p ≡ take d q → dominates d p q ≡ false

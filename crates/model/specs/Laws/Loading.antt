@@ -3,19 +3,20 @@ use Prim.Native.Nat.{ℕ, zero, suc, _+_, _-_, _≤_, _<_}
 use mathlib.Core.Bool.{Bool, true, false}
 use mathlib.Core.Path.{_≡_, refl, sym, ap, _∙_, subst}
 use mathlib.Core.List.{List, [], _∷_, _++_, map, flatMap, flatten, append-assoc, append-nil}
-use borrow.Author.Tests.{leb-true, leb-false, ltb-true, ltb-false}
+use borrow.Author.Tests.{leb-true, leb-false, ltb-true, ltb-false, not-false}
 use native.Mathlib.Omega.{arith}
 use lib.Dec.{leb, ltb}
 use lib.ListN.{length, take, drop, length-append, length-take, length-drop, take-append-drop}
-use Rattle.model.specs.Basics.{Each, distinct}
+use Rattle.model.specs.Basics.{Each, distinct, within}
 use Rattle.model.specs.Moves.{Move, moveBefore, inZOrder, ordered}
+use Rattle.model.specs.Calls.{sizeBad}
 use Rattle.model.specs.Tree.{Entry, Tree, rooted, movesUnder, movesOf, rootLeast, filledTree, ruled}
 use Rattle.model.specs.Loading.{eights, evened, mended, cut, levels, built, loadTree}
 use Rattle.model.specs.Laws.Bool.{condCases}
 use Rattle.model.specs.Laws.Basics.{each-left, each-right}
 use Rattle.model.specs.Laws.Sorting.{StrictOrder, rising-sort}
 use Rattle.model.specs.Laws.Order.{distinct-once}
-use Rattle.model.specs.Laws.Tree.{flatMap-flatten, Filled, leaf-moves, leaf-filled, full-filled, full-tree, both-ruled}
+use Rattle.model.specs.Laws.Tree.{within-range, flatMap-flatten, Filled, leaf-moves, leaf-filled, full-filled, full-tree, both-ruled}
 
 module _ {A : Type 0} where
   -- ---- cutting loses nothing
@@ -213,3 +214,9 @@ unfolding ordered inZOrder
 load-ruled d P o ms q h =
     both-ruled d (loadTree d ms) (load-filled d ms)
     (ap (ordered d) (load-moves d ms) ∙ rising-sort P (moveBefore d) o ms q (distinct-once (λ m. m .number) ms h))
+
+-- ---- the size of a board
+
+pub size-most : (c : ℕ) → sizeBad c ≡ false → c ≤ 4096
+unfolding sizeBad
+size-most c e = within-range 16 4096 c (not-false (within 16 4096 c) e) .1

@@ -8,20 +8,20 @@ use lib.ListN.{length, getD, length-append}
 use borrow.Author.Tests.{not-false}
 use Rattle.zorder.specs.Between.{rowCosts, RowCosts, before, nearOf, farOf}
 use Rattle.zorder.specs.Laws.Between.{near-row, near-le, far-ge, near-part, far-part}
-use Rattle.model.specs.Basics.{Each, any, count, firstOr, lastOr}
+use Rattle.model.specs.Basics.{Each, any, firstOr, lastOr}
 use Rattle.model.specs.Moves.{Move, noMove, zBefore, moveBefore, ordered}
 use Rattle.model.specs.Dominance.{dominates, hides}
 use Rattle.model.specs.Lists.{hidden, skyline}
-use Rattle.model.specs.Tree.{Entry, Tree, empty, rooted, movesUnder, movesOf, filledTree}
+use Rattle.model.specs.Tree.{Entry, Tree, empty, rooted, movesUnder, movesOf}
 use Rattle.model.specs.Nodes.{Node, nodeOf, nodesFrom, nodesOf, nearCornerOf, farCornerOf, opens}
 use Rattle.model.specs.Sound.{Fit}
 use Rattle.model.specs.Laws.Bool.{byCases, not-flip, or-false-left, same-test, both-ways}
-use Rattle.model.specs.Laws.Basics.{each-mem, each-mono, mem-each, each-append, each-left, each-right, last-mem, any-mem, any-witness, any-mono, mem-pos, count-none}
+use Rattle.model.specs.Laws.Basics.{each-mem, each-mono, mem-each, each-append, each-left, each-right, last-mem, any-mem, any-witness, any-mono, mem-pos}
 use Rattle.model.specs.Laws.Sorting.{rising-left, rising-right, rising-tail, first-least, last-greatest}
 use Rattle.model.specs.Laws.Order.{move-order}
 use Rattle.model.specs.Laws.Dominance.{dominates-places, dominates-below, below-dominates, row-lengths}
 use Rattle.model.specs.Laws.Skyline.{skyline-mem, mem-skyline, skyline-hider}
-use Rattle.model.specs.Laws.Tree.{Filled, filled-full, filled-some, tree-full, rootLeast-range}
+use Rattle.model.specs.Laws.Tree.{Filled, filled-full, filled-some}
 
 -- ---- runs of a list
 
@@ -113,12 +113,6 @@ nodes-some (suc h) es l f = (
   each-flatMap (nodesFrom h) Some es
       (λ e m. let full = filled-full h e (each-mem (Filled (suc h)) f m) in nodes-some h e (omega (arith, full .least)) (full .under)),
 )
-
-pub tree-nodes-some : (t : Tree) → filledTree t ≡ true → Each Some (nodesOf t)
-unfolding nodesOf
-tree-nodes-some empty f = tt
-tree-nodes-some (rooted h es) f =
-    let full = tree-full h es f in nodes-some h es (omega (arith, full .least, rootLeast-range h .0)) (full .under)
 
 -- ---- regions
 
@@ -252,19 +246,6 @@ module _ (d c : ℕ) (l : d ≤ rowCosts) where
       pub run-unopened : (all : List Move) → Each (Fit c d) all → opens d all (nodeOf ms) ≡ false → opens d all (nodeOf ns) ≡ false
       run-unopened all fs = unopened d all (nodeOf ms) (nodeOf ns) (λ m k. run-dominated (m .costs) (each-mem (Fit c d) fs k .costs))
 
-    -- The same by places: from place i to j, and within them from i' to j'.
-    module _ (i i' j' j : ℕ) (a : i ≤ i') (b : i' ≤ j') (e : j' ≤ j) (k : j < length ms) where
-      pub places-dominated : (p : List ℕ) → RowCosts d p
-          → dominates d p (nearOf d (costsAt ms i) (costsAt ms j)) ≡ true → dominates d p (nearOf d (costsAt ms i') (costsAt ms j')) ≡ true
-      places-dominated =
-          inside-dominated d l
-          (record {
-            row = each-mem (Fit c d) es (getD-in ms j k) .costs;
-            first = in-order ms es r i i' a (omega arith);
-            order = in-order ms es r i' j' b (omega arith);
-            last = in-order ms es r j' j e k;
-          })
-
   module _ (ms : List Move) (es : Each (Fit c d) ms) (r : ordered d ms ≡ true) {n : Node} (i : NodeIn ms n) where
     module _ {x : Move} (m : List·Memᴰ x (n .under)) where
       pub node-near : (k : ℕ) → getD (nearCornerOf d n) k 0 ≤ getD (x .costs) k 0
@@ -283,13 +264,7 @@ module _ (d c : ℕ) (l : d ≤ rowCosts) where
 
   -- ---- a node of the nest and those below it
 
-  -- What dominates a node's near corner dominates a child's ..
-  pub child-dominated : (h : ℕ) (es : List (Entry (suc h))) → Each (Fit c d) (movesUnder (suc (suc h)) es) → ordered d (movesUnder (suc (suc h)) es) ≡ true
-      → {e : List (Entry h)} → List·Memᴰ e es → Filled (suc h) e → (p : List ℕ) → RowCosts d p
-      → dominates d p (nearCornerOf d (nodeOf (movesUnder (suc (suc h)) es))) ≡ true → dominates d p (nearCornerOf d (nodeOf (movesUnder (suc h) e))) ≡ true
-  child-dominated h es fs r {e} m f = run-dominated (movesUnder (suc (suc h)) es) fs r (child-run h es m) (filled-some (suc h) e f)
-
-  -- .. and that of every node below, so that under a node not opened none is.
+  -- What dominates a node's near corner dominates that of every node below, so that under a node not opened none is opened.
   module _ (h : ℕ) (es : List (Entry h)) (fs : Each (Fit c d) (movesUnder (suc h) es)) (r : ordered d (movesUnder (suc h) es) ≡ true)
       (some : 0 < length es) (f : Each (Filled h) es) where
     pub below-dominated : (p : List ℕ) → RowCosts d p → dominates d p (nearCornerOf d (nodeOf (movesUnder (suc h) es))) ≡ true
@@ -304,9 +279,6 @@ module _ (d c : ℕ) (l : d ≤ rowCosts) where
           mem-each (λ n. opens d all n ≡ false) (nodesFrom h es)
           (λ n m. unopened d all (nodeOf (movesUnder (suc h) es)) n
           (λ x k e. each-mem (λ n. dominates d (x .costs) (nearCornerOf d n) ≡ true) (below-dominated (x .costs) (each-mem (Fit c d) gs k .costs) e) m) e)
-
-      pub below-count : count (opens d all) (nodesFrom h es) ≡ 0
-      below-count = count-none (opens d all) (nodesFrom h es) below-unopened
 
   -- ---- the list
 

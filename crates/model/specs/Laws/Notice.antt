@@ -1,5 +1,5 @@
 -- The notice: the moves that left the list and those that entered it, and how many rows it has.
-use Prim.Native.Nat.{ℕ, _+_, _≤_}
+use Prim.Native.Nat.{ℕ, _+_}
 use mathlib.Core.Bool.{Bool, true, not, _&&_}
 use mathlib.Core.List.{List, [], _∷_, _++_, map, List·Memᴰ, List·Memᴰ·head, List·Memᴰ·tail, List·Memᴰ·not-nil, List·Memᴰ·cases-cons, List·Memᴰ·append-cases, Memᴰ·append-left, Memᴰ·append-right, Memᴰ·cast}
 use mathlib.Core.Logic.{_⊎_, inl, inr, ⊎-elim, ⊎-map, _↔_}
@@ -12,22 +12,8 @@ use Rattle.model.specs.Basics.{select, any, equal}
 use Rattle.model.specs.Moves.{Move, Row, rowOf, sameRow, left, entered}
 use Rattle.model.specs.Notice.{missing, noticeOf}
 use Rattle.model.specs.Laws.Bool.{byCases, and-left, and-right, and-both, not-flip, not-back, both-ways}
-use Rattle.model.specs.Laws.Basics.{mem-each, select-mem, mem-select, select-ext, select-map, any-mem, any-witness, any-map}
+use Rattle.model.specs.Laws.Basics.{equal-refl, equal-true, mem-each, select-mem, mem-select, select-ext, select-map, any-mem, any-witness, any-map}
 use Rattle.model.specs.Laws.Order.{move-path}
-use Rattle.model.specs.Laws.Permuted.{select-sublist, sublist-length}
-
-pub equal-refl : (ps : List ℕ) → equal ps ps ≡ true
-unfolding equal
-equal-refl [] = refl
-equal-refl (p ∷ ps) = and-both (eqb p p) (equal ps ps) (eq-eqb p p refl) (equal-refl ps)
-
-pub equal-true : (ps qs : List ℕ) → equal ps qs ≡ true → ps ≡ qs
-unfolding equal
-equal-true [] [] h = refl
-equal-true [] (q ∷ qs) h = both-ways h refl
-equal-true (p ∷ ps) [] h = both-ways h refl
-equal-true (p ∷ ps) (q ∷ qs) h =
-    ap₂ _∷_ (eqb-true p q (and-left (eqb p q) (equal ps qs) h)) (equal-true ps qs (and-right (eqb p q) (equal ps qs) h))
 
 -- "Rows are compared by number and costs": so are the moves in them, whatever the marks.
 unfoldable pub sameMove : Move → Move → Bool
@@ -133,10 +119,3 @@ notice-length old new =
     ap length (notice-rows old new)
     ∙ length-append (map (rowOf left) (gone old new)) (map (rowOf entered) (gone new old))
     ∙ ap₂ _+_ (length-map (gone old new) (rowOf left)) (length-map (gone new old) (rowOf entered))
-
-gone-length : (ms ns : List Move) → length (gone ms ns) ≤ length ms
-unfolding gone
-gone-length ms ns = sublist-length (select-sublist (λ m. not (among m ns)) ms)
-
-pub notice-length-le : (old new : List Move) → length (noticeOf old new) ≤ length old + length new
-notice-length-le old new = omega (arith, notice-length old new, gone-length old new, gone-length new old)

@@ -1,8 +1,7 @@
 -- Band, on k and chosen costs where each tells the moves that no move dominates, and rank where it tells the whole list.
 use Prim.Native.Nat.{ℕ, zero, suc, _+_, _≤_, _<_}
 use mathlib.Core.Bool.{Bool, true, false, not, cond, _||_, or-false}
-use mathlib.Core.Path.{_≡_, refl, sym, _∙_, ap, ap₂, subst, fun-ext}
-use mathlib.Core.Logic.{_↔_}
+use mathlib.Core.Path.{_≡_, refl, sym, _∙_, ap, ap₂, fun-ext}
 use mathlib.Core.List.{List, [], _∷_, _++_, map, List·Memᴰ}
 use native.Mathlib.Nat.{le-trans, suc-inj}
 use native.Mathlib.Omega.{arith}
@@ -17,7 +16,7 @@ use Rattle.model.specs.Dominance.{better, dominates, at, dominatesAt, do
 use Rattle.model.specs.Lists.{skyline, dominators, band, dominated, rankBefore, rank, onK, chosen}
 use Rattle.model.specs.Laws.Bool.{condCases}
 use Rattle.model.specs.Laws.Basics.{each-mem, mem-each, select-ext, any-ext, select-mem, mem-select, count-cons}
-use Rattle.model.specs.Laws.Sorting.{length-sort, sort-mem, mem-sort}
+use Rattle.model.specs.Laws.Sorting.{length-sort}
 
 -- The moves that no move dominates.
 unfoldable pub undominated : ℕ → List Move → List Move
@@ -158,9 +157,3 @@ rank-all d t ms h =
 
 pub rank-rearranged : (d t : ℕ) (ms : List Move) → length (skyline d ms) ≤ t → Rearranged (rank d t ms) (counted d ms)
 rank-rearranged d t ms h p = ap (count p) (rank-all d t ms h) ∙ sort-rearranged (rankBefore d) (counted d ms) p
-
-pub rank-mem : (d t : ℕ) (ms : List Move) → length (skyline d ms) ≤ t → {r : Row} → List·Memᴰ r (rank d t ms) ↔ List·Memᴰ r (counted d ms)
-rank-mem d t ms h {r} = (
-  λ m. sort-mem (rankBefore d) (counted d ms) (subst (List·Memᴰ r) (rank-all d t ms h) m),
-  λ m. subst (List·Memᴰ r) (sym (rank-all d t ms h)) (mem-sort (rankBefore d) m),
-)

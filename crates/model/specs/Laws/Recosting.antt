@@ -1,31 +1,24 @@
 -- Re-costing: the move of that number stands with its new costs, in its place, and the tree keeps the rules.
 use Prim.Native.Nat.{ℕ}
 use mathlib.Core.Bool.{Bool, true, false, cond, not, _||_}
-use mathlib.Core.Path.{_≡_, refl, sym, ap, ap₂, _∙_, subst}
+use mathlib.Core.Path.{_≡_, refl, sym, ap, _∙_, subst}
 use mathlib.Core.List.{List, [], _∷_, map, List·Memᴰ, List·Permᴰ, List·Permᴰ·cons, List·Permᴰ·swap, List·Permᴰ·trans}
 use borrow.Author.Tests.{eqb-true}
 use lib.Dec.{eqb}
 use Rattle.model.specs.Basics.{Each, consIf, select, any, has, distinct, equal}
 use Rattle.model.specs.Moves.{Move, moveBefore, insert, ordered}
-use Rattle.model.specs.Tree.{Tree, movesOf, filledTree, ruled}
+use Rattle.model.specs.Tree.{Tree, movesOf, ruled}
 use Rattle.model.specs.Entering.{enterTree}
 use Rattle.model.specs.Withdrawing.{without, withdrawTree, costsOn, unchanged, recostTree}
 use Rattle.model.specs.Calls.{onBoard}
 use Rattle.model.specs.Laws.Bool.{condCases, both-ways, not-back, and-left, and-right}
+use Rattle.model.specs.Laws.Basics.{equal-true}
 use Rattle.model.specs.Laws.Sorting.{StrictOrder, each-insert}
 use Rattle.model.specs.Laws.Order.{move-path, has-numbers}
 use Rattle.model.specs.Laws.Permuted.{perm-equal, perm-insert, sorted-ext, sorted-insert, sorted-sublist, rising-sorted, each-sublist}
 use Rattle.model.specs.Laws.Tree.{ruled-ordered}
-use Rattle.model.specs.Laws.Entering.{enter-filled, enter-moves, enter-ruled}
-use Rattle.model.specs.Laws.Withdrawing.{without-off, without-gone, without-sublist, withdraw-filled, withdraw-moves, withdraw-ruled}
-
-equal-path : (ps qs : List ℕ) → equal ps qs ≡ true → ps ≡ qs
-unfolding equal
-equal-path [] [] h = refl
-equal-path [] (q ∷ qs) h = both-ways h refl
-equal-path (p ∷ ps) [] h = both-ways h refl
-equal-path (p ∷ ps) (q ∷ qs) h =
-    ap₂ _∷_ (eqb-true p q (and-left (eqb p q) (equal ps qs) h)) (equal-path ps qs (and-right (eqb p q) (equal ps qs) h))
+use Rattle.model.specs.Laws.Entering.{enter-moves, enter-ruled}
+use Rattle.model.specs.Laws.Withdrawing.{without-off, without-gone, without-sublist, withdraw-moves, withdraw-ruled}
 
 -- ---- equal costs
 
@@ -50,17 +43,11 @@ unchanged-perm x (m ∷ ms) b h u =
         → List·Permᴰ (x ∷ consIf (not t) m (without (x .number) ms)) (m ∷ ms)
     step true e c v again =
         let n = eqb-true (m .number) (x .number) e in
-        List·Permᴰ·cons (move-path x m (sym n, equal-path (x .costs) (m .costs) v))
+        List·Permᴰ·cons (move-path x m (sym n, equal-true (x .costs) (m .costs) v))
         (perm-equal (without-off (x .number) ms (ap (λ (k : ℕ). onBoard k ms) (sym n) ∙ others-off m ms h)))
     step false e c v again = List·Permᴰ·trans (List·Permᴰ·swap refl refl) (List·Permᴰ·cons refl (again c v))
 
 -- ---- the tree after a re-cost
-
-pub recost-filled : (d : ℕ) (x : Move) (t : Tree) → filledTree t ≡ true → filledTree (recostTree d x t) ≡ true
-unfolding recostTree
-recost-filled d x t f =
-    condCases (λ (u : Tree). filledTree u ≡ true) (unchanged (x .number) (x .costs) (movesOf t)) (λ e. f)
-    (λ e. enter-filled d x (withdrawTree d (x .number) t) (withdraw-filled d (x .number) t f))
 
 module _ (d : ℕ) (P : Move → Type 0) (o : StrictOrder P (moveBefore d)) (x : Move) (p : P x) (t : Tree) (r : ruled d t ≡ true)
     (q : Each P (movesOf t)) where

@@ -2,20 +2,19 @@
 -- then at Definition 2's list of a board.
 use Prim.Native.Nat.{ℕ, _≤_}
 use mathlib.Core.Bool.{Bool, true, false, not, cond, _||_, false≢true, or-false, or-comm}
-use mathlib.Core.Path.{_≡_, refl, sym, _∙_, ap, ap₂, subst, fun-ext}
-use mathlib.Core.Logic.{⊎-elim}
-use mathlib.Core.List.{List, [], _∷_, _++_, map, append-nil, cons≢nil, List·Memᴰ, List·Memᴰ·head, List·Memᴰ·cases-cons, List·Memᴰ·append-cases, Memᴰ·append-left, Memᴰ·append-right}
+use mathlib.Core.Path.{_≡_, refl, sym, _∙_, ap, subst}
+use mathlib.Core.List.{List, [], _∷_, _++_, append-nil, List·Memᴰ, List·Memᴰ·head, Memᴰ·append-right}
 use lib.Seq.{append-snoc}
 use Rattle.zorder.specs.Between.{rowCosts}
-use Rattle.model.specs.Basics.{Each, consIf, select, any, insertBy, rising, distinct}
+use Rattle.model.specs.Basics.{Each, consIf, select, any, insertBy, rising}
 use Rattle.model.specs.Moves.{Move, moveBefore, insert, ordered}
 use Rattle.model.specs.Dominance.{hides}
 use Rattle.model.specs.Lists.{hidden, skyline}
 use Rattle.model.specs.Sound.{Fit}
-use Rattle.model.specs.Laws.Bool.{byCases, not-flip, not-back, not-or, or-cases, or-swap, or-false-right, same-test, both-ways}
-use Rattle.model.specs.Laws.Basics.{Once, each-mem, mem-each, each-left, each-right, select-append, select-mem, mem-select, select-ext, select-all, select-select, once-select, any-append, any-mem, any-witness, any-none}
-use Rattle.model.specs.Laws.Sorting.{StrictOrder, BeforeEach, asym, any-insert, select-insert, rising-left, rising-right, rising-head, rising-across, rising-select, rising-once}
-use Rattle.model.specs.Laws.Order.{move-order, distinct-select}
+use Rattle.model.specs.Laws.Bool.{byCases, not-flip, not-back, or-cases, or-swap, same-test, both-ways}
+use Rattle.model.specs.Laws.Basics.{Once, each-mem, mem-each, each-left, each-right, select-append, select-mem, mem-select, select-ext, once-select, any-append, any-mem, any-witness, any-none}
+use Rattle.model.specs.Laws.Sorting.{StrictOrder, BeforeEach, asym, any-insert, rising-left, rising-right, rising-head, rising-across, rising-select, rising-once}
+use Rattle.model.specs.Laws.Order.{move-order}
 use Rattle.model.specs.Laws.Dominance.{Hiding, move-hiding}
 
 module _ {A : Type 0} (hides : A → A → Bool) where
@@ -87,17 +86,6 @@ module _ {A : Type 0} (hides : A → A → Bool) where
     pub remove-shown : (m : A) → hiddenIn hides (xs ++ g ∷ ys) m ≡ true → hiddenIn hides (xs ++ ys) m ≡ false → hides g m ≡ true
     remove-shown m e n =
         or-cases (hides g m) (hiddenIn hides (xs ++ ys) m) (sym (remove-hidden m) ∙ e) (λ h. h) (λ h. both-ways h n)
-
-    -- .. and what stays listed.
-    pub remove-listed : {m : A} → List·Memᴰ m (unhidden hides (xs ++ g ∷ ys)) → (m ≡ g → ⊥) → List·Memᴰ m (unhidden hides (xs ++ ys))
-    remove-listed {m} k n =
-        let s = unhidden-mem (xs ++ g ∷ ys) k in
-        mem-unhidden (other (s .0)) (or-false-right (hides g m) (hiddenIn hides (xs ++ ys) m) (sym (remove-hidden m) ∙ s .1))
-      where
-        other : List·Memᴰ m (xs ++ g ∷ ys) → List·Memᴰ m (xs ++ ys)
-        other l =
-            ⊎-elim (Memᴰ·append-left ys) (λ h. ⊎-elim (λ e. absurd (n e)) (Memᴰ·append-right xs) (List·Memᴰ·cases-cons h))
-            (List·Memᴰ·append-cases xs l)
 
 -- ---- what holds of a list in order
 
@@ -191,16 +179,6 @@ module _ {A : Type 0} {P : A → Type 0} {lt hides : A → A → Bool} (o : Stri
 
   -- ---- the first entry is listed
 
-  pub unhidden-cons : (m : A) (ms : List A) → Each P (m ∷ ms) → rising lt (m ∷ ms) ≡ true
-      → unhidden hides (m ∷ ms) ≡ m ∷ select (λ n. not (hiddenIn hides (m ∷ ms) n)) ms
-  unfolding select any
-  unhidden-cons m ms es r =
-      ap (λ (b : Bool). consIf (not b) m (select (λ n. not (hiddenIn hides (m ∷ ms) n)) ms)) (earlier-enough [] m ms es r)
-
-  pub unhidden-empty : (ms : List A) → Each P ms → rising lt ms ≡ true → unhidden hides ms ≡ [] → ms ≡ []
-  unhidden-empty [] es r e = refl
-  unhidden-empty (m ∷ ms) es r e = absurd (cons≢nil (sym (unhidden-cons m ms es r) ∙ e))
-
   -- ---- a pass from the front finds the list
 
   unhidden-snoc : (xs : List A) (m : A) → Each P (xs ++ m ∷ []) → rising lt (xs ++ m ∷ []) ≡ true
@@ -231,43 +209,6 @@ module _ {A : Type 0} {P : A → Type 0} {lt hides : A → A → Bool} (o : Stri
   insert-hidden-self x ms p =
       any-insert lt (λ q. hides q x) x ms ∙ ap (λ (b : Bool). b || hiddenIn hides ms x) (v .irrefl x p)
 
-  module _ (x : A) (ms : List A) (p : P x) (es : Each P ms) (r : rising lt ms ≡ true) where
-    left : List A
-    left = select (λ m. not (hides x m)) (unhidden hides ms)
-
-    insert-unhidden : unhidden hides (insertBy lt x ms) ≡ cond (not (hiddenIn hides ms x)) (insertBy lt x left) left
-    unfolding left
-    insert-unhidden =
-        select-insert P lt o shown x ms p es r
-        ∙ ap₂ (λ (b : Bool) (l : List A). cond (not b) (insertBy lt x l) l) (insert-hidden-self x ms p)
-        (ap (λ (t : A → Bool). select t ms) (fun-ext (λ m. ap not (insert-hidden hides lt x ms m) ∙ not-or (hiddenIn hides ms m) (hides x m)))
-        ∙ sym (select-select (λ m. not (hides x m)) (λ m. not (hiddenIn hides ms m)) ms))
-      where
-        shown : A → Bool
-        shown m = not (hiddenIn hides (insertBy lt x ms) m)
-
-    -- An entry that is hidden leaves the list as it was ..
-    pub insert-unlisted : hiddenIn hides ms x ≡ true → unhidden hides (insertBy lt x ms) ≡ unhidden hides ms
-    unfolding left
-    insert-unlisted e =
-        insert-unhidden
-        ∙ ap (λ (b : Bool). cond (not b) (insertBy lt x left) left) e
-        ∙ select-all (λ m. not (hides x m)) (unhidden hides ms)
-        (mem-each (λ m. not (hides x m) ≡ true) (unhidden hides ms) (λ m k. not-flip (hides x m) (spared m (unhidden-mem hides ms k))))
-      where
-        spared : (m : A) → List·Memᴰ m ms × (hiddenIn hides ms m ≡ false) → hides x m ≡ false
-        spared m k =
-            byCases (hides x m)
-            (λ h. let w = any-witness (λ q. hides q x) ms e in
-            both-ways (any-mem (λ q. hides q m) (w .1) (v .trans (w .0) x m (each-mem P es (w .1)) p (each-mem P es (k .0)) (w .2) h)) (k .1))
-            (λ h. h)
-
-    -- .. and another is put into it, in place of those that it hides.
-    pub insert-listed : hiddenIn hides ms x ≡ false
-        → unhidden hides (insertBy lt x ms) ≡ insertBy lt x (select (λ m. not (hides x m)) (unhidden hides ms))
-    unfolding left
-    insert-listed e = insert-unhidden ∙ ap (λ (b : Bool). cond (not b) (insertBy lt x left) left) e
-
 -- ---- the list of a board
 
 module _ (d : ℕ) where
@@ -279,26 +220,14 @@ module _ (d : ℕ) where
   unfolding skyline hidden
   mem-skyline = mem-unhidden (hides d)
 
-  pub skyline-distinct : (ms : List Move) → distinct (map (λ m. m .number) ms) ≡ true → distinct (map (λ m. m .number) (skyline d ms)) ≡ true
-  unfolding skyline
-  skyline-distinct ms = distinct-select (λ m. m .number) (λ m. not (hidden d ms m)) ms
-
   pub enter-hidden : (x : Move) (ms : List Move) (m : Move) → hidden d (insert d x ms) m ≡ (hidden d ms m || hides d x m)
   unfolding hidden insert
   enter-hidden = insert-hidden (hides d) (moveBefore d)
 
   module _ (xs : List Move) (g : Move) (ys : List Move) where
-    pub leave-hidden : (m : Move) → hidden d (xs ++ g ∷ ys) m ≡ (hides d g m || hidden d (xs ++ ys) m)
-    unfolding hidden
-    leave-hidden = remove-hidden (hides d) xs g ys
-
     pub leave-shown : (m : Move) → hidden d (xs ++ g ∷ ys) m ≡ true → hidden d (xs ++ ys) m ≡ false → hides d g m ≡ true
     unfolding hidden
     leave-shown = remove-shown (hides d) xs g ys
-
-    pub leave-listed : {m : Move} → List·Memᴰ m (skyline d (xs ++ g ∷ ys)) → (m ≡ g → ⊥) → List·Memᴰ m (skyline d (xs ++ ys))
-    unfolding skyline hidden
-    leave-listed = remove-listed (hides d) xs g ys
 
 module _ (d c : ℕ) (l : d ≤ rowCosts) where
   module _ (ms : List Move) (es : Each (Fit c d) ms) (r : ordered d ms ≡ true) where
@@ -322,10 +251,6 @@ module _ (d c : ℕ) (l : d ≤ rowCosts) where
     unfolding skyline hidden ordered
     skyline-once = unhidden-once (move-order d c l) (move-hiding d c l) ms es r
 
-    pub skyline-empty : skyline d ms ≡ [] → ms ≡ []
-    unfolding skyline hidden ordered
-    skyline-empty = unhidden-empty (move-order d c l) (move-hiding d c l) ms es r
-
   module _ (xs : List Move) (m : Move) (ys : List Move) (es : Each (Fit c d) (xs ++ m ∷ ys)) (r : ordered d (xs ++ m ∷ ys) ≡ true) where
     pub skyline-earlier : hidden d (xs ++ m ∷ ys) m ≡ hidden d xs m
     unfolding hidden ordered
@@ -343,12 +268,3 @@ module _ (d c : ℕ) (l : d ≤ rowCosts) where
   pub enter-hidden-self : (x : Move) (ms : List Move) → Fit c d x → hidden d (insert d x ms) x ≡ hidden d ms x
   unfolding hidden insert
   enter-hidden-self = insert-hidden-self (move-order d c l) (move-hiding d c l)
-
-  module _ (x : Move) (ms : List Move) (p : Fit c d x) (es : Each (Fit c d) ms) (r : ordered d ms ≡ true) where
-    pub enter-unlisted : hidden d ms x ≡ true → skyline d (insert d x ms) ≡ skyline d ms
-    unfolding skyline hidden ordered insert
-    enter-unlisted = insert-unlisted (move-order d c l) (move-hiding d c l) x ms p es r
-
-    pub enter-listed : hidden d ms x ≡ false → skyline d (insert d x ms) ≡ insert d x (select (λ m. not (hides d x m)) (skyline d ms))
-    unfolding skyline hidden ordered insert
-    enter-listed = insert-listed (move-order d c l) (move-hiding d c l) x ms p es r

@@ -93,6 +93,10 @@ unfolding rootLeast
 rootLeast-range zero = omega arith
 rootLeast-range (suc h) = omega arith
 
+pub moves-append : (h : ℕ) (es fs : List (Entry h)) → movesUnder (suc h) (es ++ fs) ≡ movesUnder (suc h) es ++ movesUnder (suc h) fs
+unfolding movesUnder
+moves-append h = flatMap-append (movesUnder h)
+
 -- ---- leaves
 
 pub leaf-moves : (ms : List Move) → movesUnder 1 ms ≡ ms

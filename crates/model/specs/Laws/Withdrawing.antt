@@ -196,9 +196,6 @@ module _ (d : ℕ) (P : Move → Type 0) (o : StrictOrder P (moveBefore d)) (n :
     withdraw-moves =
         withdraw-moves-sorted t (ruled-filled d t r) q (rising-sorted (moveBefore d) P o (movesOf t) q (ruled-ordered d t r))
 
-    pub withdraw-off : onBoard n (movesOf t) ≡ false → movesOf (withdrawTree d n t) ≡ movesOf t
-    withdraw-off h = withdraw-moves ∙ without-off n (movesOf t) h
-
     pub withdraw-ruled : ruled d (withdrawTree d n t) ≡ true
     unfolding ordered without
     withdraw-ruled =

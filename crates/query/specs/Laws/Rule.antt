@@ -12,7 +12,7 @@ use borrow.Author.Tests.{leb-true, le-leb, ltb-true, le-ltb}
 use Rattle.model.specs.Basics.{consIf, select, any, all, count, parts, numbersFrom}
 use Rattle.model.specs.Dominance.{less, nowhereGreater, somewhereLess, better, at, dominatesAt, dominatesOn}
 use Rattle.model.specs.Lists.{chosenCosts}
-use Rattle.model.specs.Laws.Bool.{same-test, or-cases, or-left, and-left, and-both, both-ways, not-flip, condCases}
+use Rattle.model.specs.Laws.Bool.{less-turn, one-turn, same-test, or-cases, or-left, and-left, and-both, both-ways, not-flip, condCases}
 use Rattle.model.specs.Laws.Basics.{any-append, any-map, any-witness, count-cons, count-pos}
 
 -- ---- some k entries that all pass one test, and one of which passes another
@@ -163,12 +163,6 @@ fit-turn : (g : Bool) (fit n all : ℕ) → fit + cond (not g) (suc n) n ≡ all
 fit-turn true fit n all e = e
 fit-turn false fit n all e = omega arith
 
-less-turn : (s l m : Bool) → (s || (l || m)) ≡ (cond l true s || m)
-less-turn true true m = refl
-less-turn true false m = refl
-less-turn false true m = refl
-less-turn false false m = refl
-
 module _ (d : ℕ) (p q : List ℕ) where
   -- What is found so far, and what is left to find, give the whole.
   pub record Counted (fit : ℕ) (somewhere : Bool) (i : ℕ) : Type 0 where
@@ -213,10 +207,6 @@ module _ (d : ℕ) (p q : List ℕ) where
       (sym (c .fitting) ∙ ap (λ (s : List ℕ). fit + count (fits p q) s) (from-end d i h) ∙ add-zero fit)
 
 -- ---- on chosen costs, decided cost by cost
-
-one-turn : (g l s n m : Bool) → ((not g && n) && (s || (l || m))) ≡ cond g false (n && (cond l true s || m))
-one-turn true l s n m = refl
-one-turn false l s n m = ap (λ (b : Bool). n && b) (less-turn s l m)
 
 module _ (d set : ℕ) (p q : List ℕ) where
   abbrev chosen : ℕ → Bool

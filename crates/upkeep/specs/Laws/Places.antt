@@ -13,7 +13,7 @@ use Rattle.model.specs.Moves.{Move}
 use Rattle.model.specs.Laws.Basics.{select-all, any-map, count-append, count-cons}
 use Rattle.promises.specs.Layout.{tab}
 use Rattle.memory.specs.Tests.{anyTo}
-use Rattle.memory.specs.Laws.Tab.{tab-cons, tab-ext}
+use Rattle.promises.specs.Laws.Tab.{tab-cons, tab-ext}
 use Rattle.memory.specs.Laws.Places.{any-tab}
 use Rattle.upkeep.specs.Change.{dropAt}
 

@@ -6,12 +6,9 @@ use Rattle.loading.proofs.Judging.{input-held}
 use Rattle.loading.proofs.judge.number_of.Statement.{statement}
 use Rattle.loading.proofs.judge.number_of.Tie as tie
 
-array-read-result : tie.Need-array-read-result
-array-read-result c = search needs
-
 returns : tie.Need-returns
 unfolding inputRow
 returns c = (refl, input-held (c .good .0))
 
 pub number-of-spec : {M : Type 1} → statement M
-number-of-spec = tie.close (tie.spec array-read-result returns)
+number-of-spec = tie.close (tie.spec (λ c. search needs) returns)

@@ -6,7 +6,7 @@ use native.Mathlib.Omega.{arith}
 use lib.ListN.{length, set}
 use Rattle.zorder.proofs.Fill.{filled, filled-none, filled-more, filled-all}
 use Rattle.promises.specs.Layout.{costPlace, costIn, tab, costsIn}
-use Rattle.memory.specs.Laws.Tab.{length-tab, getD-tab}
+use Rattle.promises.specs.Laws.Tab.{length-tab, getD-tab}
 use Rattle.memory.proofs.fields.costs_of.Statement.{statement}
 use Rattle.memory.proofs.fields.costs_of.Tie as tie
 

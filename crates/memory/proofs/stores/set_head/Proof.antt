@@ -10,21 +10,6 @@ use Rattle.memory.specs.Stores.{setHead}
 use Rattle.memory.proofs.stores.set_head.Statement.{statement}
 use Rattle.memory.proofs.stores.set_head.Tie as tie
 
-cast-set-word : tie.Need-cast-set-word
-cast-set-word c = search needs
-
-set-word-requires : tie.Need-set-word-requires
-set-word-requires c κs = search needs
-
-cast-m : tie.Need-cast-m
-cast-m c = search needs
-
-slice-write-m : tie.Need-slice-write-m
-slice-write-m c = search needs
-
-cast-set-word-2 : tie.Need-cast-set-word-2
-cast-set-word-2 c = search needs
-
 set-word-requires-2 : tie.Need-set-word-requires-2
 set-word-requires-2 c κs = simp length-set (omega arith)
 
@@ -43,11 +28,11 @@ pub set-head-spec : {M : Type 1} → statement M
 set-head-spec =
     tie.close
     (tie.spec
-    cast-set-word
-    set-word-requires
-    cast-m
-    slice-write-m
-    cast-set-word-2
+    (λ c. search needs)
+    (λ c κs. search needs)
+    (λ c. search needs)
+    (λ c. search needs)
+    (λ c. search needs)
     set-word-requires-2
     same-length
     returns)

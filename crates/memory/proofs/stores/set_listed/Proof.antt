@@ -9,24 +9,6 @@ use Rattle.memory.specs.Stores.{setListed}
 use Rattle.memory.proofs.stores.set_listed.Statement.{statement}
 use Rattle.memory.proofs.stores.set_listed.Tie as tie
 
-mul-m : tie.Need-mul-m
-mul-m c = search needs
-
-add-m : tie.Need-add-m
-add-m c = search needs
-
-cast-m : tie.Need-cast-m
-cast-m c = search needs
-
-add-m-2 : tie.Need-add-m-2
-add-m-2 c = search needs
-
-slice-write-m : tie.Need-slice-write-m
-slice-write-m c = search needs
-
-same-length : tie.Need-same-length
-same-length c = search needs
-
 returns : tie.Need-returns
 unfolding setListed markPlace
 returns c =
@@ -38,4 +20,4 @@ returns c =
     (c .if1 .came))
 
 pub set-listed-spec : {M : Type 1} → statement M
-set-listed-spec = tie.close (tie.spec mul-m add-m cast-m add-m-2 slice-write-m same-length returns)
+set-listed-spec = tie.close (tie.spec (λ c. search needs) (λ c. search needs) (λ c. search needs) (λ c. search needs) (λ c. search needs) (λ c. search needs) returns)

@@ -1,34 +1,19 @@
 -- `enter::enter_line` meets its contract. Assumes nothing.
 use native.Mathlib.Omega.{arith}
 use borrow.Author.Needs.{needs}
-use Rattle.tree.proofs.Entered.{entered-first, put-asked, cascade-asked, entered-more}
+use Rattle.tree.specs.Laws.Entered.{entered-first, put-asked, cascade-asked, entered-more}
 use Rattle.tree.proofs.enter.enter_line.Statement.{statement}
 use Rattle.tree.proofs.enter.enter_line.Tie as tie
-
-insert-row-requires : tie.Need-insert-row-requires
-insert-row-requires c κs = search needs
-
-same-length : tie.Need-same-length
-same-length c = search needs
 
 returns : tie.Need-returns
 returns c = entered-first (c .before .before .before .before .before .before .pre) (c .before .before .before .before .if1 .taken) (c .before .before .insert-row .ensures)
 
-place-for-requires : tie.Need-place-for-requires
-place-for-requires c κs = search needs
-
 put-row-requires : tie.Need-put-row-requires
 put-row-requires c κs = put-asked (c .before .before .before .before .before .pre) (omega (arith, c .before .before .before .if1 .left)) (c .before .place-for .ensures .1)
-
-add-cascade : tie.Need-add-cascade
-add-cascade c = search needs
 
 cascade-requires : tie.Need-cascade-requires
 cascade-requires c κs =
     cascade-asked (c .before .before .before .before .before .before .before .before .before .pre) (omega (arith, c .before .before .before .before .before .before .before .if1 .left)) (c .before .before .before .before .before .place-for .ensures .1) (c .before .before .before .put-row .ensures)
-
-same-length-2 : tie.Need-same-length-2
-same-length-2 c = search needs
 
 returns-2 : tie.Need-returns-2
 returns-2 c =
@@ -39,12 +24,12 @@ pub enter-line-spec : {M : Type 1} → statement M
 enter-line-spec =
     tie.close
     (tie.spec
-    insert-row-requires
-    same-length
+    (λ c κs. search needs)
+    (λ c. search needs)
     returns
-    place-for-requires
+    (λ c κs. search needs)
     put-row-requires
-    add-cascade
+    (λ c. search needs)
     cascade-requires
-    same-length-2
+    (λ c. search needs)
     returns-2)

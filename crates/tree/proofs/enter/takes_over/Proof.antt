@@ -3,7 +3,7 @@ use Prim.Native.Nat.{_-_}
 use native.Mathlib.Omega.{arith}
 use borrow.Author.Needs.{needs}
 use Rattle.dominance.specs.Move.{asMove}
-use Rattle.tree.proofs.Putting.{over-first, over-past, over-none, over-gap}
+use Rattle.tree.specs.Laws.Putting.{over-first, over-past, over-none, over-gap}
 use Rattle.tree.proofs.enter.takes_over.Statement.{statement}
 use Rattle.tree.proofs.enter.takes_over.Tie as tie
 
@@ -13,47 +13,20 @@ returns c = let start = c .before .before in over-first (start .pre) (asMove (st
 returns-2 : tie.Need-returns-2
 returns-2 c = let start = c .before .before .before in over-past (start .pre) (asMove (start .args .x)) (omega arith) (omega arith)
 
-height-at-requires : tie.Need-height-at-requires
-height-at-requires c κs = search needs
-
 returns-3 : tie.Need-returns-3
 returns-3 c =
     let start = c .before .before .before .before .before in
     over-none (start .pre) (asMove (start .args .x)) (omega arith) (omega arith) (omega arith)
-
-sub-node-start : tie.Need-sub-node-start
-sub-node-start c = search needs
-
-node-start-requires : tie.Need-node-start-requires
-node-start-requires c κs = search needs
-
-number-at-requires : tie.Need-number-at-requires
-number-at-requires c κs = search needs
 
 costs-of-requires : tie.Need-costs-of-requires
 costs-of-requires c κs =
     let p = c .before .before .before .before .before .before .before .pre in
     (p .room, omega (arith, p .numbers (c .before .node-start .result) (omega arith)), p .dimension)
 
-node-end-requires : tie.Need-node-end-requires
-node-end-requires c κs = search needs
-
-sub-number-at : tie.Need-sub-number-at
-sub-number-at c = search needs
-
-number-at-requires-2 : tie.Need-number-at-requires-2
-number-at-requires-2 c κs = search needs
-
 costs-of-requires-2 : tie.Need-costs-of-requires-2
 costs-of-requires-2 c κs =
     let p = c .before .before .before .before .before .before .before .before .before .before .pre in
     (p .room, omega (arith, p .numbers (c .before .node-end .result - 1) (omega arith)), p .dimension)
-
-side-of-requires : tie.Need-side-of-requires
-side-of-requires c κs = search needs
-
-side-of-requires-2 : tie.Need-side-of-requires-2
-side-of-requires-2 c κs = search needs
 
 returns-4 : tie.Need-returns-4
 returns-4 c =
@@ -70,16 +43,16 @@ takes-over-spec =
     (tie.spec
     returns
     returns-2
-    height-at-requires
+    (λ c κs. search needs)
     returns-3
-    sub-node-start
-    node-start-requires
-    number-at-requires
+    (λ c. search needs)
+    (λ c κs. search needs)
+    (λ c κs. search needs)
     costs-of-requires
-    node-end-requires
-    sub-number-at
-    number-at-requires-2
+    (λ c κs. search needs)
+    (λ c. search needs)
+    (λ c κs. search needs)
     costs-of-requires-2
-    side-of-requires
-    side-of-requires-2
+    (λ c κs. search needs)
+    (λ c κs. search needs)
     returns-4)

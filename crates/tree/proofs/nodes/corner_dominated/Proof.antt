@@ -7,7 +7,7 @@ use mathlib.Core.Path.{_≡_, sym, ap, _∙_, subst}
 use native.Mathlib.Omega.{arith}
 use Rattle.model.specs.Dominance.{dominates}
 use Rattle.tree.specs.Search.{cornerDominated}
-use Rattle.tree.proofs.Search.{corner-none, corner-more, corner-found}
+use Rattle.tree.specs.Laws.Search.{corner-none, corner-more, corner-found}
 use Rattle.tree.proofs.nodes.corner_dominated.Statement.{statement}
 use Rattle.tree.proofs.nodes.corner_dominated.Tie as tie
 
@@ -20,17 +20,11 @@ abbrev μ-loop : tie.MeasureT-loop
 loop-holds : tie.Need-loop-holds Inv-loop μ-loop
 loop-holds c = let a = c .before .args in (omega arith, corner-none (a .c) (a .d) (a .m .now) (a .corner))
 
-number-at-requires : tie.Need-number-at-requires Inv-loop μ-loop
-number-at-requires c κs = omega arith
-
 is-listed-requires : tie.Need-is-listed-requires Inv-loop μ-loop
 is-listed-requires c κs = omega (arith, c .before .before .before .before .pre .2 (c .before .before .loop .j) (omega arith))
 
 costs-of-requires : tie.Need-costs-of-requires Inv-loop μ-loop
 costs-of-requires c κs = omega (arith, c .before .before .before .before .before .before .pre .2 (c .before .before .before .before .loop .j) (omega arith))
-
-dominates-requires : tie.Need-dominates-requires Inv-loop μ-loop
-dominates-requires c κs = omega arith
 
 returns : tie.Need-returns Inv-loop μ-loop
 returns c =
@@ -41,12 +35,6 @@ returns c =
     (corner-found (a .c) (a .d) (a .m .now) (a .corner) j (at .result) (at .ensures) (a .n) (omega arith)
     (sym (c .before .before .before .before .is-listed .ensures) ∙ c .before .before .before .if1 .taken)
     (ap (λ (p : List ℕ). dominates (a .d) p (a .corner)) (sym (c .before .before .costs-of .ensures)) ∙ sym (c .before .dominates .ensures) ∙ c .if2 .taken))
-
-add-j : tie.Need-add-j Inv-loop μ-loop
-add-j c = omega arith
-
-loop-less : tie.Need-loop-less Inv-loop μ-loop
-loop-less c = omega arith
 
 loop-again : tie.Need-loop-again Inv-loop μ-loop
 loop-again c =
@@ -75,12 +63,12 @@ corner-dominated-spec =
     Inv-loop
     μ-loop
     loop-holds
-    number-at-requires
+    (λ c κs. omega arith)
     is-listed-requires
     costs-of-requires
-    dominates-requires
+    (λ c κs. omega arith)
     returns
-    add-j
-    loop-less
+    (λ c. omega arith)
+    (λ c. omega arith)
     loop-again
     returns-2)

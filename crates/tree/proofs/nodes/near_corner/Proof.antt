@@ -3,29 +3,17 @@ use Prim.Native.Nat.{_-_}
 use mathlib.Core.Path.{ap₂, _∙_}
 use native.Mathlib.Omega.{arith}
 use Rattle.zorder.specs.Between.{nearOf}
-use Rattle.tree.proofs.Search.{near-corner}
+use Rattle.tree.specs.Laws.Search.{near-corner}
 use Rattle.tree.proofs.nodes.near_corner.Statement.{statement}
 use Rattle.tree.proofs.nodes.near_corner.Tie as tie
 
-number-at-requires : tie.Need-number-at-requires
-number-at-requires c κs = omega arith
-
 costs-of-requires : tie.Need-costs-of-requires
 costs-of-requires c κs = omega (arith, c .before .before .pre .3 (c .before .before .args .i) (omega arith))
-
-sub-number-at : tie.Need-sub-number-at
-sub-number-at c = omega arith
-
-number-at-requires-2 : tie.Need-number-at-requires-2
-number-at-requires-2 c κs = omega arith
 
 costs-of-requires-2 : tie.Need-costs-of-requires-2
 costs-of-requires-2 c κs =
     let a = c .before .before .before .before .args in
     omega (arith, c .before .before .before .before .pre .3 (a .e - 1) (omega arith))
-
-near-of-requires : tie.Need-near-of-requires
-near-of-requires c κs = omega arith
 
 returns : tie.Need-returns
 returns c =
@@ -40,10 +28,10 @@ pub near-corner-spec : {M : Type 1} → statement M
 near-corner-spec =
     tie.close
     (tie.spec
-    number-at-requires
+    (λ c κs. omega arith)
     costs-of-requires
-    sub-number-at
-    number-at-requires-2
+    (λ c. omega arith)
+    (λ c κs. omega arith)
     costs-of-requires-2
-    near-of-requires
+    (λ c κs. omega arith)
     returns)

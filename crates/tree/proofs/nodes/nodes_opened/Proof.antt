@@ -8,7 +8,7 @@ use native.Mathlib.Omega.{arith}
 use borrow.Author.Tests.{eqb-true, eqb-false}
 use Rattle.model.specs.Laws.Bool.{both-ways}
 use Rattle.promises.specs.Run.{Bytes}
-use Rattle.tree.proofs.Search.{Searchable, sound-searchable, Searching, search-start, counted-one, counted-none, search-on, search-down, search-opened}
+use Rattle.tree.specs.Laws.Search.{Searchable, sound-searchable, Searching, search-start, counted-one, counted-none, search-on, search-down, search-opened}
 use Rattle.tree.proofs.nodes.nodes_opened.Statement.{statement}
 use Rattle.tree.proofs.nodes.nodes_opened.Tie as tie
 
@@ -44,14 +44,8 @@ near-corner-requires c κs =
 corner-dominated-requires : tie.Need-corner-dominated-requires Inv-loop μ-loop
 corner-dominated-requires c κs = let s = c .before .before .before .loop .inv .0 in (s .room, s .rows, s .numbers, s .dimension)
 
-add-opened : tie.Need-add-opened Inv-loop μ-loop
-add-opened c = omega arith
-
 level-at-requires-2 : tie.Need-level-at-requires-2 Inv-loop μ-loop
 level-at-requires-2 c κs = let s = c .before .before .before .before .before .before .before .loop .inv .0 in (s .room, s .rows)
-
-loop-less : tie.Need-loop-less Inv-loop μ-loop
-loop-less c = omega arith
 
 loop-again : tie.Need-loop-again Inv-loop μ-loop
 loop-again c =
@@ -109,9 +103,9 @@ nodes-opened-spec =
     node-end-requires
     near-corner-requires
     corner-dominated-requires
-    add-opened
+    (λ c. omega arith)
     level-at-requires-2
-    loop-less
+    (λ c. omega arith)
     loop-again
     sub-l
     loop-less-2

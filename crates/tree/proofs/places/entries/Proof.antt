@@ -9,7 +9,7 @@ use borrow.Author.Needs.{needs}
 use Rattle.line.specs.Places.{entries}
 use Rattle.promises.specs.Layout.{lineFrom}
 use Rattle.memory.specs.Laws.Lines.{length-line, heightAt-line}
-use Rattle.tree.proofs.Steps.{entry-here, entry-none, entries-end}
+use Rattle.tree.specs.Laws.Steps.{entry-here, entry-none, entries-end}
 use Rattle.tree.proofs.places.entries.Statement.{statement}
 use Rattle.tree.proofs.places.entries.Tie as tie
 
@@ -25,18 +25,6 @@ abbrev μ-loop : tie.MeasureT-loop
 
 loop-holds : tie.Need-loop-holds Inv-loop μ-loop
 loop-holds c = (omega arith, omega arith, omega arith, λ d n h. zero-add _)
-
-height-at-requires : tie.Need-height-at-requires Inv-loop μ-loop
-height-at-requires c κs = search needs
-
-add-k : tie.Need-add-k Inv-loop μ-loop
-add-k c = omega arith
-
-add-i : tie.Need-add-i Inv-loop μ-loop
-add-i c = omega arith
-
-loop-less : tie.Need-loop-less Inv-loop μ-loop
-loop-less c = omega arith
 
 loop-again : tie.Need-loop-again Inv-loop μ-loop
 loop-again c =
@@ -69,4 +57,4 @@ returns c =
 pub entries-spec : {M : Type 1} → statement M
 entries-spec =
     tie.close
-    (tie.spec Inv-loop μ-loop loop-holds height-at-requires add-k add-i loop-less loop-again returns)
+    (tie.spec Inv-loop μ-loop loop-holds (λ c κs. search needs) (λ c. omega arith) (λ c. omega arith) (λ c. omega arith) loop-again returns)

@@ -4,7 +4,7 @@ use mathlib.Core.Path.{_≡_, refl, ap, _∙_}
 use native.Mathlib.Omega.{arith}
 use Rattle.line.specs.Places.{entryAt}
 use Rattle.promises.specs.Layout.{lineFrom}
-use Rattle.tree.proofs.Steps.{entry-turn}
+use Rattle.tree.specs.Laws.Steps.{entry-turn}
 use Rattle.tree.proofs.places.entry_at.Statement.{statement}
 use Rattle.tree.proofs.places.entry_at.Tie as tie
 
@@ -23,12 +23,6 @@ node-end-requires c κs =
     let asked = c .before .before .before .pre in
     let l = c .before .loop in
     (asked .room, asked .rows, omega (arith, l .inv .1 0, asked .inside 0 (l .k) (l .inv .0)))
-
-add-k : tie.Need-add-k Inv-loop μ-loop
-add-k c = omega arith
-
-loop-less : tie.Need-loop-less Inv-loop μ-loop
-loop-less c = omega arith
 
 loop-again : tie.Need-loop-again Inv-loop μ-loop
 loop-again c =
@@ -50,4 +44,4 @@ returns c =
 pub entry-at-spec : {M : Type 1} → statement M
 entry-at-spec =
     tie.close
-    (tie.spec Inv-loop μ-loop loop-holds node-end-requires add-k loop-less loop-again returns)
+    (tie.spec Inv-loop μ-loop loop-holds node-end-requires (λ c. omega arith) (λ c. omega arith) loop-again returns)

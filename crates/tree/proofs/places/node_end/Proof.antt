@@ -8,7 +8,7 @@ use lib.ListN.{drop}
 use Rattle.line.specs.Places.{lower, nodeEnd}
 use Rattle.promises.specs.Layout.{lineFrom}
 use Rattle.memory.specs.Laws.Lines.{length-line, heightAt-line}
-use Rattle.tree.proofs.Steps.{end-first, end-here, end-later, end-last}
+use Rattle.tree.specs.Laws.Steps.{end-first, end-here, end-later, end-last}
 use Rattle.tree.proofs.places.node_end.Statement.{statement}
 use Rattle.tree.proofs.places.node_end.Tie as tie
 
@@ -19,16 +19,10 @@ Inv-loop m c n l p e₀ e =
 abbrev μ-loop : tie.MeasureT-loop
 μ-loop m c n l p e₀ e = n - e
 
-add-e : tie.Need-add-e Inv-loop μ-loop
-add-e c = search needs
-
 loop-holds : tie.Need-loop-holds Inv-loop μ-loop
 loop-holds c =
     let a = c .before .args in
     (omega arith, omega arith, λ d. end-first (a .l) (a .p) (lineFrom (a .c) d (a .n) (a .m .now)))
-
-height-at-requires : tie.Need-height-at-requires Inv-loop μ-loop
-height-at-requires c κs = search needs
 
 returns : tie.Need-returns Inv-loop μ-loop
 returns c =
@@ -44,12 +38,6 @@ returns c =
       after = inv .0;
       within = inv .1;
     }
-
-add-e-2 : tie.Need-add-e-2 Inv-loop μ-loop
-add-e-2 c = search needs
-
-loop-less : tie.Need-loop-less Inv-loop μ-loop
-loop-less c = omega arith
 
 loop-again : tie.Need-loop-again Inv-loop μ-loop
 loop-again c =
@@ -84,11 +72,11 @@ node-end-spec =
     (tie.spec
     Inv-loop
     μ-loop
-    add-e
+    (λ c. search needs)
     loop-holds
-    height-at-requires
+    (λ c κs. search needs)
     returns
-    add-e-2
-    loop-less
+    (λ c. search needs)
+    (λ c. omega arith)
     loop-again
     returns-2)

@@ -8,7 +8,7 @@ use borrow.Author.Needs.{needs}
 use Rattle.line.specs.Places.{nodeStart}
 use Rattle.promises.specs.Layout.{lineFrom}
 use Rattle.memory.specs.Laws.Lines.{heightAt-line}
-use Rattle.tree.proofs.Steps.{start-here, start-earlier, start-first}
+use Rattle.tree.specs.Laws.Steps.{start-here, start-earlier, start-first}
 use Rattle.tree.proofs.places.node_start.Statement.{statement}
 use Rattle.tree.proofs.places.node_start.Tie as tie
 
@@ -22,9 +22,6 @@ abbrev μ-loop : tie.MeasureT-loop
 loop-holds : tie.Need-loop-holds Inv-loop μ-loop
 loop-holds c = (le-refl _, λ d n h. refl)
 
-height-at-requires : tie.Need-height-at-requires Inv-loop μ-loop
-height-at-requires c κs = search needs
-
 returns : tie.Need-returns Inv-loop μ-loop
 returns c =
     let a = c .before .before .before .before .before .args in
@@ -37,12 +34,6 @@ returns c =
           ∙ inv .1 d n h;
       within = inv .0;
     }
-
-sub-s : tie.Need-sub-s Inv-loop μ-loop
-sub-s c = search needs
-
-loop-less : tie.Need-loop-less Inv-loop μ-loop
-loop-less c = omega arith
 
 loop-again : tie.Need-loop-again Inv-loop μ-loop
 loop-again c =
@@ -69,4 +60,4 @@ returns-2 c =
 pub node-start-spec : {M : Type 1} → statement M
 node-start-spec =
     tie.close
-    (tie.spec Inv-loop μ-loop loop-holds height-at-requires returns sub-s loop-less loop-again returns-2)
+    (tie.spec Inv-loop μ-loop loop-holds (λ c κs. search needs) returns (λ c. search needs) (λ c. omega arith) loop-again returns-2)

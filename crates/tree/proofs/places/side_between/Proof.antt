@@ -1,37 +1,13 @@
 -- `places::side_between` meets its contract: the costs of both rows are those of the line. Assumes nothing.
-use Prim.Native.Nat.{ℕ, _≤_}
-use mathlib.Core.List.{List}
 use mathlib.Core.Path.{ap₂, _∙_}
 use native.Mathlib.Omega.{arith}
 use borrow.Author.Needs.{needs}
-use lib.Pow.{pow-mono}
-use Rattle.zorder.specs.Address.{address}
 use Rattle.zorder.specs.Between.{sideOf}
-use Rattle.zorder.specs.Region.{side}
-use Rattle.zorder.specs.Laws.Region.{unkept-le}
+use Rattle.zorder.specs.Laws.Between.{side-small}
 use Rattle.line.specs.Places.{sideAt}
-use Rattle.tree.proofs.Rows.{costs-line}
+use Rattle.tree.specs.Laws.Rows.{costs-line}
 use Rattle.tree.proofs.places.side_between.Statement.{statement}
 use Rattle.tree.proofs.places.side_between.Tie as tie
-
-number-at-requires : tie.Need-number-at-requires
-number-at-requires c κs = search needs
-
-costs-of-requires : tie.Need-costs-of-requires
-costs-of-requires c κs = search needs
-
-number-at-requires-2 : tie.Need-number-at-requires-2
-number-at-requires-2 c κs = search needs
-
-costs-of-requires-2 : tie.Need-costs-of-requires-2
-costs-of-requires-2 c κs = search needs
-
-side-of-requires : tie.Need-side-of-requires
-side-of-requires c κs = search needs
-
-side-small : (d : ℕ) (p q : List ℕ) → sideOf d p q ≤ 65536
-unfolding sideOf side
-side-small d p q = pow-mono (unkept-le d (address d p) (address d q))
 
 returns : tie.Need-returns
 unfolding sideAt
@@ -52,9 +28,9 @@ pub side-between-spec : {M : Type 1} → statement M
 side-between-spec =
     tie.close
     (tie.spec
-    number-at-requires
-    costs-of-requires
-    number-at-requires-2
-    costs-of-requires-2
-    side-of-requires
+    (λ c κs. search needs)
+    (λ c κs. search needs)
+    (λ c κs. search needs)
+    (λ c κs. search needs)
+    (λ c κs. search needs)
     returns)

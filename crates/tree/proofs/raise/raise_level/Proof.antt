@@ -4,7 +4,7 @@ use Prim.Native.Nat.{_-_, _≤_}
 use mathlib.Core.Logic.{⊎-elim}
 use mathlib.Core.Path.{sym, _∙_}
 use native.Mathlib.Omega.{arith}
-use Rattle.tree.proofs.Raising.{Raising, raising-none, raising-at, raising-low, raising-same, raising-more, raising-all}
+use Rattle.tree.specs.Laws.Raising.{Raising, raising-none, raising-at, raising-low, raising-same, raising-more, raising-all}
 use Rattle.tree.proofs.raise.raise_level.Statement.{statement}
 use Rattle.tree.proofs.raise.raise_level.Tie as tie
 
@@ -18,27 +18,6 @@ loop-holds : tie.Need-loop-holds Inv-loop μ-loop
 loop-holds c =
     let a = c .before .args in
     (omega arith, omega arith, raising-none (a .c) (a .n) (a .l) (a .entries) (a .m .now))
-
-height-at-requires : tie.Need-height-at-requires Inv-loop μ-loop
-height-at-requires c κs = omega arith
-
-starts-group-requires : tie.Need-starts-group-requires Inv-loop μ-loop
-starts-group-requires c κs = omega arith
-
-add-set-height : tie.Need-add-set-height Inv-loop μ-loop
-add-set-height c = omega arith
-
-set-height-requires : tie.Need-set-height-requires Inv-loop μ-loop
-set-height-requires c κs = omega arith
-
-add-j : tie.Need-add-j Inv-loop μ-loop
-add-j c = omega arith
-
-add-i : tie.Need-add-i Inv-loop μ-loop
-add-i c = omega arith
-
-loop-less : tie.Need-loop-less Inv-loop μ-loop
-loop-less c = omega arith
 
 loop-again : tie.Need-loop-again Inv-loop μ-loop
 loop-again c =
@@ -78,13 +57,13 @@ raise-level-spec =
     Inv-loop
     μ-loop
     loop-holds
-    height-at-requires
-    starts-group-requires
-    add-set-height
-    set-height-requires
-    add-j
-    add-i
-    loop-less
+    (λ c κs. omega arith)
+    (λ c κs. omega arith)
+    (λ c. omega arith)
+    (λ c κs. omega arith)
+    (λ c. omega arith)
+    (λ c. omega arith)
+    (λ c. omega arith)
     loop-again
     same-length
     returns)

@@ -2,7 +2,7 @@
 -- most half the entries of the one below, so that there are few. Assumes nothing.
 use native.Mathlib.Omega.{arith}
 use borrow.Author.Needs.{needs}
-use Rattle.tree.proofs.Raising.{Levels, levels-none, levels-more, levels-all, levels-few}
+use Rattle.tree.specs.Laws.Raising.{Levels, levels-none, levels-more, levels-all, levels-few}
 use Rattle.tree.proofs.raise.raise_levels.Statement.{statement}
 use Rattle.tree.proofs.raise.raise_levels.Tie as tie
 
@@ -18,14 +18,8 @@ loop-holds c = let a = c .before .args in levels-none (a .c) (a .n) (a .m .now) 
 raise-level-requires : tie.Need-raise-level-requires Inv-loop μ-loop
 raise-level-requires c κs = omega (arith, levels-few (c .before .before .loop .inv) (omega arith))
 
-add-entries : tie.Need-add-entries Inv-loop μ-loop
-add-entries c = omega arith
-
 add-l : tie.Need-add-l Inv-loop μ-loop
 add-l c = omega (arith, levels-few (c .before .before .before .before .before .loop .inv) (omega arith))
-
-loop-less : tie.Need-loop-less Inv-loop μ-loop
-loop-less c = omega arith
 
 loop-again : tie.Need-loop-again Inv-loop μ-loop
 loop-again c =
@@ -36,9 +30,6 @@ loop-again c =
 
 raise-level-requires-2 : tie.Need-raise-level-requires-2 Inv-loop μ-loop
 raise-level-requires-2 c κs = omega (arith, levels-few (c .before .before .loop .inv) (omega arith))
-
-same-length : tie.Need-same-length Inv-loop μ-loop
-same-length c = search needs
 
 returns : tie.Need-returns Inv-loop μ-loop
 returns c =
@@ -55,10 +46,10 @@ raise-levels-spec =
     μ-loop
     loop-holds
     raise-level-requires
-    add-entries
+    (λ c. omega arith)
     add-l
-    loop-less
+    (λ c. omega arith)
     loop-again
     raise-level-requires-2
-    same-length
+    (λ c. search needs)
     returns)

@@ -38,16 +38,10 @@ returns c =
     let a = c .before .args in
     starts (a .n) (a .j) true _ _ (eq-eqb (a .j) 0 (c .if1 .taken)) refl refl
 
-add-if3 : tie.Need-add-if3
-add-if3 c = search needs
-
 returns-2 : tie.Need-returns-2
 returns-2 c =
     let a = c .before .before .before .args in
     starts (a .n) (a .j) false true _ (ne-eqb (a .j) 0 (c .before .before .if1 .left)) (eighth (a .n) (a .j) (c .before .if2 .taken) (c .if3 .taken)) refl
-
-add-if4 : tie.Need-add-if4
-add-if4 c = search needs
 
 returns-3 : tie.Need-returns-3
 returns-3 c =
@@ -77,4 +71,4 @@ returns-5 c =
 
 pub starts-group-spec : {M : Type 1} → statement M
 starts-group-spec =
-    tie.close (tie.spec returns add-if3 returns-2 add-if4 returns-3 returns-4 returns-5)
+    tie.close (tie.spec returns (λ c. search needs) returns-2 (λ c. search needs) returns-3 returns-4 returns-5)

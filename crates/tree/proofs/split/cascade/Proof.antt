@@ -4,7 +4,7 @@ use Prim.Native.Nat.{suc, _+_}
 use mathlib.Core.Path.{ap, _∙_}
 use native.Mathlib.Numerals.{add-one}
 use native.Mathlib.Omega.{arith}
-use Rattle.tree.proofs.Cascade.{Climbed, climb-first, climb-end, climb-few, climb-nine, climb-more}
+use Rattle.tree.specs.Laws.Cascade.{Climbed, climb-first, climb-end, climb-few, climb-nine, climb-more}
 use Rattle.tree.proofs.split.cascade.Statement.{statement}
 use Rattle.tree.proofs.split.cascade.Tie as tie
 
@@ -13,12 +13,6 @@ Inv-loop m₀ c d n p left₀ l₀ m left l = Climbed c d n p m₀ m left l
 
 abbrev μ-loop : tie.MeasureT-loop
 μ-loop m₀ c d n p left₀ l₀ m left l = left
-
-height-at-requires : tie.Need-height-at-requires Inv-loop μ-loop
-height-at-requires c κs = omega arith
-
-add-left : tie.Need-add-left Inv-loop μ-loop
-add-left c = omega arith
 
 loop-holds : tie.Need-loop-holds Inv-loop μ-loop
 loop-holds c =
@@ -53,12 +47,6 @@ cut-requires c κs =
 add-l : tie.Need-add-l Inv-loop μ-loop
 add-l c = let own = c .before .before .before .before .before .before .before .before .before .before .before .before .loop in omega (arith, own .inv .turns, c .before .before .before .before .before .before .before .before .before .before .before .before .before .before .before .before .pre .low)
 
-sub-left : tie.Need-sub-left Inv-loop μ-loop
-sub-left c = omega arith
-
-loop-less : tie.Need-loop-less Inv-loop μ-loop
-loop-less c = omega arith
-
 loop-again : tie.Need-loop-again Inv-loop μ-loop
 loop-again c =
     climb-more (c .before .before .before .before .before .before .before .before .before .before .before .before .before .before .before .before .pre) (c .before .before .before .before .before .before .before .before .before .before .before .before .loop .inv) (c .before .before .before .before .before .before .before .before .before .node-start .ensures) (c .before .before .before .before .before .before .before .node-end .ensures)
@@ -76,8 +64,8 @@ cascade-spec =
     (tie.spec
     Inv-loop
     μ-loop
-    height-at-requires
-    add-left
+    (λ c κs. omega arith)
+    (λ c. omega arith)
     loop-holds
     node-start-requires
     node-end-requires
@@ -87,8 +75,8 @@ cascade-spec =
     returns
     cut-requires
     add-l
-    sub-left
-    loop-less
+    (λ c. omega arith)
+    (λ c. omega arith)
     loop-again
     same-length-2
     returns-2)

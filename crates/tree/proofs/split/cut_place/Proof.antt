@@ -4,8 +4,8 @@ use Prim.Native.Nat.{_+_, _-_}
 use mathlib.Core.Logic.{⊎-elim}
 use native.Mathlib.Omega.{arith}
 use Rattle.promises.specs.Layout.{lineFrom}
-use Rattle.tree.proofs.Steps.{entry-turn}
-use Rattle.tree.proofs.Cut.{Tried, nine-entry, nine-cut, tried-first, tried-less, tried-more, tried-all}
+use Rattle.tree.specs.Laws.Steps.{entry-turn}
+use Rattle.tree.specs.Laws.Cut.{Tried, nine-entry, nine-cut, tried-first, tried-less, tried-more, tried-all}
 use Rattle.tree.proofs.split.cut_place.Statement.{statement}
 use Rattle.tree.proofs.split.cut_place.Tie as tie
 
@@ -14,9 +14,6 @@ Inv-loop m c d n l s e q₀ best₀ least₀ j₀ q best least j = Tried d l s e
 
 abbrev μ-loop : tie.MeasureT-loop
 μ-loop m c d n l s e q₀ best₀ least₀ j₀ q best least j = 6 - j
-
-sub-entry-at : tie.Need-sub-entry-at Inv-loop μ-loop
-sub-entry-at c = omega arith
 
 entry-at-requires : tie.Need-entry-at-requires Inv-loop μ-loop
 entry-at-requires c κs = nine-entry (c .before .pre)
@@ -30,9 +27,6 @@ loop-holds : tie.Need-loop-holds Inv-loop μ-loop
 loop-holds c =
     let a = c .before .before .before .args in
     tried-first (c .before .before .before .pre) (c .before .entry-at .ensures .is (a .d)) (c .cut-sides .ensures)
-
-sub-node-end : tie.Need-sub-node-end Inv-loop μ-loop
-sub-node-end c = omega arith
 
 node-end-requires : tie.Need-node-end-requires Inv-loop μ-loop
 node-end-requires c κs =
@@ -49,12 +43,6 @@ cut-sides-requires-2 c κs =
     nine-cut p (own .j + 1) (omega arith) (omega arith)
     (entry-turn (a .l - 1) (a .s) (own .j) (own .q) (c .node-end .result) (lineFrom (a .c) (a .d) (a .n) (a .m .now)) (own .inv .at)
     (c .node-end .ensures .is (a .d)))
-
-add-j : tie.Need-add-j Inv-loop μ-loop
-add-j c = omega arith
-
-loop-less : tie.Need-loop-less Inv-loop μ-loop
-loop-less c = omega arith
 
 loop-again : tie.Need-loop-again Inv-loop μ-loop
 loop-again c =
@@ -77,14 +65,14 @@ cut-place-spec =
     (tie.spec
     Inv-loop
     μ-loop
-    sub-entry-at
+    (λ c. omega arith)
     entry-at-requires
     cut-sides-requires
     loop-holds
-    sub-node-end
+    (λ c. omega arith)
     node-end-requires
     cut-sides-requires-2
-    add-j
-    loop-less
+    (λ c. omega arith)
+    (λ c. omega arith)
     loop-again
     returns)

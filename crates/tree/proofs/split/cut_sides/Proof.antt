@@ -6,9 +6,6 @@ use borrow.Author.Needs.{needs}
 use Rattle.tree.proofs.split.cut_sides.Statement.{statement}
 use Rattle.tree.proofs.split.cut_sides.Tie as tie
 
-sub-side-between : tie.Need-sub-side-between
-sub-side-between c = search needs
-
 side-between-requires : tie.Need-side-between-requires
 side-between-requires c κs =
     let p = c .before .pre in
@@ -20,9 +17,6 @@ side-between-requires c κs =
       lastNumber = p .numbers _ (omega arith);
       dimension = p .dimension;
     }
-
-sub-side-between-2 : tie.Need-sub-side-between-2
-sub-side-between-2 c = search needs
 
 side-between-requires-2 : tie.Need-side-between-requires-2
 side-between-requires-2 c κs =
@@ -36,9 +30,6 @@ side-between-requires-2 c κs =
       dimension = p .dimension;
     }
 
-add-result : tie.Need-add-result
-add-result c = search needs
-
 returns : tie.Need-returns
 returns c =
     record {
@@ -49,9 +40,9 @@ pub cut-sides-spec : {M : Type 1} → statement M
 cut-sides-spec =
     tie.close
     (tie.spec
-    sub-side-between
+    (λ c. search needs)
     side-between-requires
-    sub-side-between-2
+    (λ c. search needs)
     side-between-requires-2
-    add-result
+    (λ c. search needs)
     returns)

@@ -2,7 +2,7 @@
 use Prim.Native.Nat.{_+_, _-_}
 use mathlib.Core.Path.{_≡_, sym, subst}
 use native.Mathlib.Omega.{arith}
-use Rattle.tree.proofs.Gap.{Closing, closing-none, closing-more, closing-all}
+use Rattle.tree.specs.Laws.Gap.{Closing, closing-none, closing-more, closing-all}
 use Rattle.tree.proofs.withdraw.close_gap.Statement.{statement}
 use Rattle.tree.proofs.withdraw.close_gap.Tie as tie
 
@@ -18,21 +18,6 @@ loop-holds c =
     let p = c .before .pre in
     closing-none (a .c) (a .n) (a .from) (a .to) (p .order) (p .rows) (a .m .now) (p .within)
 
-sub-copy-row : tie.Need-sub-copy-row Inv-loop μ-loop
-sub-copy-row c = omega arith
-
-add-copy-row : tie.Need-add-copy-row Inv-loop μ-loop
-add-copy-row c = omega arith
-
-copy-row-requires : tie.Need-copy-row-requires Inv-loop μ-loop
-copy-row-requires c κs = omega arith
-
-add-i : tie.Need-add-i Inv-loop μ-loop
-add-i c = omega arith
-
-loop-less : tie.Need-loop-less Inv-loop μ-loop
-loop-less c = omega arith
-
 loop-again : tie.Need-loop-again Inv-loop μ-loop
 loop-again c =
     let a = c .before .before .before .before .before .before .before .args in
@@ -40,9 +25,6 @@ loop-again c =
     let own = c .before .before .before .before .before .loop in
     subst (Closing (a .c) (a .n) (a .from) (a .to) (own .i + 1) (a .m .now)) (sym (c .before .before .copy-row .ensures))
     (closing-more (a .c) (a .n) (a .from) (a .to) (p .order) (p .rows) (a .m .now) (own .i) (own .m) (own .inv) (omega arith) (omega arith))
-
-same-length : tie.Need-same-length Inv-loop μ-loop
-same-length c = omega arith
 
 returns : tie.Need-returns Inv-loop μ-loop
 returns c =
@@ -60,11 +42,11 @@ close-gap-spec =
     Inv-loop
     μ-loop
     loop-holds
-    sub-copy-row
-    add-copy-row
-    copy-row-requires
-    add-i
-    loop-less
+    (λ c. omega arith)
+    (λ c. omega arith)
+    (λ c κs. omega arith)
+    (λ c. omega arith)
+    (λ c. omega arith)
     loop-again
-    same-length
+    (λ c. omega arith)
     returns)

@@ -3,7 +3,7 @@ use Prim.Native.Nat.{_+_, _-_}
 use mathlib.Core.Path.{_≡_, sym, subst}
 use native.Mathlib.Omega.{arith}
 use Rattle.tree.specs.Enter.{EnterAsked, Entered}
-use Rattle.tree.proofs.Again.{Entering, entering-none, entering-low, entering-read, entering-asked, entering-more, entering-all}
+use Rattle.tree.specs.Laws.Again.{Entering, entering-none, entering-low, entering-read, entering-asked, entering-more, entering-all}
 use Rattle.tree.proofs.withdraw.enter_saved.Statement.{statement}
 use Rattle.tree.proofs.withdraw.enter_saved.Tie as tie
 
@@ -16,16 +16,10 @@ abbrev μ-loop : tie.MeasureT-loop
 loop-holds : tie.Need-loop-holds Inv-loop μ-loop
 loop-holds c = entering-none (c .before .pre)
 
-work-at-requires : tie.Need-work-at-requires Inv-loop μ-loop
-work-at-requires c κs = omega arith
-
 costs-of-requires : tie.Need-costs-of-requires Inv-loop μ-loop
 costs-of-requires c κs =
     let own = c .before .before .before .before .loop in
     omega (arith, entering-low (c .before .before .before .before .before .before .pre) (own .inv) (omega arith))
-
-add-enter-line : tie.Need-add-enter-line Inv-loop μ-loop
-add-enter-line c = omega arith
 
 enter-line-requires : tie.Need-enter-line-requires Inv-loop μ-loop
 enter-line-requires c κs =
@@ -37,12 +31,6 @@ enter-line-requires c κs =
     subst (λ x. EnterAsked (a .c) (a .d) (a .n + own .j) x (own .m))
     (entering-read (start .pre) (own .inv) (omega arith) (record { number = number .result; costs = costs .result }) (number .ensures) (costs .ensures))
     (entering-asked (start .pre) (own .inv) (omega arith))
-
-add-j : tie.Need-add-j Inv-loop μ-loop
-add-j c = omega arith
-
-loop-less : tie.Need-loop-less Inv-loop μ-loop
-loop-less c = omega arith
 
 loop-again : tie.Need-loop-again Inv-loop μ-loop
 loop-again c =
@@ -56,9 +44,6 @@ loop-again c =
     (subst (λ x. Entered (a .c) (a .d) (a .n + own .j) x (own .m) (after .last .0))
     (sym (entering-read (start .pre) (own .inv) (omega arith) (record { number = number .result; costs = costs .result }) (number .ensures) (costs .ensures)))
     (after .ensures))
-
-same-length : tie.Need-same-length Inv-loop μ-loop
-same-length c = omega arith
 
 returns : tie.Need-returns Inv-loop μ-loop
 returns c =
@@ -74,12 +59,12 @@ enter-saved-spec =
     Inv-loop
     μ-loop
     loop-holds
-    work-at-requires
+    (λ c κs. omega arith)
     costs-of-requires
-    add-enter-line
+    (λ c. omega arith)
     enter-line-requires
-    add-j
-    loop-less
+    (λ c. omega arith)
+    (λ c. omega arith)
     loop-again
-    same-length
+    (λ c. omega arith)
     returns)

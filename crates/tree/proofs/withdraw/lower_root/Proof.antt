@@ -2,7 +2,7 @@
 use Prim.Native.Nat.{_-_}
 use mathlib.Core.Path.{sym, subst}
 use native.Mathlib.Omega.{arith}
-use Rattle.tree.proofs.Lowering.{Lowers, lowers-none, lowers-first, lowers-end, lowers-stop, lowers-more}
+use Rattle.tree.specs.Laws.Lowering.{Lowers, lowers-none, lowers-first, lowers-end, lowers-stop, lowers-more}
 use Rattle.tree.proofs.withdraw.lower_root.Statement.{statement}
 use Rattle.tree.proofs.withdraw.lower_root.Tie as tie
 
@@ -15,34 +15,13 @@ abbrev μ-loop : tie.MeasureT-loop
 returns : tie.Need-returns Inv-loop μ-loop
 returns c = let a = c .before .before .args in lowers-none (a .c) (a .n) (a .m .now) (c .if1 .taken)
 
-height-at-requires : tie.Need-height-at-requires Inv-loop μ-loop
-height-at-requires c κs = omega arith
-
 loop-holds : tie.Need-loop-holds Inv-loop μ-loop
 loop-holds c =
     let a = c .before .before .before .before .args in
     lowers-first (a .c) (a .n) (c .height-at .result) (a .m .now) (omega arith) (c .height-at .ensures)
 
-sub-entries : tie.Need-sub-entries Inv-loop μ-loop
-sub-entries c = omega arith
-
-entries-requires : tie.Need-entries-requires Inv-loop μ-loop
-entries-requires c κs = omega arith
-
-same-length : tie.Need-same-length Inv-loop μ-loop
-same-length c = omega arith
-
 returns-2 : tie.Need-returns-2 Inv-loop μ-loop
 returns-2 c = lowers-stop (omega arith) (c .before .before .before .before .loop .inv) (omega arith) (c .before .entries .ensures) (omega arith)
-
-sub-top : tie.Need-sub-top Inv-loop μ-loop
-sub-top c = omega arith
-
-set-height-requires : tie.Need-set-height-requires Inv-loop μ-loop
-set-height-requires c κs = omega arith
-
-loop-less : tie.Need-loop-less Inv-loop μ-loop
-loop-less c = omega arith
 
 loop-again : tie.Need-loop-again Inv-loop μ-loop
 loop-again c =
@@ -50,9 +29,6 @@ loop-again c =
     let own = c .before .before .before .before .before .before .before .before .loop in
     subst (Lowers (a .c) (a .n) (own .top - 1) (a .m .now)) (sym (c .before .before .set-height .ensures))
     (lowers-more (omega arith) (own .inv) (omega arith) (c .before .before .before .before .before .entries .ensures) (omega arith) (omega arith) (omega arith))
-
-same-length-2 : tie.Need-same-length-2 Inv-loop μ-loop
-same-length-2 c = omega arith
 
 returns-3 : tie.Need-returns-3 Inv-loop μ-loop
 returns-3 c = lowers-end (omega arith) (c .before .loop .inv) (omega arith)
@@ -64,15 +40,15 @@ lower-root-spec =
     Inv-loop
     μ-loop
     returns
-    height-at-requires
+    (λ c κs. omega arith)
     loop-holds
-    sub-entries
-    entries-requires
-    same-length
+    (λ c. omega arith)
+    (λ c κs. omega arith)
+    (λ c. omega arith)
     returns-2
-    sub-top
-    set-height-requires
-    loop-less
+    (λ c. omega arith)
+    (λ c κs. omega arith)
+    (λ c. omega arith)
     loop-again
-    same-length-2
+    (λ c. omega arith)
     returns-3)

@@ -5,7 +5,7 @@ use mathlib.Core.Path.{_≡_, sym, ap, _∙_, subst₂}
 use native.Mathlib.Omega.{arith}
 use Rattle.memory.specs.Stores.{setWork}
 use Rattle.tree.specs.Withdraw.{others}
-use Rattle.tree.proofs.Saving.{Saving, saving-none, saving-less, saving-more}
+use Rattle.tree.specs.Laws.Saving.{Saving, saving-none, saving-less, saving-more}
 use Rattle.tree.proofs.withdraw.save.Statement.{statement}
 use Rattle.tree.proofs.withdraw.save.Tie as tie
 
@@ -19,21 +19,6 @@ loop-holds : tie.Need-loop-holds Inv-loop μ-loop
 loop-holds c =
     let a = c .before .args in
     (omega arith, saving-none (a .c) (a .from) (a .number) (a .m .now))
-
-number-at-requires : tie.Need-number-at-requires Inv-loop μ-loop
-number-at-requires c κs = omega arith
-
-set-work-requires : tie.Need-set-work-requires Inv-loop μ-loop
-set-work-requires c κs = omega arith
-
-add-k : tie.Need-add-k Inv-loop μ-loop
-add-k c = omega arith
-
-add-i : tie.Need-add-i Inv-loop μ-loop
-add-i c = omega arith
-
-loop-less : tie.Need-loop-less Inv-loop μ-loop
-loop-less c = omega arith
 
 loop-again : tie.Need-loop-again Inv-loop μ-loop
 loop-again c =
@@ -51,9 +36,6 @@ loop-again c =
           (saving-less (a .c) (a .from) (a .number) (a .m .now) (own .i) (own .k) (own .m) (own .inv .1) (omega arith) (sym read ∙ w .0 .left)))
           (c .if1 .came),
     )
-
-same-length : tie.Need-same-length Inv-loop μ-loop
-same-length c = omega arith
 
 returns : tie.Need-returns Inv-loop μ-loop
 returns c =
@@ -74,11 +56,11 @@ save-spec =
     Inv-loop
     μ-loop
     loop-holds
-    number-at-requires
-    set-work-requires
-    add-k
-    add-i
-    loop-less
+    (λ c κs. omega arith)
+    (λ c κs. omega arith)
+    (λ c. omega arith)
+    (λ c. omega arith)
+    (λ c. omega arith)
     loop-again
-    same-length
+    (λ c. omega arith)
     returns)

@@ -1,7 +1,7 @@
 -- `withdraw::widened` meets its contract. The loop's invariant: what is left of the widening gives the whole. Assumes nothing.
 use Prim.Native.Nat.{_-_}
 use native.Mathlib.Omega.{arith}
-use Rattle.tree.proofs.Widening.{Widens, widens-first, widens-end, widens-stop, widens-more}
+use Rattle.tree.specs.Laws.Widening.{Widens, widens-first, widens-end, widens-stop, widens-more}
 use Rattle.tree.proofs.withdraw.widened.Statement.{statement}
 use Rattle.tree.proofs.withdraw.widened.Tie as tie
 
@@ -11,26 +11,8 @@ Inv-loop m c n p top from₀ to₀ l₀ from to l = Widens c n p l from to m
 abbrev μ-loop : tie.MeasureT-loop
 μ-loop m c n p top from₀ to₀ l₀ from to l = top - l
 
-height-at-requires : tie.Need-height-at-requires Inv-loop μ-loop
-height-at-requires c κs = omega arith
-
-add-to : tie.Need-add-to Inv-loop μ-loop
-add-to c = omega arith
-
 loop-holds : tie.Need-loop-holds Inv-loop μ-loop
 loop-holds c = widens-first (c .before .before .pre .place)
-
-node-start-requires : tie.Need-node-start-requires Inv-loop μ-loop
-node-start-requires c κs = omega arith
-
-node-end-requires : tie.Need-node-end-requires Inv-loop μ-loop
-node-end-requires c κs = omega arith
-
-sub-entries : tie.Need-sub-entries Inv-loop μ-loop
-sub-entries c = omega arith
-
-entries-requires : tie.Need-entries-requires Inv-loop μ-loop
-entries-requires c κs = omega arith
 
 returns : tie.Need-returns Inv-loop μ-loop
 returns c =
@@ -41,12 +23,6 @@ returns c =
       order = own .inv .order;
       within = own .inv .within;
     }
-
-add-l : tie.Need-add-l Inv-loop μ-loop
-add-l c = omega arith
-
-loop-less : tie.Need-loop-less Inv-loop μ-loop
-loop-less c = omega arith
 
 loop-again : tie.Need-loop-again Inv-loop μ-loop
 loop-again c =
@@ -69,15 +45,15 @@ widened-spec =
     (tie.spec
     Inv-loop
     μ-loop
-    height-at-requires
-    add-to
+    (λ c κs. omega arith)
+    (λ c. omega arith)
     loop-holds
-    node-start-requires
-    node-end-requires
-    sub-entries
-    entries-requires
+    (λ c κs. omega arith)
+    (λ c κs. omega arith)
+    (λ c. omega arith)
+    (λ c κs. omega arith)
     returns
-    add-l
-    loop-less
+    (λ c. omega arith)
+    (λ c. omega arith)
     loop-again
     returns-2)

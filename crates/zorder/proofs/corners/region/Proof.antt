@@ -19,7 +19,8 @@ use Rattle.zorder.specs.Laws.Inverse.{costsOf-costs}
 use Rattle.zorder.specs.declared.RegionAnswer.{RegionAnswer}
 use Rattle.zorder.specs.declared.Verdict.{Verdict}
 use Rattle.zorder.specs.declared.Verdict.the-variants.{Accepted, BadCostCount, BadArgument}
-use Rattle.zorder.proofs.Checks.{three-checks, count-right, address-right, no-detail}
+use Rattle.zorder.specs.Laws.Refusal.{count-right, address-right}
+use Rattle.zorder.proofs.Checks.{three-checks, no-detail}
 use Rattle.zorder.proofs.Row.{take-padded}
 use Rattle.zorder.proofs.corners.region.Statement.{statement}
 use Rattle.zorder.proofs.corners.region.Tie as tie
@@ -87,12 +88,6 @@ first-good c = sym (c .before .too-large .ensures) ∙ c .if2 .left
 second-good : (c : tie.Else3) → addressBad (c .before .before .before .before .before .before .args .d) (c .before .before .before .before .before .before .args .b) ≡ false
 second-good c = sym (c .before .too-large2 .ensures) ∙ c .if3 .left
 
-count-bad-requires : tie.Need-count-bad-requires
-count-bad-requires c κs = search needs
-
-refused-requires : tie.Need-refused-requires
-refused-requires c κs = search needs
-
 returns : tie.Need-returns
 returns c =
     let s = c .before .before in
@@ -104,9 +99,6 @@ too-large-requires c κs = count-right (c .before .before .args .d) (right-count
 
 too-large-requires-2 : tie.Need-too-large-requires-2
 too-large-requires-2 c κs = count-right (c .before .before .before .before .args .d) (right-count (c .before .before)) .1
-
-refused-requires-2 : tie.Need-refused-requires-2
-refused-requires-2 c κs = search needs
 
 returns-2 : tie.Need-returns-2
 returns-2 c =
@@ -145,12 +137,6 @@ near-requires c κs = (right-at (c .before), c .before .unkept .ensures .1)
 far-requires : tie.Need-far-requires
 far-requires c κs = (right-at (c .before .before), c .before .before .unkept .ensures .1)
 
-cast-t15 : tie.Need-cast-t15
-cast-t15 c = search needs
-
-shl-t16 : tie.Need-shl-t16
-shl-t16 c = search needs
-
 returns-3 : tie.Need-returns-3
 returns-3 c =
     let u = c .before .before .before in
@@ -182,17 +168,17 @@ pub region-spec : {M : Type 1} → statement M
 region-spec =
     tie.close
     (tie.spec
-    count-bad-requires
-    refused-requires
+    (λ c κs. search needs)
+    (λ c κs. search needs)
     returns
     too-large-requires
     too-large-requires-2
-    refused-requires-2
+    (λ c κs. search needs)
     returns-2
     unkept-requires
     separated-requires
     near-requires
     far-requires
-    cast-t15
-    shl-t16
+    (λ c. search needs)
+    (λ c. search needs)
     returns-3)

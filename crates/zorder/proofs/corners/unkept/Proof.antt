@@ -47,17 +47,8 @@ counted-here c = counted (c .args .d) (c .args .a) (c .args .b) (c .pre .0) (c .
 cast-zeros : tie.Need-cast-zeros
 cast-zeros c = omega (arith, leading-le 64 (bitXor (c .args .a) (c .args .b)))
 
-mul-result : tie.Need-mul-result
-mul-result c = search needs
-
-sub-result : tie.Need-sub-result
-sub-result c = search needs
-
 sub-result-2 : tie.Need-sub-result-2
 sub-result-2 c = counted-here c .room
-
-div-result : tie.Need-div-result
-div-result c = search needs
 
 sub-result-3 : tie.Need-sub-result-3
 sub-result-3 c = counted-here c .most
@@ -68,4 +59,4 @@ returns c = (counted-here c .count, omega arith)
 pub unkept-spec : {M : Type 1} → statement M
 unkept-spec =
     tie.close
-    (tie.spec cast-zeros mul-result sub-result sub-result-2 div-result sub-result-3 returns)
+    (tie.spec cast-zeros (λ c. search needs) (λ c. search needs) sub-result-2 (λ c. search needs) sub-result-3 returns)

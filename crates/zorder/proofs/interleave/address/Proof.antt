@@ -10,7 +10,8 @@ use Rattle.zorder.specs.Promise.{AddressPromise, numberOf}
 use Rattle.zorder.specs.Refusal.{orZero, allZero, costCountBad, costPastBad, addressRefusal, refusal}
 use Rattle.zorder.specs.declared.Verdict.{Verdict}
 use Rattle.zorder.specs.declared.Verdict.the-variants.{Accepted, BadCostCount, BadArgument}
-use Rattle.zorder.proofs.Checks.{two-checks, count-right, no-detail}
+use Rattle.zorder.specs.Laws.Refusal.{count-right}
+use Rattle.zorder.proofs.Checks.{two-checks, no-detail}
 use Rattle.zorder.proofs.interleave.address.Statement.{statement}
 use Rattle.zorder.proofs.interleave.address.Tie as tie
 
@@ -36,9 +37,6 @@ module _ (d : ℕ) (costs : List ℕ) where
     accepted : allZero (drop d costs) ≡ true → (a : ℕ) → a ≡ definition.address d costs → AddressPromise d costs (record { verdict = Accepted; address = a })
     unfolding numberOf orZero addressRefusal refusal costPastBad
     accepted good a told = promised Accepted a (two-checks false false right (ap not good)) told
-
-count-bad-requires : tie.Need-count-bad-requires
-count-bad-requires c κs = search needs
 
 returns : tie.Need-returns
 returns c =
@@ -76,7 +74,7 @@ pub address-spec : {M : Type 1} → statement M
 address-spec =
     tie.close
     (tie.spec
-    count-bad-requires
+    (λ c κs. search needs)
     returns
     zero-past-requires
     interleaved-requires

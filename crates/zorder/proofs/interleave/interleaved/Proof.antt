@@ -29,21 +29,6 @@ Inv-loop d costs a₀ j₀ a j = (j ≤ 16) × Whole d (λ (k : ℕ). groups k (
 abbrev μ-loop : tie.MeasureT-loop
 μ-loop d costs a₀ j₀ a j = j
 
-loop-holds : tie.Need-loop-holds Inv-loop μ-loop
-loop-holds c = omega arith
-
-sub-j : tie.Need-sub-j Inv-loop μ-loop
-sub-j c = omega arith
-
-shl-a : tie.Need-shl-a Inv-loop μ-loop
-shl-a c = omega arith
-
-group-requires : tie.Need-group-requires Inv-loop μ-loop
-group-requires c κs = omega arith
-
-loop-less : tie.Need-loop-less Inv-loop μ-loop
-loop-less c = omega arith
-
 loop-again : tie.Need-loop-again Inv-loop μ-loop
 loop-again c =
     let a = c .before .before .before .args in
@@ -72,4 +57,4 @@ returns c =
 pub interleaved-spec : {M : Type 1} → statement M
 interleaved-spec =
     tie.close
-    (tie.spec Inv-loop μ-loop loop-holds sub-j shl-a group-requires loop-less loop-again returns)
+    (tie.spec Inv-loop μ-loop (λ c. omega arith) (λ c. omega arith) (λ c. omega arith) (λ c κs. omega arith) (λ c. omega arith) loop-again returns)

@@ -7,9 +7,6 @@ use Rattle.zorder.proofs.Bits.{and-one}
 use Rattle.zorder.proofs.separate.bit.Statement.{statement}
 use Rattle.zorder.proofs.separate.bit.Tie as tie
 
-shr-result : tie.Need-shr-result
-shr-result c = search needs
-
 cast-result : tie.Need-cast-result
 cast-result c = omega (arith, and-one (c .args .a / 2 ^ c .args .place))
 
@@ -18,4 +15,4 @@ unfolding bit
 returns c = omega (arith, and-one (c .args .a / 2 ^ c .args .place))
 
 pub bit-spec : {M : Type 1} → statement M
-bit-spec = tie.close (tie.spec shr-result cast-result returns)
+bit-spec = tie.close (tie.spec (λ c. search needs) cast-result returns)

@@ -35,12 +35,6 @@ place-in c =
     let a = c .before .before .args in
     place-lt (a .d) (a .e) (c .before .loop .j) (omega arith) (omega arith) (omega arith) (omega arith)
 
-loop-holds : tie.Need-loop-holds Inv-loop μ-loop
-loop-holds c = omega arith
-
-sub-j : tie.Need-sub-j Inv-loop μ-loop
-sub-j c = omega arith
-
 mul-bit : tie.Need-mul-bit Inv-loop μ-loop
 mul-bit c = omega (arith, place-in c)
 
@@ -49,9 +43,6 @@ add-bit c = omega (arith, place-in c)
 
 bit-requires : tie.Need-bit-requires Inv-loop μ-loop
 bit-requires c κs = place-in c
-
-loop-less : tie.Need-loop-less Inv-loop μ-loop
-loop-less c = omega arith
 
 loop-again : tie.Need-loop-again Inv-loop μ-loop
 loop-again c =
@@ -75,11 +66,11 @@ cost-in-spec =
     (tie.spec
     Inv-loop
     μ-loop
-    loop-holds
-    sub-j
+    (λ c. omega arith)
+    (λ c. omega arith)
     mul-bit
     add-bit
     bit-requires
-    loop-less
+    (λ c. omega arith)
     loop-again
     returns)

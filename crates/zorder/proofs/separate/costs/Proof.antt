@@ -10,7 +10,8 @@ use Rattle.zorder.specs.Promise.{CostsPromise, numberOf}
 use Rattle.zorder.specs.Refusal.{orZeros, costCountBad, addressBad, costsRefusal, refusal}
 use Rattle.zorder.specs.declared.Verdict.{Verdict}
 use Rattle.zorder.specs.declared.Verdict.the-variants.{Accepted, BadCostCount, BadArgument}
-use Rattle.zorder.proofs.Checks.{two-checks, count-right, no-detail}
+use Rattle.zorder.specs.Laws.Refusal.{count-right}
+use Rattle.zorder.proofs.Checks.{two-checks, no-detail}
 use Rattle.zorder.proofs.separate.costs.Statement.{statement}
 use Rattle.zorder.proofs.separate.costs.Tie as tie
 
@@ -36,9 +37,6 @@ module _ (d a : ℕ) where
     accepted : addressBad d a ≡ false → (cs : List ℕ) → cs ≡ padded d (costsOf d a) → CostsPromise d a (record { verdict = Accepted; costs = cs })
     unfolding numberOf orZeros costsRefusal refusal
     accepted good cs told = promised Accepted cs (two-checks false false right good) told
-
-count-bad-requires : tie.Need-count-bad-requires
-count-bad-requires c κs = search needs
 
 returns : tie.Need-returns
 returns c =
@@ -75,4 +73,4 @@ returns-3 c =
 pub costs-spec : {M : Type 1} → statement M
 costs-spec =
     tie.close
-    (tie.spec count-bad-requires returns too-large-requires returns-2 separated-requires returns-3)
+    (tie.spec (λ c κs. search needs) returns too-large-requires returns-2 separated-requires returns-3)

@@ -43,27 +43,6 @@ loop-holds c =
     let t : List ℕ = costsOf (c .args .d) (c .args .a) in
     (omega arith, filled-none t ∙ ap (filled t) none)
 
-sub-e : tie.Need-sub-e Inv-loop μ-loop
-sub-e c = omega arith
-
-cost-in-requires : tie.Need-cost-in-requires Inv-loop μ-loop
-cost-in-requires c κs = omega arith
-
-sub-costs : tie.Need-sub-costs Inv-loop μ-loop
-sub-costs c = omega arith
-
-sub-costs-2 : tie.Need-sub-costs-2 Inv-loop μ-loop
-sub-costs-2 c = omega arith
-
-mul-costs : tie.Need-mul-costs Inv-loop μ-loop
-mul-costs c = omega arith
-
-array-write-costs : tie.Need-array-write-costs Inv-loop μ-loop
-array-write-costs c = omega arith
-
-loop-less : tie.Need-loop-less Inv-loop μ-loop
-loop-less c = omega arith
-
 loop-again : tie.Need-loop-again Inv-loop μ-loop
 loop-again c =
     let a = c .before .before .before .args in
@@ -89,12 +68,12 @@ separated-spec =
     Inv-loop
     μ-loop
     loop-holds
-    sub-e
-    cost-in-requires
-    sub-costs
-    sub-costs-2
-    mul-costs
-    array-write-costs
-    loop-less
+    (λ c. omega arith)
+    (λ c κs. omega arith)
+    (λ c. omega arith)
+    (λ c. omega arith)
+    (λ c. omega arith)
+    (λ c. omega arith)
+    (λ c. omega arith)
     loop-again
     returns)

@@ -13,15 +13,9 @@ returns : tie.Need-returns
 unfolding addressBad
 returns c = rw (c .if1 .taken) (sym (lt-leb (2 ^ 64) (c .before .args .a) (omega arith)))
 
-mul-result : tie.Need-mul-result
-mul-result c = search needs
-
-shr-result : tie.Need-shr-result
-shr-result c = search needs
-
 returns-2 : tie.Need-returns-2
 unfolding addressBad
 returns-2 c = shr-nonzero (c .before .args .a) (16 * c .before .args .d)
 
 pub too-large-spec : {M : Type 1} → statement M
-too-large-spec = tie.close (tie.spec returns mul-result shr-result returns-2)
+too-large-spec = tie.close (tie.spec returns (λ c. search needs) (λ c. search needs) returns-2)

@@ -21,7 +21,7 @@ use Rattle.memory.specs.Laws.Stored.{setHeight-rows, number-setHeight, height-s
 use Rattle.memory.specs.Laws.Lines.{heightAt-line, line-setHeight}
 use Rattle.tree.specs.Rows.{NodeStart, NodeEnd, Entries}
 use Rattle.tree.specs.Split.{NodeOfNine, CutPlace, Cut, CascadeAsked, Cascaded}
-use Rattle.tree.proofs.Entries.{start-high}
+use Rattle.tree.specs.Laws.Entries.{start-high}
 
 -- ---- the cut made
 

@@ -25,7 +25,7 @@ use Rattle.line.specs.Laws.Removed.{rangeOf, rangeRows, flat-remove-own, Parted
 use Rattle.line.specs.Laws.Withdraw.{ends-each, ends-rising, moves-in-order}
 use Rattle.promises.specs.Layout.{numberIn, costsIn, workIn, moveIn, placedIn, lineFrom, tab}
 use Rattle.memory.specs.Frame.{RowsOnly}
-use Rattle.memory.specs.Laws.Tab.{tab-ext, take-tab, drop-tab, map-tab, getD-tab}
+use Rattle.promises.specs.Laws.Tab.{tab-ext, take-tab, drop-tab, map-tab, getD-tab}
 use Rattle.memory.specs.Laws.Places.{tab-each}
 use Rattle.memory.specs.Laws.Frames.{frame-trans, room-over}
 use Rattle.memory.specs.Laws.Fields.{work-over-rows, costs-over-rows, costs-over-work}
@@ -33,9 +33,9 @@ use Rattle.memory.specs.Laws.Lines.{heightAt-line, line-over-work}
 use Rattle.tree.specs.declared.withdraw.Range.{Range}
 use Rattle.tree.specs.Hold.{RowsHold, RowsTree, Enterable}
 use Rattle.tree.specs.Withdraw.{others, Widened, Saved, CutOut, Lowered, savedMoves, SavedAsked, SavedEntered, Withdrawn}
-use Rattle.tree.proofs.Entered.{fit-numbers}
-use Rattle.tree.proofs.Again.{savedMove, same-moves}
-use Rattle.tree.proofs.Distinct.{numbers-apart, held-length, held-once, held-place, held-one, held-rest}
+use Rattle.tree.specs.Laws.Entered.{fit-numbers}
+use Rattle.tree.specs.Laws.Again.{savedMove, same-moves}
+use Rattle.tree.specs.Laws.Distinct.{numbers-apart, held-length, held-once, held-place, held-one, held-rest}
 
 -- The tree without the rows that go with a move, and what is said of the saved moves.
 record Removal (c d left k number : ℕ) (m : List ℕ) (t : Tree) : Type 0 where

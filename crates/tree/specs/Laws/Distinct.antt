@@ -25,13 +25,12 @@ use Rattle.line.specs.Laws.Line.{moves-line}
 use Rattle.line.specs.Laws.Taken.{numbered}
 use Rattle.line.specs.Laws.Withdraw.{one-numbered}
 use Rattle.promises.specs.Layout.{numberIn, costsIn, moveIn, lineFrom, tab}
-use Rattle.memory.specs.Laws.Tab.{length-tab}
-use Rattle.promises.specs.Laws.Tab.{each-tab}
+use Rattle.promises.specs.Laws.Tab.{length-tab, each-tab}
 use Rattle.memory.specs.Laws.Places.{anyTo-found, any-tab}
 use Rattle.memory.specs.Laws.Lines.{movesIn-line}
 use Rattle.tree.specs.Hold.{RowsHold}
-use Rattle.tree.proofs.Again.{apart-tab}
-use Rattle.tree.proofs.Saving.{place-of}
+use Rattle.tree.specs.Laws.Again.{apart-tab}
+use Rattle.tree.specs.Laws.Saving.{place-of}
 
 -- ---- lists of moves
 

@@ -15,8 +15,8 @@ use Rattle.promises.specs.Layout.{lineFrom}
 use Rattle.memory.specs.Laws.Lines.{length-line, heightAt-line}
 use Rattle.tree.specs.Rows.{EntryAsked}
 use Rattle.tree.specs.Split.{CutAsked, CutSides, NodeOfNine, CutPlace}
-use Rattle.tree.proofs.Steps.{entry-turn}
-use Rattle.tree.proofs.Entries.{entry-before, entry-after}
+use Rattle.tree.specs.Laws.Steps.{entry-turn}
+use Rattle.tree.specs.Laws.Entries.{entry-before, entry-after}
 
 -- ---- the lesser sum, turn by turn
 

@@ -23,14 +23,14 @@ use Rattle.line.specs.Laws.Enter.{enter-cons, flat-enter-ruled}
 use Rattle.promises.specs.Layout.{heightIn, moveIn, placedIn, tab, lineFrom}
 use Rattle.memory.specs.Room.{Numbers}
 use Rattle.memory.specs.Frame.{RowsOnly}
-use Rattle.memory.specs.Laws.Tab.{length-tab, getD-tab}
+use Rattle.promises.specs.Laws.Tab.{length-tab, getD-tab}
 use Rattle.memory.specs.Laws.Frames.{frame-refl, frame-trans, room-over}
 use Rattle.memory.specs.Laws.Lines.{length-line, getD-line, heightAt-line, movesIn-line}
 use Rattle.tree.specs.Rows.{Inserted}
 use Rattle.tree.specs.Split.{CascadeAsked, Cascaded}
 use Rattle.tree.specs.Hold.{RowsHold, Enterable}
 use Rattle.tree.specs.Enter.{PutAsked, Put, EnterAsked, Entered}
-use Rattle.tree.proofs.Putting.{placed-top, each-at, row-is}
+use Rattle.tree.specs.Laws.Putting.{placed-top, each-at, row-is}
 
 -- ---- rows that hold a tree
 

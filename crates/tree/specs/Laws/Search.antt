@@ -18,11 +18,12 @@ use Rattle.model.specs.Moves.{Move, ordered}
 use Rattle.model.specs.Dominance.{dominates}
 use Rattle.model.specs.Lists.{skyline}
 use Rattle.model.specs.Tree.{Tree}
-use Rattle.model.specs.Calls.{sizeBad, memoryNeed}
+use Rattle.model.specs.Calls.{memoryNeed}
 use Rattle.model.specs.Sound.{Fit}
 use Rattle.model.specs.Laws.Bool.{byCases, condCases, not-back, and-both, and-false-right, both-ways}
 use Rattle.model.specs.Laws.Basics.{any-select}
-use Rattle.model.specs.Laws.Tree.{within-range, ruled-filled}
+use Rattle.model.specs.Laws.Loading.{size-most}
+use Rattle.model.specs.Laws.Tree.{ruled-filled}
 use Rattle.model.specs.Laws.Nodes.{listed-enough-corner}
 use Rattle.line.specs.Line.{Placed, none, lineOf, movesIn}
 use Rattle.line.specs.Places.{moveAt, heightAt, nodeEnd}
@@ -97,10 +98,6 @@ pub record Searchable (c d n : ℕ) (m : List ℕ) : Type 0 where
   pub order : ordered d (movesIn (lineFrom c d n m)) ≡ true
   pub kept : keptFrom c m (movesIn (lineFrom c d n m)) ≡ skyline d (movesIn (lineFrom c d n m))
   pub first : 0 < n → 0 < heightAt (lineFrom c d n m) 0
-
-size-most : (c : ℕ) → sizeBad c ≡ false → c ≤ 4096
-unfolding sizeBad
-size-most c e = within-range 16 4096 c (not-false (within 16 4096 c) e) .1
 
 stands-whole : (m : List ℕ) (t : Tree) → Stands m t → WholeTree t
 stands-whole m t s = tree-whole t (ruled-filled (dimensionIn m) t (s .rules))

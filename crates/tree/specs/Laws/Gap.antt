@@ -17,12 +17,12 @@ use Rattle.promises.specs.Layout.{numberIn, heightIn, placedIn, lineFrom, tab}
 use Rattle.memory.specs.Room.{Room}
 use Rattle.memory.specs.Stores.{setHeight}
 use Rattle.memory.specs.Frame.{RowsOnly}
-use Rattle.memory.specs.Laws.Tab.{tab-cut}
+use Rattle.promises.specs.Laws.Tab.{tab-cut}
 use Rattle.memory.specs.Laws.Frames.{frame-refl, frame-trans, room-over}
 use Rattle.memory.specs.Laws.Stored.{setHeight-rows}
 use Rattle.memory.specs.Laws.Lines.{length-line, heightAt-line, line-setHeight}
 use Rattle.tree.specs.Withdraw.{copied, GapAsked, Closed, CutOut}
-use Rattle.tree.proofs.Rows.{SameRow, setRow-rows, number-setRow, height-setRow, setRow-other, same-trans, same-placed}
+use Rattle.tree.specs.Laws.Rows.{SameRow, setRow-rows, number-setRow, height-setRow, setRow-other, same-trans, same-placed}
 
 -- ---- rows moved down
 

@@ -1,4 +1,4 @@
--- What the proofs of the functions use.
+-- What the functions' turns and ends say, over lines and memories.
 pub mod Steps
 pub mod Rows
 pub mod Inserting

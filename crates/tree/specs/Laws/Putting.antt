@@ -18,18 +18,16 @@ use Rattle.line.specs.Line.{Placed, none}
 use Rattle.line.specs.Places as places
 use Rattle.line.specs.Places.{moveAt, heightAt, nodeStart, nodeEnd, insertAt}
 use Rattle.line.specs.Enter.{laterInGap, takesOver, placed}
-use Rattle.promises.specs.Layout.{numberIn, heightIn, costsIn, moveIn, placedIn, lineFrom}
-use Rattle.promises.specs.Laws.Tab.{each-tab}
-use Rattle.memory.specs.Room.{Numbers}
+use Rattle.promises.specs.Layout.{numberIn, heightIn, costsIn, lineFrom}
 use Rattle.memory.specs.Stores.{setHeight}
 use Rattle.memory.specs.Frame.{RowsOnly}
 use Rattle.memory.specs.Laws.Frames.{frame-refl, frame-trans}
 use Rattle.memory.specs.Laws.Fields.{costs-over-rows}
 use Rattle.memory.specs.Laws.Stored.{setHeight-rows}
-use Rattle.memory.specs.Laws.Lines.{length-line, getD-line, heightAt-line, line-setHeight}
+use Rattle.memory.specs.Laws.Lines.{numbers-each, each-numbers, length-line, heightAt-line, line-setHeight}
 use Rattle.tree.specs.Rows.{row, Inserted, NodeStart, NodeEnd}
 use Rattle.tree.specs.Enter.{PlaceAsked, TakesOver, PutAsked, Put}
-use Rattle.tree.proofs.Rows.{costs-line}
+use Rattle.tree.specs.Laws.Rows.{costs-line}
 
 -- ---- whether it takes over
 
@@ -142,19 +140,6 @@ module _ (P : Move → Type 0) where
       condCases (Each ofMove) (takesOver d x p rs)
       (λ e. each-insertAt p (record { move = x; height = heightAt rs p }) (places.setHeight p 0 rs) h (each-setHeight p 0 rs es))
       (λ e. each-insertAt p (record { move = x; height = 0 }) rs h es)
-
--- ---- the numbers
-
-module _ (c d n : ℕ) (m : List ℕ) where
-  numbers-each : Numbers c n m → Each (λ r. r .move .number < c) (lineFrom c d n m)
-  unfolding lineFrom placedIn moveIn
-  numbers-each h = each-tab (placedIn c d m) (λ r. r .move .number < c) n h
-
-  each-numbers : Each (λ r. r .move .number < c) (lineFrom c d n m) → Numbers c n m
-  unfolding placedIn moveIn
-  each-numbers es i h =
-      subst (λ (r : Placed). r .move .number < c) (getD-line c d n m i h)
-      (each-at (λ (r : Placed). r .move .number < c) (lineFrom c d n m) i none (omega (arith, length-line c d n m)) es)
 
 -- ---- the row put
 

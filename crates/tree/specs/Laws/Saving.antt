@@ -17,7 +17,7 @@ use Rattle.promises.specs.Layout.{numberIn, workIn, moveIn, lineFrom, tab}
 use Rattle.memory.specs.Room.{Room}
 use Rattle.memory.specs.Stores.{setWork}
 use Rattle.memory.specs.Frame.{WorkOnly}
-use Rattle.memory.specs.Laws.Tab.{tab-ext}
+use Rattle.promises.specs.Laws.Tab.{tab-ext}
 use Rattle.memory.specs.Laws.Frames.{frame-refl, frame-trans}
 use Rattle.memory.specs.Laws.Fields.{number-over-work}
 use Rattle.memory.specs.Laws.Stored.{setWork-work, work-setWork, work-setWork-other}

@@ -22,7 +22,7 @@ use Rattle.line.specs.Line.{movesIn}
 use Rattle.line.specs.Laws.Line.{moves-line}
 use Rattle.promises.specs.Layout.{costsIn, workIn, tab}
 use Rattle.memory.specs.Frame.{RowsOnly}
-use Rattle.memory.specs.Laws.Tab.{getD-tab, tab-append, tab-cons}
+use Rattle.promises.specs.Laws.Tab.{getD-tab, tab-append, tab-cons}
 use Rattle.memory.specs.Laws.Places.{tab-each}
 use Rattle.memory.specs.Laws.Frames.{frame-refl, frame-trans}
 use Rattle.memory.specs.Laws.Fields.{costs-over-rows, work-over-rows}
