@@ -1,7 +1,10 @@
-// Numbers that look random, the same at each run, and costs made of them: few values with many ties, or many.
-use crate::cells::DICE;
-use crate::cells::key;
-use crate::cells::put_key;
+// Numbers that look random, the same at each run, and costs made of them.
+use crate::table::COUNTS;
+use crate::table::Table;
+use crate::table::put_row;
+use crate::table::row_at;
+
+const DICE: usize = 90;
 
 fn next(s: u64) -> u64 {
     let a = s ^ (s << 13);
@@ -10,25 +13,35 @@ fn next(s: u64) -> u64 {
 }
 
 // A number below n.
-pub fn roll(keys: &mut [u64], n: usize) -> usize {
-    let s = next(key(keys, DICE, 0));
-    put_key(keys, DICE, 0, s);
+pub fn roll(t: &mut Table, n: usize) -> usize {
+    let r = row_at(t, COUNTS, DICE);
+    let s = next(if r[0] == 0 { 88172645463325252 } else { r[0] });
+    put_row(t, COUNTS, DICE, [s, 0, 0, 0, 0, 0, 0]);
     if n == 0 {
         return 0;
     }
     (s / 64) as usize % n
 }
 
-pub fn start(keys: &mut [u64]) {
-    put_key(keys, DICE, 0, 88172645463325252);
-}
-
 // True once in n rolls.
-pub fn once_in(keys: &mut [u64], n: usize) -> bool {
-    roll(keys, n) == 0
+pub fn once_in(t: &mut Table, n: usize) -> bool {
+    roll(t, n) == 0
 }
 
-fn extreme(n: usize) -> usize {
+// The kinds of draws: any cost; of four values, so that many moves are equal; sums nearly constant, so that few dominate; the
+// ends of the range and its middle.
+pub const STYLES: usize = 4;
+
+fn cost(style: usize, n: u64) -> u64 {
+    if style == 0 {
+        return n;
+    }
+    if style == 1 {
+        return n % 4;
+    }
+    if style == 2 {
+        return n % 20000;
+    }
     match n % 6 {
         0 => 0,
         1 => 1,
@@ -39,32 +52,23 @@ fn extreme(n: usize) -> usize {
     }
 }
 
-// A cost in one of the styles: 2, 5 or 40 values, ends of the range, many values of which some share their high bits, any.
-fn cost(keys: &mut [u64], style: usize) -> u16 {
-    let n = roll(keys, 65536) % 65536;
-    match style {
-        0 => (n % 2) as u16,
-        1 => (n % 5) as u16,
-        2 => (n % 40) as u16,
-        3 => (extreme(n) % 65536) as u16,
-        4 => (n % 4 * 4096 + n / 8 % 32) as u16,
-        _ => n as u16,
+fn draw(t: &mut Table, style: usize) -> u64 {
+    cost(style, roll(t, 65536) as u64)
+}
+
+fn rest(a: u64, b: u64, e: u64, f: u64) -> u64 {
+    60000 - a % 20000 - b % 20000 - e % 20000 + f % 8
+}
+
+pub fn costs(t: &mut Table, d: usize, style: usize) -> [u64; 4] {
+    let a = draw(t, style);
+    let b = draw(t, style);
+    let e = draw(t, style);
+    let f = draw(t, style);
+    let even = style == 2;
+    match d {
+        2 => [a, if even { rest(a, 0, 0, f) } else { b }, 0, 0],
+        3 => [a, b, if even { rest(a, b, 0, f) } else { e }, 0],
+        _ => [a, b, e, if even { rest(a, b, e, f) } else { f }],
     }
-}
-
-// Costs that rise where the others fall, so that few dominate.
-fn against(a: u16, b: u16) -> u16 {
-    2000 - a % 2000 + b % 16
-}
-
-// The styles 0 to 5 with costs apart, 6 to 11 with the second against the first; those past d are zero.
-pub fn costs(keys: &mut [u64], d: usize, style: usize) -> [u16; 4] {
-    let a = cost(keys, style % 6);
-    let b = cost(keys, style % 6);
-    let e = cost(keys, style % 6);
-    let f = cost(keys, style % 6);
-    let second = if style < 6 { b } else { against(a, b) };
-    let third = if 2 < d { e } else { 0 };
-    let fourth = if 3 < d { f } else { 0 };
-    [a, second, third, fourth]
 }
