@@ -1,12 +1,9 @@
 // The public calls on the board's memory; their rows held against the wanted ones, and heard by the holder.
 use crate::expect::Call;
-use crate::expect::Told;
-use crate::order::row_of;
+use crate::plain::Plain;
 use crate::plain::follow;
-use crate::table::Row;
 use crate::table::Table;
 use crate::table::WANT;
-use crate::table::more;
 use crate::table::row_at;
 use crate::table::same_row;
 use board::Plan;
@@ -20,158 +17,72 @@ ghost use Prim.Native.Nat.{_<_, _≤_};
 ghost use Rattle.upkeep.specs.Telling.{TellingAsked};
 ghost use Rattle.board.specs.Plan.{Able};
 
-// An answer, the nodes opened, whether the rows are those wanted, and how many the holder then holds.
-pub struct Said {
-    pub told: Told,
-    pub opened: usize,
-    pub right: bool,
-    pub held: usize,
+// The board with what a call said.
+pub fn spoken(b: Plain, v: Verdict, count: usize, opened: usize) -> Plain {
+    let mut said = b;
+    said.refusal = number_of(v) as usize;
+    said.detail = detail_of(v);
+    said.count = count;
+    said.opened = opened;
+    said
 }
 
-// Who hears: costs of a row; whether the holder listens, and how many rows he holds.
-pub struct Ear {
-    pub d: usize,
-    pub listens: bool,
-    pub held: usize,
-}
-
-fn narrow(n: u64) -> u16 {
-    (n % 65536) as u16
-}
-
-fn wide(n: u16) -> u64 {
-    n as u64
-}
-
-fn costs_of(k: Call) -> [u16; 4] {
-    let c = k.costs;
-    [narrow(c[0]), narrow(c[1]), narrow(c[2]), narrow(c[3])]
-}
-
-fn in_numbers(v: Verdict, count: usize) -> Told {
-    Told {
-        refusal: number_of(v) as usize,
-        detail: detail_of(v),
-        count,
-    }
-}
-
-fn told_row(d: usize, r: [u16; 6]) -> Row {
-    row_of(
-        d,
-        wide(r[0]),
-        wide(r[1]),
-        [wide(r[2]), wide(r[3]), wide(r[4]), wide(r[5])],
-    )
-}
-
-// What was heard of a call's rows so far.
-struct Heard {
-    right: bool,
-    held: usize,
-}
-
-fn hear_one(t: &mut Table, ear: Ear, h: Heard, i: usize, row: [u16; 6]) -> Heard {
-    let r = told_row(ear.d, row);
-    let right = h.right && same_row(r, row_at(t, WANT, i));
-    if !ear.listens {
-        return Heard {
-            right,
-            held: h.held,
-        };
-    }
-    Heard {
-        right,
-        held: follow(t, h.held, r),
-    }
-}
-
-fn hear(m: &[u8], telling: Telling, count: usize, t: &mut Table, ear: Ear) -> Heard
+// The rows of a call, one after another. A holder listens to notices; before there is one, a list is read.
+fn hear(m: &[u8], telling: Telling, count: usize, t: &mut Table, told: Plain, letter: u8) -> Plain
     requires { ⌜ (0 < count → TellingAsked telling (now m)) ⌝ }
 {
-    let mut h = Heard {
-        right: true,
-        held: ear.held,
-    };
+    let change = b'Z' < letter;
+    let listens = told.holding == change && (change || letter == b'Q');
+    let mut said = told;
     let mut at = 0;
     let mut i = 0;
     while i < count {
         let step = told_next(m, telling, at);
-        let row = step.row;
-        h = hear_one(t, ear, h, i, row);
+        let r = step.row;
+        said.right = said.right && same_row(r, row_at(t, WANT, i));
+        if listens {
+            said.held = follow(t, said.held, r);
+        }
         at = step.next;
         i += 1;
     }
-    h
+    said
 }
 
 fn plan_change(m: &[u8], k: Call) -> Plan
     ensures { λ r. ⌜ Able r (now (m .entry)) × (0 < r .count → TellingAsked (r .telling) (now (m .entry))) ⌝ }
 {
-    let number = narrow(k.number);
-    if k.letter == b'W' {
-        return board::plan_withdraw(m, number, k.lent);
+    let costs = k.costs;
+    if k.letter == b'w' {
+        return board::plan_withdraw(m, k.number, k.lent);
     }
-    if k.letter == b'E' {
-        return board::plan_enter(m, number, costs_of(k), k.lent);
+    if k.letter == b'e' {
+        return board::plan_enter(m, k.number, costs, k.lent);
     }
-    board::plan_recost(m, number, costs_of(k), k.lent)
+    board::plan_recost(m, k.number, costs, k.lent)
 }
 
-fn change(m: &mut [u8], k: Call, t: &mut Table, ear: Ear) -> Said {
+fn change(m: &mut [u8], k: Call, t: &mut Table, b: Plain) -> Plain {
     let p = plan_change(m, k);
-    let verdict = p.verdict;
+    let v = p.verdict;
     let telling = p.telling;
-    let h = hear(m, telling, p.count, t, ear);
+    let said = hear(m, telling, p.count, t, spoken(b, v, p.count, 0), k.letter);
     board::carry_out(m, p);
-    Said {
-        told: in_numbers(verdict, p.count),
-        opened: 0,
-        right: h.right,
-        held: h.held,
-    }
+    said
 }
 
-fn list(m: &[u8], k: Call, t: &mut Table, ear: Ear) -> Said {
+fn list(m: &[u8], k: Call, t: &mut Table, b: Plain) -> Plain {
     let p = listing::plan_list(m, k.lent);
-    let verdict = p.verdict;
+    let v = p.verdict;
     let telling = p.telling;
-    let h = hear(m, telling, p.count, t, ear);
-    Said {
-        told: in_numbers(verdict, p.count),
-        opened: p.opened,
-        right: h.right,
-        held: h.held,
-    }
-}
-
-fn ranked_right(t: &Table, d: usize, rows: &[[u16; 6]], count: usize) -> bool {
-    let mut i = 0;
-    while i < count {
-        if i < rows.len() && !same_row(told_row(d, rows[i]), row_at(t, WANT, i)) {
-            return false;
-        }
-        i += 1;
-    }
-    true
-}
-
-fn at_most(n: usize, bound: usize) -> usize
-    ensures { λ r. ⌜ r ≤ bound ⌝ }
-{
-    if n <= bound { n } else { bound }
-}
-
-fn rank(m: &[u8], k: Call, t: &mut Table, ear: Ear, rows: &mut [[u16; 6]]) -> Said {
-    let lent = at_most(k.lent, rows.len());
-    let a = query::rank(m, k.argument, &mut rows[..lent]);
-    let verdict = a.verdict;
-    Said {
-        told: in_numbers(verdict, a.count),
-        opened: 0,
-        right: ranked_right(t, ear.d, rows, a.count),
-        held: ear.held,
-    }
+    hear(
+        m,
+        telling,
+        p.count,
+        t,
+        spoken(b, v, p.count, p.opened),
+        k.letter,
+    )
 }
 
 fn plan_query(m: &[u8], k: Call) -> QueryPlan
@@ -186,25 +97,49 @@ fn plan_query(m: &[u8], k: Call) -> QueryPlan
     query::plan_chosen(m, k.argument, k.lent)
 }
 
-fn query(m: &[u8], k: Call, t: &mut Table, ear: Ear) -> Said {
+fn query(m: &[u8], k: Call, t: &mut Table, b: Plain) -> Plain {
     let p = plan_query(m, k);
-    let verdict = p.verdict;
+    let v = p.verdict;
     let telling = p.telling;
-    let h = hear(m, telling, p.count, t, ear);
-    Said {
-        told: in_numbers(verdict, p.count),
-        opened: 0,
-        right: h.right,
-        held: h.held,
-    }
+    hear(m, telling, p.count, t, spoken(b, v, p.count, 0), k.letter)
 }
 
-pub fn ask(m: &mut [u8], k: Call, t: &mut Table, ear: Ear) -> Said {
-    let letter = k.letter;
-    match letter {
-        b'E' | b'W' | b'C' => change(m, k, t, ear),
-        b'Q' => list(m, k, t, ear),
-        b'R' => rank(m, k, t, ear, &mut [[0u16; 6]; 4100]),
-        _ => query(m, k, t, ear),
+fn ranked_right(t: &Table, rows: &[[u16; 6]], count: usize) -> bool {
+    let mut i = 0;
+    while i < count {
+        if i < rows.len() && !same_row(rows[i], row_at(t, WANT, i)) {
+            return false;
+        }
+        i += 1;
     }
+    true
+}
+
+pub fn at_most(n: usize, bound: usize) -> usize
+    ensures { λ r. ⌜ r ≤ bound ⌝ }
+{
+    if n <= bound { n } else { bound }
+}
+
+fn rank(m: &[u8], k: Call, t: &Table, b: Plain, rows: &mut [[u16; 6]]) -> Plain {
+    let lent = at_most(k.lent, rows.len());
+    let a = query::rank(m, k.argument, &mut rows[..lent]);
+    let v = a.verdict;
+    let mut said = spoken(b, v, a.count, 0);
+    said.right = ranked_right(t, rows, a.count);
+    said
+}
+
+// The call on the memory of the board b; what it said, and how many rows the holder then holds.
+pub fn ask(m: &mut [u8], k: Call, t: &mut Table, b: Plain) -> Plain {
+    if b'Z' < k.letter {
+        return change(m, k, t, b);
+    }
+    if k.letter == b'Q' {
+        return list(m, k, t, b);
+    }
+    if k.letter == b'R' {
+        return rank(m, k, t, b, &mut [[0u16; 6]; 4100]);
+    }
+    query(m, k, t, b)
 }

@@ -1,74 +1,110 @@
-// Numbers that look random, the same at each run, and costs made of them.
-use crate::table::COUNTS;
+// Numbers that look random, the same at each run; costs made of them, and the calls that the runs make: most are accepted,
+// some are to be refused.
+use crate::expect::Call;
+use crate::plain::NONE;
+use crate::plain::Plain;
+use crate::plain::find;
+use crate::table::BOARD;
 use crate::table::Table;
-use crate::table::put_row;
 use crate::table::row_at;
-
-const DICE: usize = 90;
-
-fn next(s: u64) -> u64 {
-    let a = s ^ (s << 13);
-    let b = a ^ (a >> 7);
-    b ^ (b << 17)
-}
+use crate::tally::Tally;
 
 // A number below n.
-pub fn roll(t: &mut Table, n: usize) -> usize {
-    let r = row_at(t, COUNTS, DICE);
-    let s = next(if r[0] == 0 { 88172645463325252 } else { r[0] });
-    put_row(t, COUNTS, DICE, [s, 0, 0, 0, 0, 0, 0]);
-    if n == 0 {
-        return 0;
-    }
-    (s / 64) as usize % n
+pub fn roll(u: &mut Tally, n: usize) -> usize {
+    let s = if u[0] == 0 { 88172645463325252 } else { u[0] };
+    let a = s ^ (s << 13);
+    let b = a ^ (a >> 7);
+    u[0] = b ^ (b << 17);
+    if n == 0 { 0 } else { (b / 64) as usize % n }
 }
 
-// True once in n rolls.
-pub fn once_in(t: &mut Table, n: usize) -> bool {
-    roll(t, n) == 0
-}
-
-// The kinds of draws: any cost; of four values, so that many moves are equal; sums nearly constant, so that few dominate; the
+// The kinds of draws: any cost; of four values, so that many moves are equal; small, for sums that are nearly constant; the
 // ends of the range and its middle.
-pub const STYLES: usize = 4;
-
-fn cost(style: usize, n: u64) -> u64 {
-    if style == 0 {
-        return n;
-    }
-    if style == 1 {
-        return n % 4;
-    }
-    if style == 2 {
-        return n % 20000;
-    }
-    match n % 6 {
-        0 => 0,
-        1 => 1,
-        2 => 32767,
-        3 => 32768,
-        4 => 65534,
-        _ => 65535,
+fn cost(u: &mut Tally, style: usize) -> u16 {
+    let n = (roll(u, 65536) % 65536) as u16;
+    match style {
+        0 => n,
+        1 => n % 4,
+        2 => n % 20000,
+        _ => n % 2 * 32768 + n / 2 % 2 * 32767,
     }
 }
 
-fn draw(t: &mut Table, style: usize) -> u64 {
-    cost(style, roll(t, 65536) as u64)
-}
-
-fn rest(a: u64, b: u64, e: u64, f: u64) -> u64 {
-    60000 - a % 20000 - b % 20000 - e % 20000 + f % 8
-}
-
-pub fn costs(t: &mut Table, d: usize, style: usize) -> [u64; 4] {
-    let a = draw(t, style);
-    let b = draw(t, style);
-    let e = draw(t, style);
-    let f = draw(t, style);
-    let even = style == 2;
-    match d {
-        2 => [a, if even { rest(a, 0, 0, f) } else { b }, 0, 0],
-        3 => [a, b, if even { rest(a, b, 0, f) } else { e }, 0],
-        _ => [a, b, e, if even { rest(a, b, e, f) } else { f }],
+// With sums that are nearly constant few moves dominate.
+pub fn costs(u: &mut Tally, d: usize, style: usize) -> [u16; 4] {
+    let a = cost(u, style);
+    let b = cost(u, style);
+    let e = if d < 3 { 0 } else { cost(u, style) };
+    let f = if d < 4 { 0 } else { cost(u, style) };
+    if style != 2 {
+        return [a, b, e, f];
     }
+    [60000 - b % 20000 - e % 20000 - f % 20000 + a % 8, b, e, f]
+}
+
+// Any number, at times past the last; of a board that is to shrink mostly one on it.
+fn number(b: Plain, t: &Table, u: &mut Tally, growing: bool) -> u16 {
+    let any = roll(u, b.c) % 5000;
+    if roll(u, 20) == 0 {
+        return ((b.c % 5000 + any % 3) % 65536) as u16;
+    }
+    if growing || any % 8 == 0 {
+        return (any % 65536) as u16;
+    }
+    let r = row_at(t, BOARD, roll(u, b.n));
+    r[1]
+}
+
+// A number on the board is withdrawn or re-costed, another entered; at times the other way round.
+fn letter(u: &mut Tally, present: bool, growing: bool) -> u8 {
+    let n = roll(u, 96);
+    if present == (n % 12 == 0) {
+        return b'e';
+    }
+    let rarely = if growing { 12 } else { 50 };
+    if n < rarely { b'w' } else { b'c' }
+}
+
+// A change; at times with a cost past d, or with the costs that the number has.
+pub fn change(b: Plain, t: &Table, u: &mut Tally, style: usize, growing: bool) -> Call {
+    let number = number(b, t, u, growing);
+    let r = find(t, b.n, number);
+    let mut c = costs(u, b.d, style);
+    let n = roll(u, 24);
+    if n == 0 {
+        c[3] = 1;
+    }
+    if n % 8 == 1 {
+        c = [r[2], r[3], r[4], r[5]];
+    }
+    Call {
+        letter: letter(u, r[0] != NONE, growing),
+        number,
+        costs: c,
+        argument: 0,
+        lent: 0,
+    }
+}
+
+pub fn reading(letter: u8, argument: usize) -> Call {
+    Call {
+        letter,
+        number: 0,
+        costs: [0u16; 4],
+        argument,
+        lent: 0,
+    }
+}
+
+// One of the other lists: its argument is mostly small, at times at the ends of the range and past them.
+pub fn query(u: &mut Tally) -> Call {
+    let n = roll(u, 60);
+    let x = if n < 10 { 4094 + n % 4 } else { n % 10 };
+    let letter = match roll(u, 4) {
+        0 => b'B',
+        1 => b'R',
+        2 => b'K',
+        _ => b'S',
+    };
+    reading(letter, x)
 }

@@ -1,14 +1,11 @@
-// Definitions 1, 5 and 7 on rows, and the rows picked by them.
-use crate::table::Part;
+// Definitions 1, 5 and 7 on rows, and the rows selected by them.
 use crate::table::Row;
 use crate::table::Table;
-use crate::table::marked;
-use crate::table::more;
 use crate::table::put_row;
 use crate::table::row_at;
 use crate::table::same_row;
 
-// How one row stands to another: it beats it on a set of costs, bit i for cost i; or on any k of the first d costs; it is
+// How one row stands to another: it beats it on a set of costs, bit i for cost i; on some k of the first d costs; it is
 // beaten; it is the same.
 pub enum Test {
     Beats(usize),
@@ -28,24 +25,12 @@ fn beats(set: usize, p: Row, q: Row) -> bool {
     nowhere_greater(set, p, q) && !nowhere_greater(set, q, p)
 }
 
-fn ones(set: usize) -> usize {
-    set % 2 + set / 2 % 2 + set / 4 % 2 + set / 8 % 2
-}
-
-// The number of sets of the first d costs.
-pub fn sets(d: usize) -> usize {
-    match d {
-        2 => 4,
-        3 => 8,
-        _ => 16,
-    }
-}
-
 fn beats_on(k: usize, d: usize, p: Row, q: Row) -> bool {
-    let end = sets(d);
+    let sets = 1usize << (d % 8);
     let mut set = 0;
-    while set < end {
-        if ones(set) == k && beats(set, p, q) {
+    while set < sets {
+        let ones = set % 2 + set / 2 % 2 + set / 4 % 2 + set / 8 % 2;
+        if ones == k && beats(set, p, q) {
             return true;
         }
         set += 1;
@@ -62,48 +47,48 @@ fn stands(test: Test, p: Row, q: Row) -> bool {
     }
 }
 
+// The first rows of an area.
+pub struct Part {
+    pub area: usize,
+    pub count: usize,
+}
+
 // How many rows of a part stand so to a row; counted no further than one past `most`.
 pub fn count(t: &Table, part: Part, test: Test, r: Row, most: usize) -> usize {
-    let mut k = 0;
+    let mut k: usize = 0;
     let mut i = 0;
-    while i < part.count {
+    while i < part.count && k <= most {
         if stands(test, row_at(t, part.area, i), r) {
-            k = more(k);
-            if most < k {
-                return k;
-            }
+            k = k % 5000 + 1;
         }
         i += 1;
     }
     k
 }
 
-// The rows to which `most` or fewer of `against` stand so are picked, and marked.
+// The rows to which `most` or fewer of `against` stand so, with a mark, put after the first `at` of an area.
 pub struct Pick {
     pub against: Part,
     pub test: Test,
     pub most: usize,
-    pub mark: u64,
+    pub mark: u16,
+    pub to: usize,
+    pub at: usize,
 }
 
-// Row i put at place k of another area if it is picked; the place for the next.
-fn select_one(t: &mut Table, r: Row, by: Pick, to: usize, k: usize) -> usize {
+// How many stand in that area then.
+pub fn select(t: &mut Table, part: Part, by: Pick) -> usize {
     let against = by.against;
     let test = by.test;
-    if by.most < count(t, against, test, r, by.most) {
-        return k;
-    }
-    put_row(t, to, k, marked(r, by.mark));
-    more(k)
-}
-
-// The picked rows of a part put after the first `at` of another area; how many stand there then.
-pub fn select(t: &mut Table, part: Part, by: Pick, to: usize, at: usize) -> usize {
-    let mut k = at;
+    let mut k = by.at;
     let mut i = 0;
     while i < part.count {
-        let r = row_at(t, part.area, i);
-        k = select_one(t, r, by, to, k);
+        let mut r = row_at(t, part.area, i);
+        if count(t, against, test, r, by.most) <= by.most {
+            r[0] = by.mark;
+            put_row(t, by.to, k, r);
+            k = k % 5000 + 1;
+        }
         i += 1;
     }
     k

@@ -1,94 +1,110 @@
-// The mixed run of calls on a board: a change, the list, at times a load to be refused or another list.
-use crate::calls::call_somehow;
-use crate::choose;
-use crate::dice::once_in;
+// The mixed run of calls on a board, each made on both: a change, the list, at times a load to be refused, another list; with
+// rows in plenty, or none, one too few, then just enough.
+use crate::ask::ask;
+use crate::ask::spoken;
+use crate::dice;
 use crate::dice::roll;
-use crate::expect::Told;
-use crate::expect::refused;
+use crate::expect::Call;
+use crate::expect::answer;
+use crate::expect::expect;
 use crate::plain::Plain;
+use crate::table::HELD;
 use crate::table::Table;
-use crate::tally;
+use crate::table::same_rows;
+use crate::tally::Tally;
+use crate::tally::add;
+use crate::tally::count;
+use crate::tally::judge;
 use promises::Verdict;
-use promises::detail_of;
-use promises::number_of;
 
-// A load's answer held against what is wanted.
-pub fn judge_load(b: Plain, t: &mut Table, v: Verdict, want: Told) {
-    let told = refused(number_of(v) as usize, detail_of(v));
-    let agreed = told.refusal == want.refusal && told.detail == want.detail;
-    tally::count_load(t, want);
-    tally::judge(agreed, b, t, choose::reading(b'L', 0), want, told);
+// The holder has the list. Of a list call, every leaf with a listed move was opened, and no node is without moves.
+fn is_right(b: Plain, t: &Table, letter: u8, opened: usize) -> bool {
+    if b.holding && (b.held != b.listed || !same_rows(t, HELD, b.list, b.held)) {
+        return false;
+    }
+    letter != b'Q' || 0 < b.refusal || (b.listed / 8 <= opened && opened <= b.n)
 }
 
-// The second of two rows: a number too large, that of the first, a cost past d.
-fn second(c: usize, kind: usize) -> [u16; 5] {
-    match kind {
-        4 => [(c % 65536) as u16, 1, 1, 0, 0],
-        5 => [0, 1, 1, 0, 0],
-        _ => [1, 1, 1, 0, 1],
+fn call(b: Plain, t: &mut Table, u: &mut Tally, m: &mut [u8], k: Call) -> Plain {
+    let mut want = expect(b, t, k);
+    let said = ask(m, k, t, b);
+    want.held = said.held;
+    want.holding = b.holding || (k.letter == b'Q' && said.refusal == 0);
+    add(u, b'h', if want.holding { 1 } else { 0 });
+    count(u, k.letter, want, said.opened);
+    let right = is_right(want, t, k.letter, said.opened);
+    judge(u, k, want, said, right);
+    want
+}
+
+// With one row fewer than it needs, then with as many.
+fn again(b: Plain, t: &mut Table, u: &mut Tally, m: &mut [u8], asked: Call) -> Plain {
+    let mut k = asked;
+    k.lent = (b.detail % 5000 + 4999) % 5000;
+    let short = call(b, t, u, m, k);
+    k.lent = b.detail;
+    call(short, t, u, m, k)
+}
+
+// C + 1 rows are enough for every call; or, once in n, with no rows lent, and again if it needs some.
+fn calls(b: Plain, t: &mut Table, u: &mut Tally, m: &mut [u8], asked: Call, n: usize) -> Plain {
+    let mut k = asked;
+    k.lent = if roll(u, n) == 0 { 0 } else { b.c % 5000 + 1 };
+    let after = call(b, t, u, m, k);
+    if after.refusal == 8 {
+        return again(after, t, u, m, k);
+    }
+    after
+}
+
+// A load that is to be answered so.
+pub fn judge_load(want: Plain, u: &mut Tally, v: Verdict) {
+    count(u, b'L', want, 0);
+    judge(u, dice::reading(b'L', 0), want, spoken(want, v, 0, 0), true);
+}
+
+// At times a load: C out of range, or a second row with a number too large or that of the first.
+fn refused_load(b: Plain, u: &mut Tally, m: &mut [u8]) {
+    let kind = roll(u, 60);
+    let c = if kind == 0 { 4097 } else { b.c };
+    let second = if kind == 1 { (b.c % 65536) as u16 } else { 0 };
+    if kind < 3 && 0 < b.c {
+        let v = loading::load(m, c, b.d, &[[0, 1, 1, 0, 0], [second, 1, 1, 0, 0]]);
+        let want = match kind {
+            0 => answer(b, 2, 0, 0),
+            1 => answer(b, 4, 1, 0),
+            _ => answer(b, 5, 1, 0),
+        };
+        judge_load(want, u, v);
     }
 }
 
-fn wanted(kind: usize) -> Told {
-    match kind {
-        4 => refused(4, 1),
-        5 => refused(5, 1),
-        6 => refused(7, 1),
-        _ => refused(2, 0),
-    }
+fn read(b: Plain, t: &mut Table, u: &mut Tally, m: &mut [u8]) -> Plain {
+    let listed = calls(b, t, u, m, dice::reading(b'Q', 0), 5);
+    let asked = dice::query(u);
+    calls(listed, t, u, m, asked, 2)
 }
 
-// At times a load: sizes out of range, or a second row that fails.
-fn refused_load(b: Plain, t: &mut Table, m: &mut [u8]) {
-    if b.c == 0 || !once_in(t, 20) {
-        return;
-    }
-    let kind = roll(t, if b.d < 4 { 7 } else { 6 });
-    let c = match kind {
-        0 => 15,
-        1 => 4097,
-        _ => b.c,
-    };
-    let d = match kind {
-        2 => 1,
-        3 => 5,
-        _ => b.d,
-    };
-    let rows = [[0u16, 1, 1, 0, 0], second(b.c, kind)];
-    let v = loading::load(m, c, d, &rows);
-    judge_load(b, t, v, wanted(kind));
-}
-
-// At times one of the other lists.
-fn queried(b: Plain, t: &mut Table, m: &mut [u8]) -> Plain {
-    if !once_in(t, 4) {
-        return b;
-    }
-    let k = choose::query(t);
-    let exactly = once_in(t, 2);
-    call_somehow(b, t, m, k, exactly)
-}
-
-fn read(b: Plain, t: &mut Table, m: &mut [u8]) -> Plain {
-    let exactly = once_in(t, 5);
-    let after = call_somehow(b, t, m, choose::reading(b'Q', 0), exactly);
-    refused_load(after, t, m);
-    queried(after, t, m)
-}
-
-fn step(b: Plain, t: &mut Table, m: &mut [u8], style: usize, growing: bool) -> Plain {
-    let k = choose::change(b, t, style, growing);
-    let exactly = once_in(t, 3);
-    let after = call_somehow(b, t, m, k, exactly);
-    read(after, t, m)
+fn step(
+    b: Plain,
+    t: &mut Table,
+    u: &mut Tally,
+    m: &mut [u8],
+    style: usize,
+    growing: bool,
+) -> Plain {
+    let k = dice::change(b, t, u, style, growing);
+    let after = calls(b, t, u, m, k, 3);
+    refused_load(after, u, m);
+    read(after, t, u, m)
 }
 
 // Boards grow for 24 changes, then shrink for as many.
-pub fn run(b: Plain, t: &mut Table, m: &mut [u8], style: usize, steps: usize) {
+pub fn run(b: Plain, t: &mut Table, u: &mut Tally, m: &mut [u8], style: usize, steps: usize) {
     let mut after = b;
     let mut i = 0;
     while i < steps {
-        after = step(after, t, m, style, i / 24 % 2 == 0);
+        after = step(after, t, u, m, style, i / 24 % 2 == 0);
         i += 1;
     }
 }

@@ -5,10 +5,10 @@ use Rattle.compare.proofs.ask.ranked_right.Statement.{statement}
 use Rattle.compare.proofs.ask.ranked_right.Tie as tie
 
 abbrev Inv-loop : tie.InvT-loop
-Inv-loop t d rows count i₀ i = Unit {0}
+Inv-loop t rows count i₀ i = Unit {0}
 
 abbrev μ-loop : tie.MeasureT-loop
-μ-loop t d rows count i₀ i = count - i
+μ-loop t rows count i₀ i = count - i
 
 pub ranked-right-spec : {M : Type 1} → statement M
 ranked-right-spec =
@@ -19,7 +19,6 @@ ranked-right-spec =
     (λ c. search needs)
     (λ c. search needs)
     (λ c. search needs)
-    (λ c κs. search needs)
     (λ c κs. search needs)
     (λ c κs. search needs)
     (λ c. search needs)

@@ -7,10 +7,10 @@ use Rattle.compare.proofs.boards.all.Statement.{statement}
 use Rattle.compare.proofs.boards.all.Tie as tie
 
 abbrev Inv-loop : tie.InvT-loop
-Inv-loop t₀ m₀ n i₀ t m i = length m ≡ length m₀
+Inv-loop t₀ u₀ m₀ n i₀ t u m i = length m ≡ length m₀
 
 abbrev μ-loop : tie.MeasureT-loop
-μ-loop t₀ m₀ n i₀ t m i = n - i
+μ-loop t₀ u₀ m₀ n i₀ t u m i = n - i
 
 pub all-spec : {M : Type 1} → statement M
 all-spec =

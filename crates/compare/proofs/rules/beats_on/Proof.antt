@@ -5,10 +5,10 @@ use Rattle.compare.proofs.rules.beats_on.Statement.{statement}
 use Rattle.compare.proofs.rules.beats_on.Tie as tie
 
 abbrev Inv-loop : tie.InvT-loop
-Inv-loop k d p q end set₀ set = Unit {0}
+Inv-loop k d p q sets set₀ set = Unit {0}
 
 abbrev μ-loop : tie.MeasureT-loop
-μ-loop k d p q end set₀ set = end - set
+μ-loop k d p q sets set₀ set = sets - set
 
 pub beats-on-spec : {M : Type 1} → statement M
 beats-on-spec =
@@ -16,9 +16,11 @@ beats-on-spec =
     (tie.spec
     Inv-loop
     μ-loop
-    (λ c κs. search needs)
     (λ c. search needs)
-    (λ c κs. search needs)
+    (λ c. search needs)
+    (λ c. search needs)
+    (λ c. search needs)
+    (λ c. search needs)
     (λ c κs. search needs)
     (λ c. search needs)
     (λ c. search needs)

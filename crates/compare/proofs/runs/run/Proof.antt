@@ -7,10 +7,10 @@ use Rattle.compare.proofs.runs.run.Statement.{statement}
 use Rattle.compare.proofs.runs.run.Tie as tie
 
 abbrev Inv-loop : tie.InvT-loop
-Inv-loop t₀ m₀ style steps after₀ i₀ t m after i = length m ≡ length m₀
+Inv-loop t₀ u₀ m₀ style steps after₀ i₀ t u m after i = length m ≡ length m₀
 
 abbrev μ-loop : tie.MeasureT-loop
-μ-loop t₀ m₀ style steps after₀ i₀ t m after i = steps - i
+μ-loop t₀ u₀ m₀ style steps after₀ i₀ t u m after i = steps - i
 
 pub run-spec : {M : Type 1} → statement M
 run-spec =
