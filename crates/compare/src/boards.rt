@@ -15,39 +15,37 @@ use crate::tally::Tally;
 use crate::tally::add;
 
 // Row i of a load, put on the plain board too; numbers go down.
-fn make(b: Plain, t: &mut Table, u: &mut Tally, input: &mut [[u16; 5]], style: usize, i: usize) {
-    if b.c <= i {
-        return;
-    }
-    let x = ((b.c - 1 - i) % 65536) as u16;
+fn make(b: Plain, t: &mut Table, u: &mut Tally, style: usize, i: usize) -> [u16; 5] {
+    let x = ((b.c % 65536 + 65535 - i % 65536) % 65536) as u16;
     let c = costs(u, b.d, style);
     put_in(t, BOARD, i, [0, x, c[0], c[1], c[2], c[3]]);
+    [x, c[0], c[1], c[2], c[3]]
+}
+
+fn put_input(input: &mut [[u16; 5]], i: usize, r: [u16; 5]) {
     if i < input.len() {
-        input[i] = [x, c[0], c[1], c[2], c[3]];
+        input[i] = r;
     }
 }
 
 fn fill(b: Plain, t: &mut Table, u: &mut Tally, input: &mut [[u16; 5]], style: usize, n: usize) {
     let mut i = 0;
     while i < n {
-        make(b, t, u, input, style, i);
+        put_input(input, i, make(b, t, u, style, i));
         i += 1;
     }
 }
 
-fn load(
-    b: Plain,
-    t: &mut Table,
-    u: &mut Tally,
-    m: &mut [u8],
-    input: &[[u16; 5]],
-    n: usize,
-) -> Plain {
+fn load(b: Plain, u: &mut Tally, m: &mut [u8], input: &[[u16; 5]], n: usize) {
     let k = at_most(n, input.len());
-    let v = loading::load(m, b.c, b.d, &input[..k]);
-    let after = listed(b, t, n);
-    judge_load(after, u, v);
-    after
+    judge_load(b, u, loading::load(m, b.c, b.d, &input[..k]));
+}
+
+fn loaded(b: Plain, t: &mut Table, u: &mut Tally, m: &mut [u8], style: usize, n: usize) -> Plain {
+    let mut input = [[0u16; 5]; 4096];
+    fill(b, t, u, &mut input, style, n);
+    load(b, u, m, &input, n);
+    listed(b, t, n)
 }
 
 // No rows, few, all, or some.
@@ -60,19 +58,21 @@ fn rows(u: &mut Tally, c: usize) -> usize {
     }
 }
 
-// Board i: one in 60 of the largest size, one in 10 of some hundreds, the others small.
-fn one(t: &mut Table, u: &mut Tally, m: &mut [u8], i: usize) {
+// The size of board i: one in 60 is the largest, one in 10 some hundreds, the others are small.
+fn size(u: &mut Tally, i: usize) -> usize {
     let some = roll(u, if i % 10 == 7 { 400 } else { 48 }) % 400;
     let c = if i % 60 == 59 { 4096 } else { 16 + some };
-    let b = bare(c, 2 + i % 3);
-    let n = rows(u, c);
-    let style = i / 3 % 4;
-    let mut input = [[0u16; 5]; 4096];
     add(u, b'b', 1);
     add(u, b'^', c / 4096);
-    fill(b, t, u, &mut input, style, n);
-    let after = load(b, t, u, m, &input, n);
-    run(after, t, u, m, style, if c == 4096 { 10 } else { 100 });
+    c
+}
+
+fn one(t: &mut Table, u: &mut Tally, m: &mut [u8], i: usize) {
+    let c = size(u, i);
+    let n = rows(u, c);
+    let style = i / 3 % 4;
+    let b = loaded(bare(c, 2 + i % 3), t, u, m, style, n);
+    run(b, t, u, m, style, if c == 4096 { 10 } else { 100 });
 }
 
 // Memory a byte too short for the least board: no load, and no board.

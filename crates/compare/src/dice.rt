@@ -65,15 +65,22 @@ fn letter(u: &mut Tally, present: bool, growing: bool) -> u8 {
     if n < rarely { b'w' } else { b'c' }
 }
 
+// The rows lent: enough for every call, about as many as the list has, or few.
+fn lent(b: Plain, u: &mut Tally) -> usize {
+    match roll(u, 6) {
+        0 => roll(u, 4),
+        1 => (b.listed % 5000 + 4999) % 5000,
+        2 => b.listed,
+        _ => b.c % 5000 + 1,
+    }
+}
+
 // A change; at times with a cost past d, or with the costs that the number has.
 pub fn change(b: Plain, t: &Table, u: &mut Tally, style: usize, growing: bool) -> Call {
     let number = number(b, t, u, growing);
     let r = find(t, b.n, number);
-    let mut c = costs(u, b.d, style);
     let n = roll(u, 24);
-    if n == 0 {
-        c[3] = 1;
-    }
+    let mut c = costs(u, if n == 0 { 4 } else { b.d }, style);
     if n % 8 == 1 {
         c = [r[2], r[3], r[4], r[5]];
     }
@@ -82,29 +89,29 @@ pub fn change(b: Plain, t: &Table, u: &mut Tally, style: usize, growing: bool) -
         number,
         costs: c,
         argument: 0,
-        lent: 0,
+        lent: lent(b, u),
     }
 }
 
-pub fn reading(letter: u8, argument: usize) -> Call {
+// A list: its argument is mostly small, at times at the ends of the range and past them.
+pub fn reading(b: Plain, u: &mut Tally, letter: u8) -> Call {
+    let n = roll(u, 60);
     Call {
         letter,
         number: 0,
         costs: [0u16; 4],
-        argument,
-        lent: 0,
+        argument: if n < 10 { 4094 + n % 4 } else { n % 10 },
+        lent: lent(b, u),
     }
 }
 
-// One of the other lists: its argument is mostly small, at times at the ends of the range and past them.
-pub fn query(u: &mut Tally) -> Call {
-    let n = roll(u, 60);
-    let x = if n < 10 { 4094 + n % 4 } else { n % 10 };
+// One of the other lists.
+pub fn query(b: Plain, u: &mut Tally) -> Call {
     let letter = match roll(u, 4) {
         0 => b'B',
         1 => b'R',
         2 => b'K',
         _ => b'S',
     };
-    reading(letter, x)
+    reading(b, u, letter)
 }

@@ -11,16 +11,20 @@ mod runs;
 mod table;
 mod tally;
 
+// The number of boards that the word asks for.
+fn boards_asked() -> usize {
+    let mut word = [0u8; 8];
+    if os::arg(1, &mut word) == 0 {
+        300
+    } else {
+        10000
+    }
+}
+
 fn main() {
     let mut t = [[0u16; 6]; table::TABLE];
     let mut u = [0u64; tally::CELLS];
     let mut m = [0u8; 263168];
-    let mut word = [0u8; 8];
-    let n = if os::arg(1, &mut word) == 0 {
-        300
-    } else {
-        10000
-    };
-    boards::all(&mut t, &mut u, &mut m, n);
+    boards::all(&mut t, &mut u, &mut m, boards_asked());
     tally::put_all(&u);
 }

@@ -1,5 +1,4 @@
-// The mixed run of calls on a board, each made on both: a change, the list, at times a load to be refused, another list; with
-// rows in plenty, or none, one too few, then just enough.
+// The mixed run of calls on a board, each made on both: a change, the list, another list, at times a load to be refused.
 use crate::ask::ask;
 use crate::ask::spoken;
 use crate::dice;
@@ -12,7 +11,6 @@ use crate::table::HELD;
 use crate::table::Table;
 use crate::table::same_rows;
 use crate::tally::Tally;
-use crate::tally::add;
 use crate::tally::count;
 use crate::tally::judge;
 use promises::Verdict;
@@ -30,59 +28,35 @@ fn call(b: Plain, t: &mut Table, u: &mut Tally, m: &mut [u8], k: Call) -> Plain 
     let said = ask(m, k, t, b);
     want.held = said.held;
     want.holding = b.holding || (k.letter == b'Q' && said.refusal == 0);
-    add(u, b'h', if want.holding { 1 } else { 0 });
-    count(u, k.letter, want, said.opened);
     let right = is_right(want, t, k.letter, said.opened);
-    judge(u, k, want, said, right);
+    want.right = right;
+    count(u, k.letter, want, said.opened);
+    judge(u, k.letter, want, said);
     want
-}
-
-// With one row fewer than it needs, then with as many.
-fn again(b: Plain, t: &mut Table, u: &mut Tally, m: &mut [u8], asked: Call) -> Plain {
-    let mut k = asked;
-    k.lent = (b.detail % 5000 + 4999) % 5000;
-    let short = call(b, t, u, m, k);
-    k.lent = b.detail;
-    call(short, t, u, m, k)
-}
-
-// C + 1 rows are enough for every call; or, once in n, with no rows lent, and again if it needs some.
-fn calls(b: Plain, t: &mut Table, u: &mut Tally, m: &mut [u8], asked: Call, n: usize) -> Plain {
-    let mut k = asked;
-    k.lent = if roll(u, n) == 0 { 0 } else { b.c % 5000 + 1 };
-    let after = call(b, t, u, m, k);
-    if after.refusal == 8 {
-        return again(after, t, u, m, k);
-    }
-    after
 }
 
 // A load that is to be answered so.
 pub fn judge_load(want: Plain, u: &mut Tally, v: Verdict) {
     count(u, b'L', want, 0);
-    judge(u, dice::reading(b'L', 0), want, spoken(want, v, 0, 0), true);
+    judge(u, b'L', want, spoken(want, v, 0, 0));
 }
 
-// At times a load: C out of range, or a second row with a number too large or that of the first.
+// At times a load: C out of range, or a row with a number too large.
 fn refused_load(b: Plain, u: &mut Tally, m: &mut [u8]) {
-    let kind = roll(u, 60);
-    let c = if kind == 0 { 4097 } else { b.c };
-    let second = if kind == 1 { (b.c % 65536) as u16 } else { 0 };
-    if kind < 3 && 0 < b.c {
-        let v = loading::load(m, c, b.d, &[[0, 1, 1, 0, 0], [second, 1, 1, 0, 0]]);
-        let want = match kind {
-            0 => answer(b, 2, 0, 0),
-            1 => answer(b, 4, 1, 0),
-            _ => answer(b, 5, 1, 0),
-        };
-        judge_load(want, u, v);
+    let kind = roll(u, 40);
+    if b.c == 0 || 1 < kind {
+        return;
     }
+    let c = if kind == 0 { 4097 } else { b.c };
+    let v = loading::load(m, c, b.d, &[[65535, 0, 0, 0, 0]]);
+    judge_load(answer(b, if kind == 0 { 2 } else { 4 }, 0, 0), u, v);
 }
 
 fn read(b: Plain, t: &mut Table, u: &mut Tally, m: &mut [u8]) -> Plain {
-    let listed = calls(b, t, u, m, dice::reading(b'Q', 0), 5);
-    let asked = dice::query(u);
-    calls(listed, t, u, m, asked, 2)
+    let first = dice::reading(b, u, b'Q');
+    let listed = call(b, t, u, m, first);
+    let second = dice::query(listed, u);
+    call(listed, t, u, m, second)
 }
 
 fn step(
@@ -94,7 +68,7 @@ fn step(
     growing: bool,
 ) -> Plain {
     let k = dice::change(b, t, u, style, growing);
-    let after = calls(b, t, u, m, k, 3);
+    let after = call(b, t, u, m, k);
     refused_load(after, u, m);
     read(after, t, u, m)
 }

@@ -1,5 +1,4 @@
 // What was compared, counted in cells: one for each letter, digit or sign that a line of the names begins with.
-use crate::expect::Call;
 use crate::plain::Plain;
 use libc::STDOUT_FILENO;
 
@@ -15,6 +14,7 @@ pub fn add(u: &mut Tally, name: u8, v: usize) {
 
 // A call counted by its answer.
 pub fn count(u: &mut Tally, letter: u8, want: Plain, opened: usize) {
+    add(u, b'h', if want.holding { 1 } else { 0 });
     if 0 < want.refusal {
         add(u, 48 + (want.refusal % 9) as u8, 1);
         return;
@@ -36,43 +36,25 @@ fn put(n: u64) {
     io::print_decimal(STDOUT_FILENO, n);
 }
 
-fn put_numbers(numbers: &[u64; 10]) {
-    let mut i = 0;
-    while i < 10 {
-        put(numbers[i]);
-        i += 1;
-    }
-    io::write_all(STDOUT_FILENO, b"\n");
-}
-
 // The answers of both boards. A disagreement is counted, and the first few written out, since one that is left behind brings
-// others: the board's number, C, costs and moves, the call, and both refusals and counts.
-pub fn judge(u: &mut Tally, k: Call, want: Plain, said: Plain, right: bool) {
-    let same = want.refusal == said.refusal
+// others: the call's letter, the board's number, both refusals.
+pub fn judge(u: &mut Tally, letter: u8, want: Plain, said: Plain) {
+    if want.refusal == said.refusal
         && want.detail == said.detail
-        && want.count == said.count;
-    if same && right && said.right {
+        && want.count == said.count
+        && want.right
+        && said.right
+    {
         return;
     }
     add(u, b'!', 1);
-    if 3 < u[33] {
-        return;
+    if u[33] <= 3 {
+        io::write_all(STDOUT_FILENO, &[letter]);
+        put(u[98]);
+        put(want.refusal as u64);
+        put(said.refusal as u64);
+        io::write_all(STDOUT_FILENO, b"\n");
     }
-    io::write_all(STDOUT_FILENO, &[k.letter]);
-    put_numbers(
-        &[
-            u[98],
-            want.c as u64,
-            want.d as u64,
-            want.n as u64,
-            k.argument as u64,
-            k.lent as u64,
-            want.refusal as u64,
-            want.count as u64,
-            said.refusal as u64,
-            said.count as u64,
-        ],
-    );
 }
 
 fn put_named(u: &Tally, names: &[u8]) {
