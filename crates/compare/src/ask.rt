@@ -130,11 +130,7 @@ fn rank(m: &[u8], k: Call, t: &Table, b: Plain, rows: &mut [[u16; 6]]) -> Plain 
     said
 }
 
-// The call on the memory of the board b; what it said, and how many rows the holder then holds.
-pub fn ask(m: &mut [u8], k: Call, t: &mut Table, b: Plain) -> Plain {
-    if b'Z' < k.letter {
-        return change(m, k, t, b);
-    }
+fn read(m: &[u8], k: Call, t: &mut Table, b: Plain) -> Plain {
     if k.letter == b'Q' {
         return list(m, k, t, b);
     }
@@ -142,4 +138,12 @@ pub fn ask(m: &mut [u8], k: Call, t: &mut Table, b: Plain) -> Plain {
         return rank(m, k, t, b, &mut [[0u16; 6]; 4100]);
     }
     query(m, k, t, b)
+}
+
+// The call on the memory of the board b; what it said, and how many rows the holder then holds.
+pub fn ask(m: &mut [u8], k: Call, t: &mut Table, b: Plain) -> Plain {
+    if b'Z' < k.letter {
+        return change(m, k, t, b);
+    }
+    read(m, k, t, b)
 }

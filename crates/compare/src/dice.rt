@@ -42,17 +42,11 @@ pub fn costs(u: &mut Tally, d: usize, style: usize) -> [u16; 4] {
     [60000 - b % 20000 - e % 20000 - f % 20000 + a % 8, b, e, f]
 }
 
-// Any number, at times past the last; of a board that is to shrink mostly one on it.
+// Any number, at times past the last; of a board that is to shrink one on it.
 fn number(b: Plain, t: &Table, u: &mut Tally, growing: bool) -> u16 {
-    let any = roll(u, b.c) % 5000;
-    if roll(u, 20) == 0 {
-        return ((b.c % 5000 + any % 3) % 65536) as u16;
-    }
-    if growing || any % 8 == 0 {
-        return (any % 65536) as u16;
-    }
+    let any = roll(u, b.c % 5000 + b.c % 5000 / 16 + 1);
     let r = row_at(t, BOARD, roll(u, b.n));
-    r[1]
+    if growing { (any % 65536) as u16 } else { r[1] }
 }
 
 // A number on the board is withdrawn or re-costed, another entered; at times the other way round.
@@ -75,19 +69,15 @@ fn lent(b: Plain, u: &mut Tally) -> usize {
     }
 }
 
-// A change; at times with a cost past d, or with the costs that the number has.
+// A change, at times with costs past d.
 pub fn change(b: Plain, t: &Table, u: &mut Tally, style: usize, growing: bool) -> Call {
     let number = number(b, t, u, growing);
     let r = find(t, b.n, number);
-    let n = roll(u, 24);
-    let mut c = costs(u, if n == 0 { 4 } else { b.d }, style);
-    if n % 8 == 1 {
-        c = [r[2], r[3], r[4], r[5]];
-    }
+    let d = if roll(u, 24) == 0 { 4 } else { b.d };
     Call {
         letter: letter(u, r[0] != NONE, growing),
         number,
-        costs: c,
+        costs: costs(u, d, style),
         argument: 0,
         lent: lent(b, u),
     }

@@ -15,12 +15,16 @@ use crate::tally::count;
 use crate::tally::judge;
 use promises::Verdict;
 
-// The holder has the list. Of a list call, every leaf with a listed move was opened, and no node is without moves.
+// The holder has the list. Of a list call, every leaf with a listed move was opened, and no node is without moves; no other
+// call opens any.
 fn is_right(b: Plain, t: &Table, letter: u8, opened: usize) -> bool {
     if b.holding && (b.held != b.listed || !same_rows(t, HELD, b.list, b.held)) {
         return false;
     }
-    letter != b'Q' || 0 < b.refusal || (b.listed / 8 <= opened && opened <= b.n)
+    if letter != b'Q' || 0 < b.refusal {
+        return opened == 0;
+    }
+    (b.listed % 5000 + 7) / 8 <= opened && opened <= b.n
 }
 
 fn call(b: Plain, t: &mut Table, u: &mut Tally, m: &mut [u8], k: Call) -> Plain {

@@ -12,23 +12,19 @@ pub fn add(u: &mut Tally, name: u8, v: usize) {
     u[i] = u[i] % 1000000000000 + (v as u64) % 1000000;
 }
 
-// A call counted by its answer.
+// A call counted by its answer; rows that are no notice and no list go to a cell without a line.
 pub fn count(u: &mut Tally, letter: u8, want: Plain, opened: usize) {
+    let refused = (want.refusal % 9) as u8;
+    let name = if b'Z' < letter { b'c' } else { letter };
+    add(u, if refused == 0 { name } else { 48 + refused }, 1);
+    let told = match name {
+        b'c' => b'n',
+        b'Q' => b'l',
+        _ => b'.',
+    };
+    add(u, told, want.count);
+    add(u, b'o', opened);
     add(u, b'h', if want.holding { 1 } else { 0 });
-    if 0 < want.refusal {
-        add(u, 48 + (want.refusal % 9) as u8, 1);
-        return;
-    }
-    if b'Z' < letter {
-        add(u, b'c', 1);
-        add(u, b'n', want.count);
-        return;
-    }
-    add(u, letter, 1);
-    if letter == b'Q' {
-        add(u, b'l', want.count);
-        add(u, b'o', opened);
-    }
 }
 
 fn put(n: u64) {
@@ -48,9 +44,9 @@ pub fn judge(u: &mut Tally, letter: u8, want: Plain, said: Plain) {
         return;
     }
     add(u, b'!', 1);
-    if u[33] <= 3 {
+    if u[b'!' as usize] <= 3 {
         io::write_all(STDOUT_FILENO, &[letter]);
-        put(u[98]);
+        put(u[b'b' as usize]);
         put(want.refusal as u64);
         put(said.refusal as u64);
         io::write_all(STDOUT_FILENO, b"\n");
@@ -78,10 +74,20 @@ fn put_named(u: &Tally, names: &[u8]) {
 }
 
 pub fn put_all(u: &Tally) {
-    put_named(u, b"bboards\n^of size 4096\nLloads\ncchanges\n");
-    put_named(u, b"nrows of their notices\nQlists\nlrows listed\n");
-    put_named(u, b"onodes opened\nBbands\nRranks\nKon k\nSchosen\n");
-    put_named(u, b"hlists of the holder\n1refused 1\n2refused 2\n");
-    put_named(u, b"3refused 3\n4refused 4\n5refused 5\n6refused 6\n");
-    put_named(u, b"7refused 7\n8refused 8\n!disagreements\n");
+    put_named(
+        u,
+        b"bboards\n^of size 4096\nLloads\ncchanges\nnrows of their notices\nQlists\n",
+    );
+    put_named(
+        u,
+        b"lrows listed\nonodes opened\nBbands\nRranks\nKon k\nSchosen\n",
+    );
+    put_named(
+        u,
+        b"hlists of the holder\n1refused 1\n2refused 2\n3refused 3\n4refused 4\n",
+    );
+    put_named(
+        u,
+        b"5refused 5\n6refused 6\n7refused 7\n8refused 8\n!disagreements\n",
+    );
 }
