@@ -1,4 +1,4 @@
--- `with` meets its contract. Assumes nothing.
+-- `add` meets its contract. Assumes nothing.
 use Prim.Native.Nat.{ℕ, _/_, _%_, _^_, _<_}
 use mathlib.Core.Bool.{Bool, _||_}
 use mathlib.Core.List.{List}
@@ -15,8 +15,8 @@ use lib.ListN.{length, getD, set}
 use lib.Pow.{shl-exact}
 use lib.Seq.{getD-set-same, getD-set-other}
 use Rattle.numbers.proofs.Bits.{set-bit-same, set-bit-other}
-use Rattle.numbers.proofs.with.Statement.{statement}
-use Rattle.numbers.proofs.with.Tie as tie
+use Rattle.numbers.proofs.add.Statement.{statement}
+use Rattle.numbers.proofs.add.Tie as tie
 use Rattle.numbers.specs.Set.{inSet, With}
 
 -- The word of n, with its bit set, in place of the old one.
@@ -57,41 +57,41 @@ module _ (ws : List ℕ) (n : ℕ) (fits : n / 64 < length ws) where
 cast-at : tie.Need-cast-at
 cast-at c = search needs
 
-mul-more : tie.Need-mul-more
-mul-more c = search needs
+mul-words : tie.Need-mul-words
+mul-words c = search needs
 
-array-read-more : tie.Need-array-read-more
-array-read-more c = search needs
+slice-read-words : tie.Need-slice-read-words
+slice-read-words c = search needs
 
-cast-more : tie.Need-cast-more
-cast-more c = search needs
+cast-words : tie.Need-cast-words
+cast-words c = search needs
 
-shl-more : tie.Need-shl-more
-shl-more c = search needs
+shl-words : tie.Need-shl-words
+shl-words c = search needs
 
-mul-more-2 : tie.Need-mul-more-2
-mul-more-2 c = search needs
+mul-words-2 : tie.Need-mul-words-2
+mul-words-2 c = search needs
 
-array-write-more : tie.Need-array-write-more
-array-write-more c = search needs
+slice-write-words : tie.Need-slice-write-words
+slice-write-words c = search needs
 
 returns : tie.Need-returns
 returns c =
-    let a = c .args in
+    let a = c .before .before .args in
     let place : a .n % 64 < 64 = omega arith in
-    subst (λ (v : ℕ). With (a .set) (a .n) (set (a .set) (a .n / 64) (bitOr (getD (a .set) (a .n / 64) 0) v)))
+    subst (λ (v : ℕ). With (a .set .now) (a .n) (set (a .set .now) (a .n / 64) (bitOr (getD (a .set .now) (a .n / 64) 0) v)))
     (sym (shl-exact {a = 1} 1 (a .n % 64) 64 (omega arith) (omega arith) ∙ one-mul (2 ^ (a .n % 64))))
-    (set-with (a .set) (a .n) (omega arith))
+    (set-with (a .set .now) (a .n) (omega arith))
 
-pub with-spec : {M : Type 1} → statement M
-with-spec =
+pub add-spec : {M : Type 1} → statement M
+add-spec =
     tie.close
     (tie.spec
     cast-at
-    mul-more
-    array-read-more
-    cast-more
-    shl-more
-    mul-more-2
-    array-write-more
+    mul-words
+    slice-read-words
+    cast-words
+    shl-words
+    mul-words-2
+    slice-write-words
     returns)
