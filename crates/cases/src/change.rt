@@ -4,7 +4,7 @@ use crate::print::put_told;
 use crate::words::costs;
 use crate::words::narrow;
 use crate::words::value;
-use board::Plan;
+use upkeep::Plan;
 ghost use Prim.Native.Nat.{_<_};
 ghost use Rattle.upkeep.specs.Telling.{TellingAsked};
 ghost use Rattle.board.specs.Plan.{Able};

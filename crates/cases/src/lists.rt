@@ -5,7 +5,8 @@ use crate::print::put_rows;
 use crate::print::put_told;
 use crate::words::at_most;
 use crate::words::value;
-use query::QueryPlan;
+use upkeep::Plan;
+use upkeep::ROW;
 ghost use Prim.Native.Nat.{_<_};
 ghost use Rattle.upkeep.specs.Telling.{TellingAsked};
 
@@ -16,18 +17,12 @@ pub fn is_list(letter: u8) -> bool {
     letter == b'Q' || letter == b'B' || letter == b'K' || letter == b'O' || letter == b'S'
 }
 
-fn list(memory: &[u8], lent: usize) {
-    let p = listing::plan_list(memory, lent);
-    let verdict = p.verdict;
-    let telling = p.telling;
-    put_told(verdict, p.count);
-    put(p.opened as u64);
-    put_rows(memory, telling, p.count);
-}
-
-fn planned(letter: u8, memory: &[u8], x: usize, lent: usize) -> QueryPlan
+fn planned(letter: u8, memory: &[u8], x: usize, lent: usize) -> Plan
     ensures { λ r. ⌜ (0 < r .count → TellingAsked (r .telling) (now (memory .entry))) ⌝ }
 {
+    if letter == b'Q' {
+        return listing::plan_list(memory, x);
+    }
     if letter == b'B' {
         return query::plan_band(memory, x, lent);
     }
@@ -42,10 +37,13 @@ fn query(letter: u8, memory: &[u8], x: usize, lent: usize) {
     let verdict = p.verdict;
     let telling = p.telling;
     put_told(verdict, p.count);
+    if letter == b'Q' {
+        put(p.opened as u64);
+    }
     put_rows(memory, telling, p.count);
 }
 
-fn put_ranked(rows: &[[u16; 6]], count: usize) {
+fn put_ranked(rows: &[[u16; ROW]], count: usize) {
     let mut i = 0;
     while i < count {
         if i < rows.len() {
@@ -56,7 +54,7 @@ fn put_ranked(rows: &[[u16; 6]], count: usize) {
 }
 
 // Rank has its rows in lent space.
-fn rank(memory: &[u8], x: usize, lent: usize, rows: &mut [[u16; 6]]) {
+fn rank(memory: &[u8], x: usize, lent: usize, rows: &mut [[u16; ROW]]) {
     let n = at_most(lent, rows.len());
     let r = query::rank(memory, x, &mut rows[..n]);
     let verdict = r.verdict;
@@ -67,12 +65,8 @@ fn rank(memory: &[u8], x: usize, lent: usize, rows: &mut [[u16; 6]]) {
 pub fn answer(letter: u8, memory: &[u8], values: &[u64]) {
     let x = value(values, 0) as usize;
     let lent = value(values, 1) as usize;
-    if letter == b'Q' {
-        list(memory, x);
-        return;
-    }
     if letter == b'K' {
-        rank(memory, x, lent, &mut [[0u16; 6]; ROWS]);
+        rank(memory, x, lent, &mut [[0u16; ROW]; ROWS]);
         return;
     }
     query(letter, memory, x, lent);

@@ -3,6 +3,7 @@ use libc::STDOUT_FILENO;
 use promises::Verdict;
 use promises::detail_of;
 use promises::number_of;
+use upkeep::ROW;
 use upkeep::Telling;
 use upkeep::told_next;
 ghost use Prim.Native.Nat.{_<_};
@@ -24,7 +25,7 @@ pub fn put_told(v: Verdict, count: usize) {
     put(count as u64);
 }
 
-pub fn put_row(r: [u16; 6]) {
+pub fn put_row(r: [u16; ROW]) {
     put(r[0] as u64);
     put(r[1] as u64);
     put(r[2] as u64);

@@ -1,4 +1,5 @@
 // A line of the input and its numbers.
+use zorder::COSTS;
 ghost use Prim.Native.Nat.{_≤_};
 
 // As far as it was read: a letter, then numbers, up to the sign `=`. The numbers go into lent space; the length of the memory
@@ -48,9 +49,9 @@ pub fn narrow(n: u64) -> u16 {
 }
 
 // The costs from place i on.
-pub fn costs(values: &[u64], i: usize) -> [u16; 4] {
+pub fn costs(values: &[u64], i: usize) -> [u16; COSTS] {
     if values.len() <= i {
-        return [0u16; 4];
+        return [0u16; COSTS];
     }
     [
         narrow(value(values, i)),

@@ -6,11 +6,11 @@ use crate::table::Table;
 use crate::table::WANT;
 use crate::table::row_at;
 use crate::table::same_row;
-use board::Plan;
 use promises::Verdict;
 use promises::detail_of;
 use promises::number_of;
-use query::QueryPlan;
+use upkeep::Plan;
+use upkeep::ROW;
 use upkeep::Telling;
 use upkeep::told_next;
 ghost use Prim.Native.Nat.{_<_, _≤_};
@@ -66,28 +66,24 @@ fn change(m: &mut [u8], k: Call, t: &mut Table, b: Plain) -> Plain {
     let p = plan_change(m, k);
     let v = p.verdict;
     let telling = p.telling;
-    let said = hear(m, telling, p.count, t, spoken(b, v, p.count, 0), k.letter);
-    board::carry_out(m, p);
-    said
-}
-
-fn list(m: &[u8], k: Call, t: &mut Table, b: Plain) -> Plain {
-    let p = listing::plan_list(m, k.lent);
-    let v = p.verdict;
-    let telling = p.telling;
-    hear(
+    let said = hear(
         m,
         telling,
         p.count,
         t,
         spoken(b, v, p.count, p.opened),
         k.letter,
-    )
+    );
+    board::carry_out(m, p);
+    said
 }
 
-fn plan_query(m: &[u8], k: Call) -> QueryPlan
+fn plan_query(m: &[u8], k: Call) -> Plan
     ensures { λ r. ⌜ (0 < r .count → TellingAsked (r .telling) (now (m .entry))) ⌝ }
 {
+    if k.letter == b'Q' {
+        return listing::plan_list(m, k.lent);
+    }
     if k.letter == b'B' {
         return query::plan_band(m, k.argument, k.lent);
     }
@@ -101,10 +97,17 @@ fn query(m: &[u8], k: Call, t: &mut Table, b: Plain) -> Plain {
     let p = plan_query(m, k);
     let v = p.verdict;
     let telling = p.telling;
-    hear(m, telling, p.count, t, spoken(b, v, p.count, 0), k.letter)
+    hear(
+        m,
+        telling,
+        p.count,
+        t,
+        spoken(b, v, p.count, p.opened),
+        k.letter,
+    )
 }
 
-fn ranked_right(t: &Table, rows: &[[u16; 6]], count: usize) -> bool {
+fn ranked_right(t: &Table, rows: &[[u16; ROW]], count: usize) -> bool {
     let mut i = 0;
     while i < count {
         if i < rows.len() && !same_row(rows[i], row_at(t, WANT, i)) {
@@ -121,21 +124,18 @@ pub fn at_most(n: usize, bound: usize) -> usize
     if n <= bound { n } else { bound }
 }
 
-fn rank(m: &[u8], k: Call, t: &Table, b: Plain, rows: &mut [[u16; 6]]) -> Plain {
+fn rank(m: &[u8], k: Call, t: &Table, b: Plain, rows: &mut [[u16; ROW]]) -> Plain {
     let lent = at_most(k.lent, rows.len());
     let a = query::rank(m, k.argument, &mut rows[..lent]);
     let v = a.verdict;
-    let mut said = spoken(b, v, a.count, 0);
+    let mut said = spoken(b, v, a.count, a.opened);
     said.right = ranked_right(t, rows, a.count);
     said
 }
 
 fn read(m: &[u8], k: Call, t: &mut Table, b: Plain) -> Plain {
-    if k.letter == b'Q' {
-        return list(m, k, t, b);
-    }
     if k.letter == b'R' {
-        return rank(m, k, t, b, &mut [[0u16; 6]; 4100]);
+        return rank(m, k, t, b, &mut [[0u16; ROW]; 4100]);
     }
     query(m, k, t, b)
 }

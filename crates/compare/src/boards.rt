@@ -13,22 +13,30 @@ use crate::table::Table;
 use crate::table::put_in;
 use crate::tally::Tally;
 use crate::tally::add;
+use loading::INPUT;
 
 // Row i of a load, put on the plain board too; numbers go down.
-fn make(b: Plain, t: &mut Table, u: &mut Tally, style: usize, i: usize) -> [u16; 5] {
+fn make(b: Plain, t: &mut Table, u: &mut Tally, style: usize, i: usize) -> [u16; INPUT] {
     let x = ((b.c % 65536 + 65535 - i % 65536) % 65536) as u16;
     let c = costs(u, b.d, style);
     put_in(t, BOARD, i, [0, x, c[0], c[1], c[2], c[3]]);
     [x, c[0], c[1], c[2], c[3]]
 }
 
-fn put_input(input: &mut [[u16; 5]], i: usize, r: [u16; 5]) {
+fn put_input(input: &mut [[u16; INPUT]], i: usize, r: [u16; INPUT]) {
     if i < input.len() {
         input[i] = r;
     }
 }
 
-fn fill(b: Plain, t: &mut Table, u: &mut Tally, input: &mut [[u16; 5]], style: usize, n: usize) {
+fn fill(
+    b: Plain,
+    t: &mut Table,
+    u: &mut Tally,
+    input: &mut [[u16; INPUT]],
+    style: usize,
+    n: usize,
+) {
     let mut i = 0;
     while i < n {
         put_input(input, i, make(b, t, u, style, i));
@@ -36,13 +44,13 @@ fn fill(b: Plain, t: &mut Table, u: &mut Tally, input: &mut [[u16; 5]], style: u
     }
 }
 
-fn load(b: Plain, u: &mut Tally, m: &mut [u8], input: &[[u16; 5]], n: usize) {
+fn load(b: Plain, u: &mut Tally, m: &mut [u8], input: &[[u16; INPUT]], n: usize) {
     let k = at_most(n, input.len());
     judge_load(b, u, loading::load(m, b.c, b.d, &input[..k]));
 }
 
 fn loaded(b: Plain, t: &mut Table, u: &mut Tally, m: &mut [u8], style: usize, n: usize) -> Plain {
-    let mut input = [[0u16; 5]; 4096];
+    let mut input = [[0u16; INPUT]; 4096];
     fill(b, t, u, &mut input, style, n);
     load(b, u, m, &input, n);
     listed(b, t, n)

@@ -8,6 +8,7 @@ use crate::table::BOARD;
 use crate::table::Table;
 use crate::table::row_at;
 use crate::tally::Tally;
+use zorder::COSTS;
 
 // A number below n.
 pub fn roll(u: &mut Tally, n: usize) -> usize {
@@ -31,7 +32,7 @@ fn cost(u: &mut Tally, style: usize) -> u16 {
 }
 
 // With sums that are nearly constant few moves dominate.
-pub fn costs(u: &mut Tally, d: usize, style: usize) -> [u16; 4] {
+pub fn costs(u: &mut Tally, d: usize, style: usize) -> [u16; COSTS] {
     let a = cost(u, style);
     let b = cost(u, style);
     let e = if d < 3 { 0 } else { cost(u, style) };
@@ -89,7 +90,7 @@ pub fn reading(b: Plain, u: &mut Tally, letter: u8) -> Call {
     Call {
         letter,
         number: 0,
-        costs: [0u16; 4],
+        costs: [0u16; COSTS],
         argument: if n < 10 { 4094 + n % 4 } else { n % 10 },
         lent: lent(b, u),
     }

@@ -11,12 +11,13 @@ use crate::rules::Test;
 use crate::table::Row;
 use crate::table::Table;
 use crate::table::WANT;
+use zorder::COSTS;
 
 // A call: e enter, w withdraw, c re-cost; Q list, B band, R rank, K on k, S chosen. What it is given, and the rows lent.
 pub struct Call {
     pub letter: u8,
     pub number: u16,
-    pub costs: [u16; 4],
+    pub costs: [u16; COSTS],
     pub argument: usize,
     pub lent: usize,
 }

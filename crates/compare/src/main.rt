@@ -1,6 +1,8 @@
 // The board beside a plain all-pairs program: many boards, loaded and then changed and read through the public calls, each
 // answer held against one that is made from document 01's words alone, and a holder who follows the notices. Prints what was
 // compared, and the first calls where the two disagree. The word `long` makes a longer run.
+use upkeep::ROW;
+
 mod ask;
 mod boards;
 mod dice;
@@ -22,7 +24,7 @@ fn boards_asked() -> usize {
 }
 
 fn main() {
-    let mut t = [[0u16; 6]; table::TABLE];
+    let mut t = [[0u16; ROW]; table::TABLE];
     let mut u = [0u64; tally::CELLS];
     let mut m = [0u8; 263168];
     boards::all(&mut t, &mut u, &mut m, boards_asked());
