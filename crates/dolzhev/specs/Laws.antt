@@ -1,2 +1,3 @@
 -- Laws of the exported calls.
 pub mod Exported
+pub mod Demand3

@@ -1,3 +1,4 @@
--- What the exported calls promise; then laws.
+-- What the exported calls promise, and their runs; then laws.
 pub mod Exported
+pub mod Run
 pub mod Laws

@@ -5,9 +5,10 @@ use mathlib.Core.Path.{_≡_, refl}
 use Rattle.model.specs.Computing.{computing}
 use Rattle.model.specs.Changing.{changeTree}
 use Rattle.framing.specs.Digits.{isDigit, valueOf, digitOf, joined, bytesOf, numbersOf}
-use Rattle.framing.specs.Frames.{sized, frameNumber, frameCosts, boardFrame, callCodes, frameIn, wholeBytes, frameOf}
+use Rattle.framing.specs.State.{dimensionOf}
+use Rattle.framing.specs.Frames.{sized, frameNumber, frameCosts, callFrame, boardFrame, callCodes, frameIn, wholeBytes, frameOf}
 use Rattle.framing.specs.Text.{byteText, wordText, rowText, rowsText, saidText, lineEnd, answerText}
-use Rattle.framing.specs.Session.{unloaded, dimensionOf, saidBy, heldBy, loadSays, said, held, answerTo, after, answersTo, linesFrom, output}
+use Rattle.framing.specs.Session.{saidBy, heldBy, loadSays, said, held, answerTo, after, answersTo, linesFrom, printed, output}
 
 -- The line that spells n in k digits.
 pub spelled : ℕ → ℕ → List ℕ
@@ -18,7 +19,7 @@ pub ended : List (List ℕ) → List ℕ
 ended lines = flatMap (λ l. l ++ lineEnd ∷ []) lines
 
 computes : Unit {0}
-unfolding computing changeTree isDigit valueOf digitOf joined bytesOf numbersOf sized frameNumber frameCosts boardFrame callCodes frameIn wholeBytes frameOf byteText wordText rowText rowsText saidText answerText dimensionOf saidBy heldBy loadSays said held answerTo after answersTo linesFrom output spelled ended
+unfolding computing changeTree isDigit valueOf digitOf joined bytesOf numbersOf sized frameNumber frameCosts callFrame boardFrame callCodes frameIn wholeBytes frameOf byteText wordText rowText rowsText saidText answerText dimensionOf saidBy heldBy loadSays said held answerTo after answersTo linesFrom printed output spelled ended
 computes = tt
 
 -- The last line without its line end.
@@ -53,6 +54,11 @@ pub before-a-load : output (ended (spelled 2 0x50 ∷ spelled 4 0x50AB ∷ spell
     ≡ ended (spelled 6 0x030000 ∷ spelled 6 0x030000 ∷ spelled 6 0x090000 ∷ spelled 6 0x090000 ∷ spelled 6 0x090000 ∷ [])
 unfolding computes
 before-a-load = refl
+
+-- A carriage return is a byte of its line.
+pub carriage-return : output (spelled 2 0x50 ++ 13 ∷ lineEnd ∷ []) ≡ ended (spelled 6 0x090000 ∷ [])
+unfolding computes
+carriage-return = refl
 
 -- "A last line needs no line end; empty input prints nothing."
 pub empty-input : output [] ≡ []

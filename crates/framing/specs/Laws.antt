@@ -1,8 +1,10 @@
 -- Laws of the definitions and of what the contracts say.
 pub mod Put
 pub mod Texts
+pub mod Told
 pub mod Said
 pub mod Judged
 pub mod Pairs
 pub mod Frames
 pub mod Serving
+pub mod Feeding

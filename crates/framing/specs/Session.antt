@@ -1,15 +1,14 @@
 -- The program's answers, line after line (document 01, "Frames"): a board of C = 256, 257 rows lent to each call.
 use Prim.Native.Nat.{ℕ}
-use mathlib.Core.Bool.{Bool, true, false, cond}
+use mathlib.Core.Bool.{cond}
 use mathlib.Core.List.{List, [], _∷_, _++_}
 use lib.Dec.{eqb}
-use Rattle.model.specs.Moves.{Row}
-use Rattle.model.specs.Tree.{Tree}
 use Rattle.model.specs.Loading.{loadTree}
 use Rattle.model.specs.Nodes.{nodesOpened}
 use Rattle.model.specs.Changing.{changeTree}
 use Rattle.model.specs.Calls as calls
-use Rattle.model.specs.Calls.{Board, Change, memoryNeed, loadAnswer, changeAnswer, changeNotice, changed, queryAnswer, queryRows}
+use Rattle.model.specs.Calls.{memoryNeed, loadAnswer, changeAnswer, changeNotice, changed, queryAnswer, queryRows}
+use Rattle.framing.specs.State.{State, unloaded, holds, dimensionOf}
 use Rattle.framing.specs.Frames.{Frame, load, change, list, early, wrong, frameOf}
 use Rattle.framing.specs.Text.{Reply, refused, notice, listed, answerText, lineEnd}
 
@@ -18,15 +17,6 @@ boardSize = 256
 
 abbrev pub lentRows : ℕ
 lentRows = 257
-
--- What the program holds: no board before an accepted 10, then a board and its tree.
-pub data State : Type 0 where
-  unloaded : State
-  holds : Board → Tree → State
-
-unfoldable pub dimensionOf : State → ℕ
-dimensionOf unloaded = 0
-dimensionOf (holds b t) = b .dimension
 
 -- What is said where a call gives this answer: a refusal, or else this.
 unfoldable pub saidBy : calls.Answer → Reply → Reply
@@ -61,10 +51,10 @@ held wrong s = s
 
 -- The answer to one line, and what is held after it.
 unfoldable pub answerTo : State → List ℕ → List ℕ
-answerTo s line = answerText (dimensionOf s) (said (frameOf (dimensionOf s) line) s)
+answerTo s line = answerText (dimensionOf s) (said (frameOf s line) s)
 
 unfoldable pub after : State → List ℕ → State
-after s line = held (frameOf (dimensionOf s) line) s
+after s line = held (frameOf s line) s
 
 -- The answers to lines.
 unfoldable pub answersTo : State → List (List ℕ) → List ℕ
@@ -77,6 +67,10 @@ linesFrom [] [] = []
 linesFrom (b ∷ line) [] = (b ∷ line) ∷ []
 linesFrom line (b ∷ bs) = cond (eqb b lineEnd) (line ∷ linesFrom [] bs) (linesFrom (line ++ b ∷ []) bs)
 
+-- What is printed of an input, where s is held and `line` was read of its first line.
+unfoldable pub printed : State → List ℕ → List ℕ → List ℕ
+printed s line input = answersTo s (linesFrom line input)
+
 -- What the program prints.
 unfoldable pub output : List ℕ → List ℕ
-output input = answersTo unloaded (linesFrom [] input)
+output input = printed unloaded [] input

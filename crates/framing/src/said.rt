@@ -1,18 +1,16 @@
 // What a call says, as the bytes of an answer line.
-use crate::ROW;
 use crate::text::put_byte;
-use crate::text::put_rows;
+use crate::text::put_told;
 use crate::text::put_word;
-use promises::Answer;
-use promises::ListAnswer;
 use promises::detail_of;
 use promises::number_of;
+use upkeep::Plan;
 ghost use mathlib.Core.Path.{_≡_};
 ghost use mathlib.Core.List.{[], _∷_};
 ghost use Prim.Native.Nat.{_+_, _%_, _≤_};
 ghost use lib.ListN.{length};
 ghost use Rattle.framing.specs.Text.{refused, lineEnd, answerText};
-ghost use Rattle.framing.specs.Writing.{Put, Room, headText, tailText, answerSaid, listSaid};
+ghost use Rattle.framing.specs.Writing.{Put, Room, headText, openedText, planSaid};
 
 // A number in two bytes.
 fn two_bytes(n: usize) -> u16
@@ -48,41 +46,30 @@ fn put_head(out: &mut [u8], count: usize) -> usize
     put_word(out, count_at, two_bytes(count))
 }
 
-// The rows, and the line end.
-fn put_tail(out: &mut [u8], at: usize, d: usize, rows: &[[u16; ROW]], count: usize) -> usize
-    requires { ⌜ Room d at count (now rows) (now out) ⌝ }
-    ensures { λ r. ⌜ Put (tailText d count (now (rows .entry))) (now (out .entry)) at (now (out .exit)) r ⌝ }
+// The nodes opened, which only a list has.
+fn put_opened(out: &mut [u8], at: usize, lists: bool, opened: usize) -> usize
+    requires { ⌜ at + 4 ≤ length (now out) ⌝ }
+    ensures { λ r. ⌜ Put (openedText lists opened) (now (out .entry)) at (now (out .exit)) r ⌝ }
 {
-    let end = put_rows(out, at, d, rows, count);
+    if !lists {
+        return at;
+    }
+    put_word(out, at, two_bytes(opened))
+}
+
+// What a call says, of a list or of a change, with the rows that it tells.
+pub fn put_plan(out: &mut [u8], m: &[u8], d: usize, lists: bool, p: Plan) -> usize
+    requires { ⌜ Room d 10 (p .count) (p .telling) (now m) (now out) ⌝ }
+    ensures { λ n. ⌜ Put (answerText d (planSaid lists p (now (m .entry)))) (now (out .entry)) 0 (now (out .exit)) n ⌝ }
+{
+    let verdict = p.verdict;
+    let telling = p.telling;
+    let number = number_of(verdict);
+    if number != 0 {
+        return put_refusal(out, number, detail_of(verdict));
+    }
+    let opened_at = put_head(out, p.count);
+    let rows_at = put_opened(out, opened_at, lists, p.opened);
+    let end = put_told(out, rows_at, d, m, telling, p.count);
     put_end(out, end)
-}
-
-pub fn put_answer(out: &mut [u8], d: usize, r: Answer, rows: &[[u16; ROW]]) -> usize
-    requires { ⌜ Room d 10 (r .count) (now rows) (now out) ⌝ }
-    ensures { λ n. ⌜ Put (answerText d (answerSaid r (now (rows .entry)))) (now (out .entry)) 0 (now (out .exit)) n ⌝ }
-{
-    let verdict = r.verdict;
-    let count = r.count;
-    let number = number_of(verdict);
-    if number != 0 {
-        return put_refusal(out, number, detail_of(verdict));
-    }
-    let rows_at = put_head(out, count);
-    put_tail(out, rows_at, d, rows, count)
-}
-
-pub fn put_list(out: &mut [u8], d: usize, r: ListAnswer, rows: &[[u16; ROW]]) -> usize
-    requires { ⌜ Room d 10 (r .count) (now rows) (now out) ⌝ }
-    ensures { λ n. ⌜ Put (answerText d (listSaid r (now (rows .entry)))) (now (out .entry)) 0 (now (out .exit)) n ⌝ }
-{
-    let verdict = r.verdict;
-    let count = r.count;
-    let opened = r.opened;
-    let number = number_of(verdict);
-    if number != 0 {
-        return put_refusal(out, number, detail_of(verdict));
-    }
-    let opened_at = put_head(out, count);
-    let rows_at = put_word(out, opened_at, two_bytes(opened));
-    put_tail(out, rows_at, d, rows, count)
 }

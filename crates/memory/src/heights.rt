@@ -1,16 +1,16 @@
 // Whether the heights are those of a tree: the first is the highest, and at each level every node has entries in number.
 use crate::fields::height_at;
 ghost use mathlib.Core.Path.{_≡_};
-ghost use Prim.Native.Nat.{ℕ, _≤_, _<_};
+ghost use Prim.Native.Nat.{_≤_, _<_};
 ghost use mathlib.Core.Bool.{cond};
 ghost use lib.Dec.{leb};
 ghost use Rattle.line.specs.Heights as definition;
 ghost use Rattle.memory.specs.Room.{Room};
-ghost use Rattle.promises.specs.Layout.{lineFrom};
+ghost use Rattle.promises.specs.Layout.{heightsFrom};
 
 fn first_highest(m: &[u8], c: usize, n: usize) -> bool
     requires { ⌜ Room c (now m) × (n ≤ c) ⌝ }
-    ensures { λ r. ⌜ ((d : ℕ) → r ≡ definition.firstHighest (lineFrom c d n (now (m .entry)))) ⌝ }
+    ensures { λ r. ⌜ r ≡ definition.firstHighest (heightsFrom c n (now (m .entry))) ⌝ }
 {
     if n == 0 {
         return true;
@@ -32,7 +32,7 @@ fn first_highest(m: &[u8], c: usize, n: usize) -> bool
 // Whether every node at level l, which is at least 1, has lo to 8 entries.
 fn counts_right(m: &[u8], c: usize, n: usize, l: u8, lo: usize) -> bool
     requires { ⌜ Room c (now m) × (n ≤ c) × (0 < n) × (0 < l) ⌝ }
-    ensures { λ r. ⌜ ((d : ℕ) → r ≡ definition.countsAt l lo (lineFrom c d n (now (m .entry)))) ⌝ }
+    ensures { λ r. ⌜ r ≡ definition.countsAt l lo (heightsFrom c n (now (m .entry))) ⌝ }
 {
     let mut entries: usize = 1;
     let mut i = 1;
@@ -67,7 +67,7 @@ fn least_entries(top: u8, l: u8) -> usize
 
 pub(crate) fn heights_right(m: &[u8], c: usize, n: usize) -> bool
     requires { ⌜ Room c (now m) × (n ≤ c) ⌝ }
-    ensures { λ r. ⌜ ((d : ℕ) → r ≡ definition.heightsRight (lineFrom c d n (now (m .entry)))) ⌝ }
+    ensures { λ r. ⌜ r ≡ definition.heightsRight (heightsFrom c n (now (m .entry))) ⌝ }
 {
     if n == 0 {
         return true;

@@ -74,6 +74,10 @@ module _ {A : Type 0} where
   tab f zero = []
   tab f (suc k) = tab f k ++ f k ∷ []
 
+-- The heights of the first n rows.
+unfoldable pub heightsFrom : ℕ → ℕ → List ℕ → List ℕ
+heightsFrom c n m = tab (heightIn c m) n
+
 unfoldable pub costsIn : ℕ → ℕ → List ℕ → ℕ → List ℕ
 costsIn c d m n = padded d (tab (costIn c m n) d)
 

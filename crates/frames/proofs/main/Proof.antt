@@ -1,41 +1,39 @@
 -- `main` meets its contract. Assumes nothing.
 use borrow.Author.Needs.{needs}
-use mathlib.Core.Path.{refl}
+use mathlib.Core.Path.{refl, sym}
+use lib.Seq.{length-take-le}
 use Rattle.model.specs.Calls.{memoryNeed}
-use Rattle.framing.specs.Session.{unloaded}
+use Rattle.framing.specs.State.{unloaded}
 use Rattle.framing.specs.Serving.{StateIn, Ready, Lent}
 use native.Mathlib.Omega.{arith}
 use Rattle.frames.proofs.main.Statement.{statement}
 use Rattle.frames.proofs.main.Tie as tie
 
 abbrev Inv-loop : tie.InvT-loop
-Inv-loop m₀ rows₀ out₀ p₀ turns₀ m rows out p turns = Ready (p .dimension) m × Lent m rows out
+Inv-loop m₀ out₀ p₀ turns₀ m out p turns = Ready (p .dimension) m × Lent m out
 
 abbrev μ-loop : tie.MeasureT-loop
-μ-loop m₀ rows₀ out₀ p₀ turns₀ m rows out p turns = turns
+μ-loop m₀ out₀ p₀ turns₀ m out p turns = turns
 
-new-requires : tie.Need-new-requires Inv-loop μ-loop
-new-requires c κs = search needs
+start-requires : tie.Need-start-requires Inv-loop μ-loop
+start-requires c κs = search needs
 
 loop-holds : tie.Need-loop-holds Inv-loop μ-loop
 unfolding StateIn memoryNeed
 loop-holds c = (
-  record { state = unloaded; holds = refl },
-  record { memory = refl; table = refl; text = refl },
+  record { state = unloaded; holds = c .start .ensures .dimension },
+  record { memory = refl; text = refl },
 )
 
-slice-aggregate-feed : tie.Need-slice-aggregate-feed Inv-loop μ-loop
+slice-aggregate-answer-read : tie.Need-slice-aggregate-answer-read Inv-loop μ-loop
 unfolding memoryNeed
-slice-aggregate-feed c = omega arith
+slice-aggregate-answer-read c = omega arith
 
-slice-aggregate-feed-2 : tie.Need-slice-aggregate-feed-2 Inv-loop μ-loop
-slice-aggregate-feed-2 c = omega arith
+slice-aggregate-answer-read-2 : tie.Need-slice-aggregate-answer-read-2 Inv-loop μ-loop
+slice-aggregate-answer-read-2 c = omega arith
 
-slice-aggregate-feed-3 : tie.Need-slice-aggregate-feed-3 Inv-loop μ-loop
-slice-aggregate-feed-3 c = omega arith
-
-feed-requires : tie.Need-feed-requires Inv-loop μ-loop
-feed-requires c κs = search needs
+answer-read-requires : tie.Need-answer-read-requires Inv-loop μ-loop
+answer-read-requires c κs = search needs
 
 slice-aggregate-finish : tie.Need-slice-aggregate-finish Inv-loop μ-loop
 unfolding memoryNeed
@@ -44,14 +42,18 @@ slice-aggregate-finish c = omega arith
 slice-aggregate-finish-2 : tie.Need-slice-aggregate-finish-2 Inv-loop μ-loop
 slice-aggregate-finish-2 c = omega arith
 
-slice-aggregate-finish-3 : tie.Need-slice-aggregate-finish-3 Inv-loop μ-loop
-slice-aggregate-finish-3 c = omega arith
-
 finish-requires : tie.Need-finish-requires Inv-loop μ-loop
-finish-requires c κs = (
-  c .before .before .before .before .before .before .before .before .before .feed .ensures,
-  record { memory = omega arith; table = omega arith; text = omega arith },
-)
+finish-requires c κs =
+    (c .before .before .before .before .before .before .before .answer-read .ensures, record { memory = omega arith; text = omega arith })
+
+array-share-prefix-out : tie.Need-array-share-prefix-out Inv-loop μ-loop
+array-share-prefix-out c = omega (arith, c .before .before .finish .ensures .within)
+
+slice-aggregate-write-all : tie.Need-slice-aggregate-write-all Inv-loop μ-loop
+slice-aggregate-write-all c = sym (length-take-le _ _ (c .before .before .before .finish .ensures .within))
+
+write-all-requires : tie.Need-write-all-requires Inv-loop μ-loop
+write-all-requires c κs = search needs
 
 returns : tie.Need-returns Inv-loop μ-loop
 returns c = search needs
@@ -64,7 +66,7 @@ loop-less c = omega arith
 
 loop-again : tie.Need-loop-again Inv-loop μ-loop
 loop-again c =
-    (c .before .before .before .before .before .before .feed .ensures, record { memory = omega arith; table = omega arith; text = omega arith })
+    (c .before .before .before .before .before .answer-read .ensures, record { memory = omega arith; text = omega arith })
 
 returns-2 : tie.Need-returns-2 Inv-loop μ-loop
 returns-2 c = search needs
@@ -75,16 +77,17 @@ main-spec =
     (tie.spec
     Inv-loop
     μ-loop
-    new-requires
+    start-requires
     loop-holds
-    slice-aggregate-feed
-    slice-aggregate-feed-2
-    slice-aggregate-feed-3
-    feed-requires
+    slice-aggregate-answer-read
+    slice-aggregate-answer-read-2
+    answer-read-requires
     slice-aggregate-finish
     slice-aggregate-finish-2
-    slice-aggregate-finish-3
     finish-requires
+    array-share-prefix-out
+    slice-aggregate-write-all
+    write-all-requires
     returns
     sub-turns
     loop-less

@@ -1,19 +1,17 @@
 -- The text of what a call says, from its pieces.
 use Prim.Native.Nat.{ℕ, _≤_}
 use mathlib.Core.Bool.{Bool, true, false, cond}
-use mathlib.Core.List.{List, [], _∷_, _++_, map, append-assoc}
+use mathlib.Core.List.{List, [], _∷_, _++_, append-nil}
 use mathlib.Core.Path.{_≡_, refl, sym, ap, ap₂, _∙_}
 use borrow.Author.Tests.{eq-eqb, ne-eqb}
 use native.Mathlib.Omega.{arith}
-use lib.Dec.{eqb}
-use lib.ListN.{length, take, length-map}
-use lib.Seq.{length-take-le}
+use lib.ListN.{length}
 use Rattle.model.specs.Moves.{Row}
-use Rattle.promises.specs.Answers.{numberOf, detailOf, answerOf, resultRow}
+use Rattle.promises.specs.Answers.{numberOf, detailOf, answerOf}
 use Rattle.promises.specs.declared.Verdict.{Verdict}
 use Rattle.framing.specs.Text.{byteText, wordText, rowsText, Reply, refused, notice, listed, saidText, answerText, lineEnd}
 use Rattle.framing.specs.Session.{saidBy}
-use Rattle.framing.specs.Writing.{headText, tailText}
+use Rattle.framing.specs.Writing.{headText, openedText}
 
 pub refused-text : (d : ℕ) (v : Verdict) (s : Reply) {n k : ℕ} → n ≡ numberOf v → k ≡ detailOf v → (n ≡ 0 → ⊥) → answerText 0 (refused n k) ≡ answerText d (saidBy (answerOf v) s)
 unfolding answerText saidText saidBy answerOf
@@ -27,22 +25,21 @@ unfolding saidBy answerOf
 accepted-text d v s accepts =
     ap (λ (b : Bool). answerText d (cond b s (refused (numberOf v) (detailOf v)))) (sym (eq-eqb (numberOf v) 0 accepts))
 
-module _ (d count : ℕ) (rows : List (List ℕ)) (enough : count ≤ length rows) where
-  taken : List Row
-  taken = take count (map resultRow rows)
+pub head-length : (count : ℕ) → length (headText count) ≡ 6
+unfolding headText byteText wordText
+head-length count = refl
 
-  taken-length : length taken ≡ count
-  unfolding taken
-  taken-length = length-take-le count (map resultRow rows) (omega (arith, length-map rows resultRow))
+pub opened-most : (lists : Bool) (opened : ℕ) → length (openedText lists opened) ≤ 4
+unfolding openedText byteText wordText
+opened-most true opened = omega arith
+opened-most false opened = omega arith
 
-  pub told-text : headText count ++ tailText d count rows ≡ answerText d (notice (take count (map resultRow rows)))
-  unfolding taken headText tailText answerText saidText
-  told-text =
-      sym (append-assoc (headText count) (rowsText d taken) (lineEnd ∷ []))
-      ∙ ap (λ (n : ℕ). (byteText 0 ++ wordText n ++ rowsText d taken) ++ lineEnd ∷ []) (sym taken-length)
-
-  pub listed-text : (opened : ℕ) → (headText count ++ wordText opened) ++ tailText d count rows ≡ answerText d (listed opened (take count (map resultRow rows)))
-  unfolding taken headText tailText answerText saidText
-  listed-text opened =
-      sym (append-assoc (headText count ++ wordText opened) (rowsText d taken) (lineEnd ∷ []))
-      ∙ ap (λ (n : ℕ). (byteText 0 ++ wordText n ++ wordText opened ++ rowsText d taken) ++ lineEnd ∷ []) (sym taken-length)
+-- The text of an accepted answer, from its pieces.
+pub plan-text : (d count opened : ℕ) (lists : Bool) (rows : List Row) → length rows ≡ count
+    → ((headText count ++ openedText lists opened) ++ rowsText d rows) ++ lineEnd ∷ [] ≡ answerText d (cond lists (listed opened rows) (notice rows))
+unfolding headText openedText answerText saidText
+plan-text d count opened true rows all =
+    ap (λ (n : ℕ). ((headText n ++ wordText opened) ++ rowsText d rows) ++ lineEnd ∷ []) (sym all)
+plan-text d count opened false rows all =
+    ap (λ (l : List ℕ). (l ++ rowsText d rows) ++ lineEnd ∷ []) (append-nil (headText count))
+    ∙ ap (λ (n : ℕ). (headText n ++ rowsText d rows) ++ lineEnd ∷ []) (sym all)

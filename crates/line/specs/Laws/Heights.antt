@@ -13,7 +13,7 @@ use Rattle.model.specs.Basics.{Each, consIf, all, within}
 use Rattle.model.specs.Tree.{Entry, Tree, empty, rooted, firstMove, filled, rootLeast, filledTree}
 use Rattle.model.specs.Laws.Bool.{testCases, and-left, and-right, and-both}
 use Rattle.model.specs.Laws.Basics.{each-mono, all-each, each-all}
-use Rattle.line.specs.Line.{Placed, lineOf}
+use Rattle.line.specs.Line.{Placed, lineOf, heightsIn}
 use Rattle.line.specs.Heights.{firstHighest, countsFrom, countsAt, rootCount, levelsRight, heightsRight}
 use Rattle.line.specs.Laws.Line.{row, Low, tree-whole, tree-depth, restAt, rest-low, line-cons}
 use Rattle.line.specs.Laws.Decode.{tailOf, starts, entryOf, rootOf, treeOf, entry-line, line-rooted}
@@ -127,21 +127,21 @@ module _ (h lo : ℕ) where
   abbrev counted : Placed → List Placed → Bool
   counted r t = within lo 8 (suc (inTail h t))
 
-  counts-from : (n : ℕ) (rs : List Placed) → countsFrom (suc h) lo n rs ≡ (within lo 8 (n + inTail h (tailOf (suc h) rs)) && allStarts counted (suc h) rs)
-  unfolding countsFrom tailOf allStarts starts
+  counts-from : (n : ℕ) (rs : List Placed) → countsFrom (suc h) lo n (heightsIn rs) ≡ (within lo 8 (n + inTail h (tailOf (suc h) rs)) && allStarts counted (suc h) rs)
+  unfolding countsFrom tailOf allStarts starts heightsIn
   counts-from n [] = sym (and-true (within lo 8 (n + 0)) ∙ ap (within lo 8) (add-zero n))
   counts-from n (r ∷ rs) =
       testCases
-      (λ b. cond b (within lo 8 n && countsFrom (suc h) lo 1 rs) (cond (leb (suc h - 1) (r .height)) (countsFrom (suc h) lo (suc n) rs) (countsFrom (suc h) lo n rs))
+      (λ b. cond b (within lo 8 n && countsFrom (suc h) lo 1 (heightsIn rs)) (cond (leb (suc h - 1) (r .height)) (countsFrom (suc h) lo (suc n) (heightsIn rs)) (countsFrom (suc h) lo n (heightsIn rs)))
       ≡ (within lo 8 (n + inTail h (cond b [] (r ∷ under))) && cond b (counted r under && later) later))
       (leb (suc h) (r .height))
       (λ e.
       ap₂ (λ (k : ℕ) (b : Bool). within lo 8 k && b) (sym (add-zero n))
       (counts-from 1 rs ∙ ap (λ (k : ℕ). within lo 8 k && later) (one-add (inTail h under))))
       (λ e.
-      ap (λ (k : ℕ). cond (leb k (r .height)) (countsFrom (suc h) lo (suc n) rs) (countsFrom (suc h) lo n rs)) (omega arith)
+      ap (λ (k : ℕ). cond (leb k (r .height)) (countsFrom (suc h) lo (suc n) (heightsIn rs)) (countsFrom (suc h) lo n (heightsIn rs))) (omega arith)
       ∙ testCases
-      (λ b. cond b (countsFrom (suc h) lo (suc n) rs) (countsFrom (suc h) lo n rs)
+      (λ b. cond b (countsFrom (suc h) lo (suc n) (heightsIn rs)) (countsFrom (suc h) lo n (heightsIn rs))
       ≡ (within lo 8 (n + length (consIf b (entryOf h r (tailOf h under)) (starts (entryOf h) h under))) && later))
       (leb h (r .height))
       (λ f. counts-from (suc n) rs ∙ ap (λ (k : ℕ). within lo 8 k && later) (omega arith))
@@ -171,8 +171,8 @@ and-nodes true false c d e = sym (and-false (c && d))
 and-nodes false b c d e = refl
 
 levels-filled : (top h : ℕ) (r : Placed) (rs : List Placed) → h < top
-    → levelsRight top h (r ∷ rs) ≡ (filledAt h r (tailOf h rs) && allStarts (filledAt h) h rs)
-unfolding levelsRight countsAt filledAt filledUnder filled
+    → levelsRight top h (heightsIn (r ∷ rs)) ≡ (filledAt h r (tailOf h rs) && allStarts (filledAt h) h rs)
+unfolding levelsRight countsAt filledAt filledUnder filled heightsIn
 levels-filled top zero r rs g = sym (allStarts-true (filledAt 0) (λ r t. refl) 0 rs)
 levels-filled top (suc h) r rs g =
     ap₂ _&&_ numbers (levels-filled top h r rs (omega arith) ∙ below)
@@ -188,9 +188,9 @@ levels-filled top (suc h) r rs g =
     under : Bool
     under = allStarts (filledUnder h) (suc h) rs
 
-    numbers : countsFrom (suc h) (cond (leb top (suc h)) (rootCount (suc h)) 3) 1 rs ≡ (counted h 3 r first && counts)
+    numbers : countsFrom (suc h) (cond (leb top (suc h)) (rootCount (suc h)) 3) 1 (heightsIn rs) ≡ (counted h 3 r first && counts)
     numbers =
-        ap (λ (b : Bool). countsFrom (suc h) (cond b (rootCount (suc h)) 3) 1 rs) (lt-leb top (suc h) g)
+        ap (λ (b : Bool). countsFrom (suc h) (cond b (rootCount (suc h)) 3) 1 (heightsIn rs)) (lt-leb top (suc h) g)
         ∙ counts-from h 3 1 rs
         ∙ ap (λ (n : ℕ). within 3 8 n && counts) (one-add (inTail h first))
 
@@ -207,8 +207,8 @@ unfolding rootCount rootLeast
 root-count zero = refl
 root-count (suc h) = refl
 
-root-filled : (h : ℕ) (r : Placed) (rs : List Placed) → Low (suc h) rs → levelsRight (suc h) (suc h) (r ∷ rs) ≡ filledTree (rootOf (suc h) r rs)
-unfolding levelsRight countsAt rootOf filledTree entryOf all filledAt
+root-filled : (h : ℕ) (r : Placed) (rs : List Placed) → Low (suc h) rs → levelsRight (suc h) (suc h) (heightsIn (r ∷ rs)) ≡ filledTree (rootOf (suc h) r rs)
+unfolding levelsRight countsAt rootOf filledTree entryOf all filledAt heightsIn
 root-filled h r rs g =
     ap₂ _&&_ numbers
     (levels-filled (suc h) h r rs (le-refl (suc h)) ∙ ap (λ (b : Bool). filledAt h r (tailOf h rs) && b) (sym (all-starts (filled h) (entryOf h) h rs)))
@@ -216,9 +216,9 @@ root-filled h r rs g =
     lo : ℕ
     lo = rootCount (suc h)
 
-    numbers : countsFrom (suc h) (cond (leb (suc h) (suc h)) lo 3) 1 rs ≡ within (rootLeast h) 8 (suc (inTail h rs))
+    numbers : countsFrom (suc h) (cond (leb (suc h) (suc h)) lo 3) 1 (heightsIn rs) ≡ within (rootLeast h) 8 (suc (inTail h rs))
     numbers =
-        ap (λ (b : Bool). countsFrom (suc h) (cond b lo 3) 1 rs) (le-leb (suc h) (suc h) (le-refl (suc h)))
+        ap (λ (b : Bool). countsFrom (suc h) (cond b lo 3) 1 (heightsIn rs)) (le-leb (suc h) (suc h) (le-refl (suc h)))
         ∙ counts-from h lo 1 rs
         ∙ ap₂ (λ (n : ℕ) (b : Bool). within lo 8 n && b)
         (one-add (inTail h (tailOf (suc h) rs)) ∙ ap (λ (ss : List Placed). suc (inTail h ss)) (tail-whole (suc h) rs g))
@@ -228,22 +228,27 @@ root-filled h r rs g =
 
 -- ---- the whole test
 
-low-all : (l : ℕ) (rs : List Placed) → Low l rs → all (λ s. ltb (s .height) l) rs ≡ true
-low-all l rs g = each-all (λ s. ltb (s .height) l) rs (each-mono (λ s. s .height < l) (λ s. ltb (s .height) l ≡ true) rs (λ s. lt-ltb (s .height) l) g)
+low-all : (l : ℕ) (rs : List Placed) → Low l rs → all (λ k. ltb k l) (heightsIn rs) ≡ true
+unfolding heightsIn all
+low-all l [] g = refl
+low-all l (r ∷ rs) g = and-both (ltb (r .height) l) (all (λ k. ltb k l) (heightsIn rs)) (lt-ltb (r .height) l (g .0)) (low-all l rs (g .1))
 
-all-low : (l : ℕ) (rs : List Placed) → all (λ s. ltb (s .height) l) rs ≡ true → Low l rs
-all-low l rs e = each-mono (λ s. ltb (s .height) l ≡ true) (λ s. s .height < l) rs (λ s. ltb-true (s .height) l) (all-each (λ s. ltb (s .height) l) rs e)
+all-low : (l : ℕ) (rs : List Placed) → all (λ k. ltb k l) (heightsIn rs) ≡ true → Low l rs
+unfolding heightsIn all
+all-low l [] e = tt
+all-low l (r ∷ rs) e =
+    (ltb-true (r .height) l (and-left (ltb (r .height) l) (all (λ k. ltb k l) (heightsIn rs)) e), all-low l rs (and-right (ltb (r .height) l) (all (λ k. ltb k l) (heightsIn rs)) e))
 
-pub heights-right : (t : Tree) → filledTree t ≡ true → heightsRight (lineOf t) ≡ true
-unfolding heightsRight firstHighest lineOf rootOf
+pub heights-right : (t : Tree) → filledTree t ≡ true → heightsRight (heightsIn (lineOf t)) ≡ true
+unfolding heightsRight firstHighest lineOf rootOf heightsIn
 heights-right empty f = refl
 heights-right (rooted h es) f =
     let w = tree-whole (rooted h es) f in
     let r = row (firstMove (suc h) es) (suc h) in
     let rs = restAt (suc h) es in
-    ap heightsRight (line-cons (suc h) (suc h) es w)
-    ∙ and-both (firstHighest (r ∷ rs)) (levelsRight (suc h) (suc h) (r ∷ rs))
-    (and-both (ltb 0 (suc h)) (all (λ s. ltb (s .height) (suc h)) rs) (lt-ltb 0 (suc h) (zero-lt-suc h)) (low-all (suc h) rs (rest-low (suc h) es)))
+    ap (λ (ss : List Placed). heightsRight (heightsIn ss)) (line-cons (suc h) (suc h) es w)
+    ∙ and-both (firstHighest (heightsIn (r ∷ rs))) (levelsRight (suc h) (suc h) (heightsIn (r ∷ rs)))
+    (and-both (ltb 0 (suc h)) (all (λ k. ltb k (suc h)) (heightsIn rs)) (lt-ltb 0 (suc h) (zero-lt-suc h)) (low-all (suc h) rs (rest-low (suc h) es)))
     (root-filled h r rs (rest-low (suc h) es) ∙ ap (λ (u : List (Entry h)). filledTree (rooted h u)) (entry-line (suc h) (suc h) es w) ∙ f)
 
 -- A line that passes: its first row is the highest, and the tree of that depth has the right numbers of entries.
@@ -253,19 +258,19 @@ record Rooted (r : Placed) (rs : List Placed) : Type 0 where
   low : Low (suc above) rs
   full : filledTree (rooted above (entryOf (suc above) r rs)) ≡ true
 
-rooted-at : (h : ℕ) (r : Placed) (rs : List Placed) → r .height ≡ h → 0 < h → Low h rs → levelsRight h h (r ∷ rs) ≡ true → Rooted r rs
+rooted-at : (h : ℕ) (r : Placed) (rs : List Placed) → r .height ≡ h → 0 < h → Low h rs → levelsRight h h (heightsIn (r ∷ rs)) ≡ true → Rooted r rs
 unfolding rootOf
 rooted-at zero r rs e p g l = absurd (omega arith)
 rooted-at (suc h) r rs e p g l = record { above = h; depth = e; low = g; full = sym (root-filled h r rs g) ∙ l }
 
-right-rooted : (r : Placed) (rs : List Placed) → heightsRight (r ∷ rs) ≡ true → Rooted r rs
-unfolding heightsRight firstHighest
+right-rooted : (r : Placed) (rs : List Placed) → heightsRight (heightsIn (r ∷ rs)) ≡ true → Rooted r rs
+unfolding heightsRight firstHighest heightsIn
 right-rooted r rs e =
-    let highest = and-left (firstHighest (r ∷ rs)) (levelsRight (r .height) (r .height) (r ∷ rs)) e in
+    let highest = and-left (firstHighest (heightsIn (r ∷ rs))) (levelsRight (r .height) (r .height) (heightsIn (r ∷ rs))) e in
     rooted-at (r .height) r rs refl
-    (ltb-true 0 (r .height) (and-left (ltb 0 (r .height)) (all (λ s. ltb (s .height) (r .height)) rs) highest))
-    (all-low (r .height) rs (and-right (ltb 0 (r .height)) (all (λ s. ltb (s .height) (r .height)) rs) highest))
-    (and-right (firstHighest (r ∷ rs)) (levelsRight (r .height) (r .height) (r ∷ rs)) e)
+    (ltb-true 0 (r .height) (and-left (ltb 0 (r .height)) (all (λ k. ltb k (r .height)) (heightsIn rs)) highest))
+    (all-low (r .height) rs (and-right (ltb 0 (r .height)) (all (λ k. ltb k (r .height)) (heightsIn rs)) highest))
+    (and-right (firstHighest (heightsIn (r ∷ rs))) (levelsRight (r .height) (r .height) (heightsIn (r ∷ rs))) e)
 
 module _ (r : Placed) (rs : List Placed) (t : Rooted r rs) where
   rooted-tree : treeOf (r ∷ rs) ≡ rooted (t .above) (entryOf (suc (t .above)) r rs)
@@ -275,7 +280,7 @@ module _ (r : Placed) (rs : List Placed) (t : Rooted r rs) where
   rooted-line : lineOf (treeOf (r ∷ rs)) ≡ r ∷ rs
   rooted-line = ap lineOf rooted-tree ∙ line-rooted (t .above) r rs (t .depth) (t .low)
 
-pub right-heights : (rs : List Placed) → heightsRight rs ≡ true → (filledTree (treeOf rs) ≡ true) × (lineOf (treeOf rs) ≡ rs)
+pub right-heights : (rs : List Placed) → heightsRight (heightsIn rs) ≡ true → (filledTree (treeOf rs) ≡ true) × (lineOf (treeOf rs) ≡ rs)
 unfolding treeOf filledTree lineOf
 right-heights [] e = (refl, refl)
 right-heights (r ∷ rs) e =
@@ -283,7 +288,7 @@ right-heights (r ∷ rs) e =
     (ap filledTree (rooted-tree r rs t) ∙ t .full, rooted-line r rs t)
 
 -- Seven levels are enough for 4,096 moves.
-pub heights-small : (rs : List Placed) → heightsRight rs ≡ true → length rs ≤ 4096 → Each (λ r. r .height ≤ 7) rs
+pub heights-small : (rs : List Placed) → heightsRight (heightsIn rs) ≡ true → length rs ≤ 4096 → Each (λ r. r .height ≤ 7) rs
 heights-small [] e l = tt
 heights-small (r ∷ rs) e l =
     let t = right-rooted r rs e in

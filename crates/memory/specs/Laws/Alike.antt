@@ -6,6 +6,7 @@ use mathlib.Core.Path.{_≡_, sym, ap, _∙_, subst}
 use Rattle.model.specs.Tree.{Tree}
 use Rattle.model.specs.Calls.{Board}
 use Rattle.model.specs.Laws.Bool.{byCases, both-ways}
+use Rattle.line.specs.Line.{heightsIn}
 use Rattle.line.specs.Heights.{heightsRight}
 use Rattle.promises.specs.Layout.{sizeIn, dimensionIn, countIn, lineIn, boardIn}
 use Rattle.promises.specs.Sound.{Stands, Sound, Holding}
@@ -43,7 +44,7 @@ sound-or-not m b =
     (λ f.
     byCases (orderRight (sizeIn m) (dimensionIn m) (countIn m) m)
     (λ g.
-    byCases (heightsRight (lineIn m))
+    byCases (heightsRight (heightsIn (lineIn m)))
     (λ h.
     byCases (marksRight (sizeIn m) (dimensionIn m) (countIn m) m) (λ k. inl (right-sound m b e f g h k)) (λ k. inr (λ s. both-ways (sound-marks m b s) k)))
     (λ h. inr (λ s. both-ways (sound-heights m s) h)))

@@ -13,19 +13,19 @@ use Rattle.model.specs.Sound.{Fit}
 use Rattle.model.specs.Laws.Bool.{both-ways}
 use Rattle.model.specs.Laws.Order.{dimension-most}
 use Rattle.model.specs.Laws.Tree.{ruled-filled, both-ruled}
-use Rattle.line.specs.Line.{lineOf, movesIn}
+use Rattle.line.specs.Line.{Placed, lineOf, movesIn, heightsIn}
 use Rattle.line.specs.Heights.{heightsRight}
 use Rattle.line.specs.Laws.Line.{moves-line}
 use Rattle.line.specs.Laws.Decode.{treeOf}
 use Rattle.line.specs.Laws.Heights.{heights-right, right-heights}
-use Rattle.promises.specs.Layout.{sizeIn, dimensionIn, countIn, numberIn, markIn, moveIn, tab, lineFrom, lineIn, boardIn, keptFrom, keptIn}
+use Rattle.promises.specs.Layout.{sizeIn, dimensionIn, countIn, numberIn, markIn, moveIn, tab, heightsFrom, lineFrom, lineIn, boardIn, keptFrom, keptIn}
 use Rattle.promises.specs.Sound.{Stands, Sound}
 use Rattle.promises.specs.Run.{Bytes}
 use Rattle.promises.specs.Laws.Tab.{each-tab}
 use Rattle.promises.specs.Laws.Stands.{costs-row, stands-dimension, stands-moves, stands-order}
 use Rattle.memory.specs.Room.{Numbers}
 use Rattle.memory.specs.Tests.{headRight, numbersRight, orderRight, isListed, hiddenBefore, marksRight, Decides}
-use Rattle.memory.specs.Laws.Lines.{movesIn-line, numbers-each, each-numbers}
+use Rattle.memory.specs.Laws.Lines.{movesIn-line, heightsIn-line, numbers-each, each-numbers}
 use Rattle.memory.specs.Laws.Places.{rising-tab}
 use Rattle.memory.specs.Laws.Turns.{numbers-right, right-numbers}
 use Rattle.memory.specs.Laws.Head.{HeadRight, head-right, right-head}
@@ -88,8 +88,9 @@ module _ (m : List ℕ) where
   unfolding lineIn boardIn
   sound-order s = sym (order-right c d n m) ∙ stands-order m (s .tree) (s .stands)
 
-  pub sound-heights : Sound m → heightsRight (lineIn m) ≡ true
-  sound-heights s = ap heightsRight (s .stands .line) ∙ heights-right (s .tree) (ruled-filled d (s .tree) (s .stands .rules))
+  pub sound-heights : Sound m → heightsRight (heightsIn (lineIn m)) ≡ true
+  sound-heights s =
+      ap (λ (rs : List Placed). heightsRight (heightsIn rs)) (s .stands .line) ∙ heights-right (s .tree) (ruled-filled d (s .tree) (s .stands .rules))
 
   module _ (b : Bytes m) where
     pub sound-marks : Sound m → marksRight (sizeIn m) (dimensionIn m) (countIn m) m ≡ true
@@ -99,7 +100,7 @@ module _ (m : List ℕ) where
         (s .stands .kept ∙ ap (skyline d) (stands-moves m (s .tree) (s .stands)))
 
     pub right-sound : headRight m ≡ true → numbersRight (sizeIn m) (countIn m) m ≡ true
-        → orderRight (sizeIn m) (dimensionIn m) (countIn m) m ≡ true → heightsRight (lineIn m) ≡ true
+        → orderRight (sizeIn m) (dimensionIn m) (countIn m) m ≡ true → heightsRight (heightsIn (lineIn m)) ≡ true
         → marksRight (sizeIn m) (dimensionIn m) (countIn m) m ≡ true → Sound m
     unfolding lineIn keptIn
     right-sound e f g h k = record { tree = t; stands = stands }
@@ -148,9 +149,9 @@ module _ (m : List ℕ) where
     same-order : orderRight c d n m ≡ orderRight (sizeIn m) (dimensionIn m) (countIn m) m
     same-order = λ i. orderRight (f i) (g i) (h i) m
 
-    same-heights : heightsRight (lineFrom c d n m) ≡ heightsRight (lineIn m)
-    unfolding lineIn
-    same-heights = λ i. heightsRight (lineFrom (f i) (g i) (h i) m)
+    same-heights : heightsRight (heightsFrom c n m) ≡ heightsRight (heightsIn (lineIn m))
+    unfolding lineIn heightsFrom
+    same-heights = ap heightsRight (sym (heightsIn-line c d n m)) ∙ (λ i. heightsRight (heightsIn (lineFrom (f i) (g i) (h i) m)))
 
     same-marks : marksRight c d n m ≡ marksRight (sizeIn m) (dimensionIn m) (countIn m) m
     same-marks = λ i. marksRight (f i) (g i) (h i) m
@@ -161,11 +162,11 @@ module _ (m : List ℕ) where
     pub order-decides : orderRight c d n m ≡ false → Decides false m
     order-decides e = refuted (λ s. both-ways (same-order ∙ sound-order m s) e)
 
-    pub heights-decides : heightsRight (lineFrom c d n m) ≡ false → Decides false m
+    pub heights-decides : heightsRight (heightsFrom c n m) ≡ false → Decides false m
     heights-decides e = refuted (λ s. both-ways (same-heights ∙ sound-heights m s) e)
 
     pub marks-decides : Bytes m → headRight m ≡ true → numbersRight c n m ≡ true → orderRight c d n m ≡ true
-        → heightsRight (lineFrom c d n m) ≡ true → (r : Bool) → r ≡ marksRight c d n m → Decides r m
+        → heightsRight (heightsFrom c n m) ≡ true → (r : Bool) → r ≡ marksRight c d n m → Decides r m
     marks-decides b e j k l r q =
         record {
           sound = λ t. right-sound m b e (sym same-numbers ∙ j) (sym same-order ∙ k) (sym same-heights ∙ l) (sym same-marks ∙ sym q ∙ t);

@@ -33,10 +33,10 @@ returns c =
     let number = c .before .word-at in
     let costs = c .costs-at in
     record {
-      frame = λ line j.
+      frame = λ s line costs-held j.
           ap₂ (λ (k : Kind) (n : ℕ). framed k n (number .result) (costs .result)) (kind .ensures) (asked .ensures)
           ∙ ap₂ (λ (n : ℕ) (cs : List ℕ). framed (lineKind (a .d) (a .line)) (byteAt (a .line .first) 1) n cs) (number .ensures) (costs .ensures)
-          ∙ found-line line (a .line) j (a .d) (c .before .before .before .before .before .pre);
+          ∙ found-line line (a .line) j s (a .d) costs-held (c .before .before .before .before .before .pre);
       timely = subst (Timely (a .d)) (sym (kind .ensures)) (timely-kind (a .d) (a .line));
     }
 

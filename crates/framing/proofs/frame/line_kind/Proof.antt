@@ -1,7 +1,7 @@
 -- `frame::line_kind` meets its contract. Assumes nothing.
 use borrow.Author.Needs.{needs}
 use Prim.Native.Nat.{ℕ}
-use mathlib.Core.Path.{_≡_, ap, _∙_}
+use mathlib.Core.Path.{ap, _∙_}
 use Rattle.framing.specs.Reading.{kindOf, lineKind}
 use Rattle.framing.proofs.frame.line_kind.Statement.{statement}
 use Rattle.framing.proofs.frame.line_kind.Tie as tie

@@ -1,5 +1,4 @@
 -- `frame::sized` meets its contract. Assumes nothing.
-use borrow.Author.Needs.{needs}
 use borrow.Author.Tests.{eq-eqb, ne-eqb}
 use Rattle.framing.specs.Reading.{sizedKind}
 use Rattle.framing.proofs.frame.sized.Statement.{statement}

@@ -16,16 +16,14 @@ same-length c = search needs
 same-length-2 : tie.Need-same-length-2
 same-length-2 c = search needs
 
-same-length-3 : tie.Need-same-length-3
-same-length-3 c = search needs
-
 returns : tie.Need-returns
 returns c =
-    let start = c .before .before .before .before .before .before .before .before .before .before .before .before in
-    answers-line (start .args .d) (start .args .line) (c .before .before .before .before .before .before .before .before .frame-of .result) _ _ _ _ (c .before .before .before .before .before .respond .result)
-    (start .pre .0) (c .before .before .before .before .before .before .before .before .frame-of .ensures) (c .before .before .before .before .before .respond .ensures)
+    let start = c .before .before .before .before .before .before .before .before .before .before in
+    let found = c .before .before .before .before .before .before .frame-of in
+    let made = c .before .before .before .before .respond in
+    answers-line (start .args .d) (start .args .line) (found .result) _ _ _ _ (made .result)
+    (start .pre .0) (found .ensures) (made .ensures)
 
 pub answer-spec : {M : Type 1} → statement M
 answer-spec =
-    tie.close
-    (tie.spec frame-of-requires respond-requires same-length same-length-2 same-length-3 returns)
+    tie.close (tie.spec frame-of-requires respond-requires same-length same-length-2 returns)

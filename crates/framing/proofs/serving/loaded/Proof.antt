@@ -1,8 +1,7 @@
 -- `serving::loaded` meets its contract. Assumes nothing.
 use borrow.Author.Needs.{needs}
 use mathlib.Core.Path.{sym, _∙_}
-use Rattle.framing.specs.Laws.Serving.{ready-most, served-load, served-refusal}
-use native.Mathlib.Omega.{arith}
+use Rattle.framing.specs.Laws.Serving.{room-load, served-load, served-refusal}
 use Rattle.framing.proofs.serving.loaded.Statement.{statement}
 use Rattle.framing.proofs.serving.loaded.Tie as tie
 
@@ -12,14 +11,12 @@ slice-aggregate-load c = search needs
 load-requires : tie.Need-load-requires
 load-requires c κs = search needs
 
-put-answer-requires : tie.Need-put-answer-requires
-put-answer-requires c κs =
-    let start = c .before .before .before .before .before .before .before .before in
-    record {
-      dimension = ready-most _ _ (start .pre .0);
-      enough = omega arith;
-      room = omega (arith, start .pre .1 .text);
-    }
+nothing-requires : tie.Need-nothing-requires
+nothing-requires c κs = search needs
+
+put-plan-requires : tie.Need-put-plan-requires
+put-plan-requires c κs =
+    room-load (c .nothing .ensures) _ _ _ _ (c .before .before .before .before .before .before .before .before .before .before .pre .0) (c .before .before .before .before .before .before .before .before .before .before .pre .1)
 
 number-of-requires : tie.Need-number-of-requires
 number-of-requires c κs = search needs
@@ -32,10 +29,11 @@ same-length-2 c = search needs
 
 returns : tie.Need-returns
 returns c =
-    let start = c .before .before .before .before .before .before .before .before .before .before .before .before .before in
-    let made = c .before .before .before .before .before .before .before .before .load in
-    served-load (start .args .asked) _ _ (start .args .rows .now) (made .result) (made .ensures) (start .pre .1 .memory)
-    (start .args .d) _ _ _ (c .before .before .before .before .put-answer .ensures)
+    let start = c .before .before .before .before .before .before .before .before .before .before .before .before .before .before .before in
+    let made = c .before .before .before .before .before .before .before .before .before .before .load in
+    let none = c .before .before .before .before .before .nothing in
+    served-load (start .args .asked) _ _ (made .result) (none .result) (made .ensures) (start .pre .1 .memory) (none .ensures)
+    (start .args .d) _ _ _ (c .before .before .before .before .put-plan .ensures)
     (sym (c .before .number-of .ensures) ∙ c .if1 .taken)
 
 same-length-3 : tie.Need-same-length-3
@@ -46,10 +44,11 @@ same-length-4 c = search needs
 
 returns-2 : tie.Need-returns-2
 returns-2 c =
-    let start = c .before .before .before .before .before .before .before .before .before .before .before .before .before in
-    let made = c .before .before .before .before .before .before .before .before .load in
-    served-refusal (start .args .asked) _ _ (start .args .rows .now) (made .result) (made .ensures) (start .pre .1 .memory)
-    (start .args .d) _ _ _ (c .before .before .before .before .put-answer .ensures)
+    let start = c .before .before .before .before .before .before .before .before .before .before .before .before .before .before .before in
+    let made = c .before .before .before .before .before .before .before .before .before .before .load in
+    let none = c .before .before .before .before .before .nothing in
+    served-refusal (start .args .asked) _ _ (made .result) (none .result) (made .ensures) (start .pre .1 .memory) (none .ensures)
+    (start .args .d) _ _ _ (c .before .before .before .before .put-plan .ensures)
     (λ z. c .if1 .left (c .before .number-of .ensures ∙ z))
 
 pub loaded-spec : {M : Type 1} → statement M
@@ -58,7 +57,8 @@ loaded-spec =
     (tie.spec
     slice-aggregate-load
     load-requires
-    put-answer-requires
+    nothing-requires
+    put-plan-requires
     number-of-requires
     same-length
     same-length-2

@@ -1,12 +1,11 @@
 -- `text::put_row` meets its contract. Assumes nothing.
-use borrow.Author.Needs.{needs}
 use native.Mathlib.Omega.{arith}
-use lib.ListN.{length, getD, take, drop}
+use lib.ListN.{getD, take, drop}
 use Prim.Native.Nat.{ℕ, _+_, _-_, _%_, _≤_}
 use mathlib.Core.Path.{_≡_, _∙_, ap}
-use mathlib.Core.List.{List, _++_, flatMap}
+use mathlib.Core.List.{_++_, flatMap}
 use Rattle.framing.specs.Laws.Put.{put-none, put-both, put-as}
-use Rattle.framing.specs.Laws.Texts.{byteText-length, byteText-low, wordText-length, numbers-more, numbers-length, numbers-all}
+use Rattle.framing.specs.Laws.Texts.{byteText-length, byteText-low, numbers-more, numbers-length, numbers-all}
 use Rattle.framing.specs.Text.{byteText, wordText}
 use Rattle.framing.specs.Writing.{Put}
 use Rattle.framing.proofs.text.put_row.Statement.{statement}

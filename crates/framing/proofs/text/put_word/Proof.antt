@@ -1,6 +1,6 @@
 -- `text::put_word` meets its contract. Assumes nothing.
 use borrow.Author.Needs.{needs}
-use Prim.Native.Nat.{ℕ, _/_, _%_}
+use Prim.Native.Nat.{ℕ, _/_}
 use mathlib.Core.Path.{ap}
 use native.Mathlib.Omega.{arith}
 use mathlib.Core.List.{List, _++_}

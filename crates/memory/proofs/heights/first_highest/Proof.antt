@@ -16,17 +16,17 @@ abbrev μ-loop : tie.MeasureT-loop
 μ-loop m c n top i₀ i = n - i
 
 returns : tie.Need-returns Inv-loop μ-loop
-returns c d =
+returns c =
     let a = c .before .before .args in
-    sym (highest-none (a .c) d (a .m .now) (a .n) (omega (arith, eqb-true)))
+    sym (highest-none (a .c) (a .m .now) (a .n) (omega (arith, eqb-true)))
 
 height-at-requires : tie.Need-height-at-requires Inv-loop μ-loop
 height-at-requires c κs = omega (arith, eqb-false)
 
 returns-2 : tie.Need-returns-2 Inv-loop μ-loop
-returns-2 c d =
+returns-2 c =
     let a = c .before .before .before .before .args in
-    sym (highest-flat (a .c) d (a .m .now) (a .n) (omega (arith, eqb-false)) (omega (arith, eqb-true)))
+    sym (highest-flat (a .c) (a .m .now) (a .n) (omega (arith, eqb-false)) (omega (arith, eqb-true)))
 
 loop-holds : tie.Need-loop-holds Inv-loop μ-loop
 unfolding allTo
@@ -36,10 +36,10 @@ height-at-requires-2 : tie.Need-height-at-requires-2 Inv-loop μ-loop
 height-at-requires-2 c κs = omega arith
 
 returns-3 : tie.Need-returns-3 Inv-loop μ-loop
-returns-3 c d =
+returns-3 c =
     let a = c .before .before .before .before .before .before .before .before .args in
     let i = c .before .before .before .loop .i in
-    sym (highest-lost (a .c) d (a .m .now) (a .n) (omega arith) i (omega arith) (omega arith) (omega (arith, leb-true)))
+    sym (highest-lost (a .c) (a .m .now) (a .n) (omega arith) i (omega arith) (omega arith) (omega (arith, leb-true)))
 
 add-i : tie.Need-add-i Inv-loop μ-loop
 add-i c = omega arith
@@ -54,11 +54,11 @@ loop-again c =
     (omega arith, omega arith, lower-next (a .c) (a .m .now) (own .i) (omega arith) (own .inv .2) (omega (arith, leb-false)))
 
 returns-4 : tie.Need-returns-4 Inv-loop μ-loop
-returns-4 c d =
+returns-4 c =
     let a = c .before .before .before .before .before .before .args in
     let own = c .before .loop in
     let all : own .i ≡ a .n = omega arith in
-    sym (highest-found (a .c) d (a .m .now) (a .n) (omega arith) (omega (arith, eqb-false)) (subst (λ (k : ℕ). allTo (lowerNext (a .c) (a .m .now)) (k - 1) ≡ true) all (own .inv .2)))
+    sym (highest-found (a .c) (a .m .now) (a .n) (omega arith) (omega (arith, eqb-false)) (subst (λ (k : ℕ). allTo (lowerNext (a .c) (a .m .now)) (k - 1) ≡ true) all (own .inv .2)))
 
 pub first-highest-spec : {M : Type 1} → statement M
 first-highest-spec =

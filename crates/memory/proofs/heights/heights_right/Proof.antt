@@ -6,41 +6,41 @@ use mathlib.Core.Path.{_≡_, sym, ap, _∙_}
 use native.Mathlib.Omega.{arith}
 use borrow.Author.Tests.{eqb-true, eqb-false, not-true, not-false}
 use Rattle.line.specs.Heights.{firstHighest, countsAt, levelsRight, heightsRight}
-use Rattle.promises.specs.Layout.{lineFrom}
+use Rattle.promises.specs.Layout.{heightsFrom}
 use Rattle.memory.specs.Laws.Levels.{heights-none, heights-by, level-right, level-wrong}
 use Rattle.memory.proofs.heights.heights_right.Statement.{statement}
 use Rattle.memory.proofs.heights.heights_right.Tie as tie
 
 abbrev Inv-loop : tie.InvT-loop
-Inv-loop m c n top l₀ l = (d : ℕ) → levelsRight top l (lineFrom c d n m) ≡ heightsRight (lineFrom c d n m)
+Inv-loop m c n top l₀ l = levelsRight top l (heightsFrom c n m) ≡ heightsRight (heightsFrom c n m)
 
 abbrev μ-loop : tie.MeasureT-loop
 μ-loop m c n top l₀ l = l
 
 returns : tie.Need-returns Inv-loop μ-loop
-returns c d =
+returns c =
     let a = c .before .before .args in
-    sym (heights-none (a .c) d (a .m .now) (a .n) (omega (arith, eqb-true)))
+    sym (heights-none (a .c) (a .m .now) (a .n) (omega (arith, eqb-true)))
 
 first-highest-requires : tie.Need-first-highest-requires Inv-loop μ-loop
 first-highest-requires c κs = omega arith
 
 returns-2 : tie.Need-returns-2 Inv-loop μ-loop
-returns-2 c d =
+returns-2 c =
     let a = c .before .before .before .before .args in
-    let lost : firstHighest (lineFrom (a .c) d (a .n) (a .m .now)) ≡ false = sym (c .before .first-highest .ensures d) ∙ not-true (c .before .first-highest .result) (c .if2 .taken) in
-    sym (heights-by (a .c) d (a .m .now) (a .n) (omega (arith, eqb-false)) false lost)
+    let lost : firstHighest (heightsFrom (a .c) (a .n) (a .m .now)) ≡ false = sym (c .before .first-highest .ensures) ∙ not-true (c .before .first-highest .result) (c .if2 .taken) in
+    sym (heights-by (a .c) (a .m .now) (a .n) (omega (arith, eqb-false)) false lost)
 
 height-at-requires : tie.Need-height-at-requires Inv-loop μ-loop
 height-at-requires c κs = omega (arith, eqb-false)
 
 loop-holds : tie.Need-loop-holds Inv-loop μ-loop
-loop-holds c d =
+loop-holds c =
     let a = c .before .before .before .before .before .args in
-    let line = lineFrom (a .c) d (a .n) (a .m .now) in
-    let found : firstHighest line ≡ true = sym (c .before .before .first-highest .ensures d) ∙ not-false (c .before .before .first-highest .result) (c .before .if2 .left) in
+    let line = heightsFrom (a .c) (a .n) (a .m .now) in
+    let found : firstHighest line ≡ true = sym (c .before .before .first-highest .ensures) ∙ not-false (c .before .before .first-highest .result) (c .before .if2 .left) in
     ap (λ (top : ℕ). levelsRight top top line) (c .height-at .ensures)
-    ∙ sym (heights-by (a .c) d (a .m .now) (a .n) (omega (arith, eqb-false)) true found)
+    ∙ sym (heights-by (a .c) (a .m .now) (a .n) (omega (arith, eqb-false)) true found)
 
 least-entries-requires : tie.Need-least-entries-requires Inv-loop μ-loop
 least-entries-requires c κs = omega arith
@@ -49,15 +49,15 @@ counts-right-requires : tie.Need-counts-right-requires Inv-loop μ-loop
 counts-right-requires c κs = omega (arith, eqb-false)
 
 returns-3 : tie.Need-returns-3 Inv-loop μ-loop
-returns-3 c d =
+returns-3 c =
     let a = c .before .before .before .before .before .before .before .before .before .before .args in
     let own = c .before .before .before .before .loop in
     let top = c .before .before .before .before .before .height-at .result in
-    let line = lineFrom (a .c) d (a .n) (a .m .now) in
+    let line = heightsFrom (a .c) (a .n) (a .m .now) in
     sym
     (level-wrong top (own .l) line (omega arith)
-    (ap (λ (lo : ℕ). countsAt (own .l) lo line) (sym (c .before .before .least-entries .ensures)) ∙ sym (c .before .counts-right .ensures d) ∙ not-true (c .before .counts-right .result) (c .if3 .taken)))
-    ∙ own .inv d
+    (ap (λ (lo : ℕ). countsAt (own .l) lo line) (sym (c .before .before .least-entries .ensures)) ∙ sym (c .before .counts-right .ensures) ∙ not-true (c .before .counts-right .result) (c .if3 .taken)))
+    ∙ own .inv
 
 sub-l : tie.Need-sub-l Inv-loop μ-loop
 sub-l c = omega arith
@@ -66,23 +66,23 @@ loop-less : tie.Need-loop-less Inv-loop μ-loop
 loop-less c = omega arith
 
 loop-again : tie.Need-loop-again Inv-loop μ-loop
-loop-again c d =
+loop-again c =
     let a = c .before .before .before .before .before .before .before .before .before .before .args in
     let own = c .before .before .before .before .loop in
     let top = c .before .before .before .before .before .height-at .result in
-    let line = lineFrom (a .c) d (a .n) (a .m .now) in
+    let line = heightsFrom (a .c) (a .n) (a .m .now) in
     sym
     (level-right top (own .l) line (omega arith)
-    (ap (λ (lo : ℕ). countsAt (own .l) lo line) (sym (c .before .before .least-entries .ensures)) ∙ sym (c .before .counts-right .ensures d) ∙ not-false (c .before .counts-right .result) (c .if3 .left)))
-    ∙ own .inv d
+    (ap (λ (lo : ℕ). countsAt (own .l) lo line) (sym (c .before .before .least-entries .ensures)) ∙ sym (c .before .counts-right .ensures) ∙ not-false (c .before .counts-right .result) (c .if3 .left)))
+    ∙ own .inv
 
 returns-4 : tie.Need-returns-4 Inv-loop μ-loop
 unfolding levelsRight
-returns-4 c d =
+returns-4 c =
     let a = c .before .before .before .before .before .before .before .args in
     let own = c .before .loop in
     let none : 0 ≡ own .l = omega arith in
-    ap (λ (l : ℕ). levelsRight (c .before .before .height-at .result) l (lineFrom (a .c) d (a .n) (a .m .now))) none ∙ own .inv d
+    ap (λ (l : ℕ). levelsRight (c .before .before .height-at .result) l (heightsFrom (a .c) (a .n) (a .m .now))) none ∙ own .inv
 
 pub heights-right-spec : {M : Type 1} → statement M
 heights-right-spec =

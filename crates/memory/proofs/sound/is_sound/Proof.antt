@@ -91,7 +91,7 @@ returns-4 c =
     let dimension = c .before .before .before .before .before .before .before .dimension in
     let count = c .before .before .before .before .before .before .count in
     heights-decides m (size .result) (dimension .result) (count .result) (size .ensures .0) (dimension .ensures .0) (count .ensures .0)
-    (sym (c .before .heights-right .ensures (dimension .result)) ∙ not-true (c .before .heights-right .result) (c .if4 .taken))
+    (sym (c .before .heights-right .ensures) ∙ not-true (c .before .heights-right .result) (c .if4 .taken))
 
 marks-right-requires : tie.Need-marks-right-requires
 marks-right-requires c κs =
@@ -121,7 +121,7 @@ returns-5 c =
     (sym (head .ensures) ∙ not-false (head .result) (c .before .before .before .before .before .before .before .before .before .before .if1 .left))
     (sym (numbers .ensures) ∙ not-false (numbers .result) (c .before .before .before .before .before .if2 .left))
     (sym (order .ensures) ∙ not-false (order .result) (c .before .before .before .if3 .left))
-    (sym (heights .ensures (dimension .result)) ∙ not-false (heights .result) (c .before .if4 .left))
+    (sym (heights .ensures) ∙ not-false (heights .result) (c .before .if4 .left))
     (c .marks-right .result) (c .marks-right .ensures)
 
 pub is-sound-spec : {M : Type 1} → statement M

@@ -1,0 +1,26 @@
+-- `feeding::finish` meets its contract. Assumes nothing.
+use borrow.Author.Needs.{needs}
+use Rattle.framing.specs.Laws.Feeding.{finishes-none, finishes-line}
+use Rattle.framing.proofs.feeding.finish.Statement.{statement}
+use Rattle.framing.proofs.feeding.finish.Tie as tie
+
+returns : tie.Need-returns
+returns c = finishes-none _ _ _ (c .if1 .taken)
+
+answer-requires : tie.Need-answer-requires
+answer-requires c κs = search needs
+
+same-length : tie.Need-same-length
+same-length c = search needs
+
+same-length-2 : tie.Need-same-length-2
+same-length-2 c = search needs
+
+returns-2 : tie.Need-returns-2
+returns-2 c =
+    let made = c .before .before .before .before .answer in
+    finishes-line (c .before .before .before .before .before .before .before .before .before .before .before .before .args .p) _ (made .result) _ _ (c .before .before .before .before .before .before .before .if1 .left) (made .ensures)
+
+pub finish-spec : {M : Type 1} → statement M
+finish-spec =
+    tie.close (tie.spec returns answer-requires same-length same-length-2 returns-2)

@@ -1,0 +1,40 @@
+-- `said::put_opened` meets its contract. Assumes nothing.
+use borrow.Author.Needs.{needs}
+use borrow.Author.Tests.{not-true, not-false}
+use mathlib.Core.Bool.{Bool}
+use mathlib.Core.Path.{sym, ap, _∙_}
+use Rattle.framing.specs.Laws.Put.{put-none, put-as}
+use Rattle.framing.specs.Laws.Texts.{wordText-low}
+use Rattle.framing.specs.Text.{wordText}
+use Rattle.framing.specs.Writing.{openedText}
+use Rattle.framing.proofs.said.put_opened.Statement.{statement}
+use Rattle.framing.proofs.said.put_opened.Tie as tie
+
+returns : tie.Need-returns
+unfolding openedText
+returns c =
+    let opened = c .before .before .args .opened in
+    put-as (ap (λ (b : Bool). openedText b opened) (sym (not-true (c .before .before .args .lists) (c .if1 .taken)))) (put-none (c .before .before .args .out .now) (c .before .before .args .at))
+
+two-bytes-requires : tie.Need-two-bytes-requires
+two-bytes-requires c κs = search needs
+
+put-word-requires : tie.Need-put-word-requires
+put-word-requires c κs = search needs
+
+same-length : tie.Need-same-length
+same-length c = search needs
+
+returns-2 : tie.Need-returns-2
+unfolding openedText
+returns-2 c =
+    let opened = c .before .before .before .before .before .before .before .args .opened in
+    put-as
+    (ap wordText (c .before .before .before .two-bytes .ensures)
+    ∙ wordText-low opened
+    ∙ ap (λ (b : Bool). openedText b opened) (sym (not-false (c .before .before .before .before .before .before .before .args .lists) (c .before .before .before .before .before .if1 .left))))
+    (c .before .before .put-word .ensures)
+
+pub put-opened-spec : {M : Type 1} → statement M
+put-opened-spec =
+    tie.close (tie.spec returns two-bytes-requires put-word-requires same-length returns-2)

@@ -1,0 +1,81 @@
+-- `text::put_told` meets its contract. Assumes nothing.
+use Prim.Native.Nat.{_+_, _-_, _*_, _≤_}
+use mathlib.Core.List.{map, flatMap}
+use mathlib.Core.Path.{_≡_, refl}
+use native.Mathlib.Omega.{arith}
+use lib.ListN.{take}
+use Rattle.promises.specs.Answers.{resultRow}
+use Rattle.upkeep.specs.Telling.{toldRows, position}
+use Rattle.framing.specs.Reading.{mostDigits}
+use Rattle.framing.specs.Text.{rowText}
+use Rattle.framing.specs.Writing.{Put}
+use Rattle.framing.specs.Laws.Put.{put-none, put-both, put-as}
+use Rattle.framing.specs.Laws.Texts.{rowText-most}
+use Rattle.framing.specs.Laws.Told.{position-more, told-more, told-end}
+use Rattle.framing.proofs.text.put_told.Statement.{statement}
+use Rattle.framing.proofs.text.put_told.Tie as tie
+
+abbrev Inv-loop : tie.InvT-loop
+Inv-loop out₀ at d m t count next₀ i₀ k₀ out next i k =
+    (k ≤ count)
+    × (next ≤ next₀ + mostDigits * k)
+    × (i ≡ position t m k)
+    × Put (flatMap (rowText d) (take k (map resultRow (toldRows t m)))) out₀ next₀ out next
+
+abbrev μ-loop : tie.MeasureT-loop
+μ-loop out₀ at d m t count next₀ i₀ k₀ out next i k = count - k
+
+loop-holds : tie.Need-loop-holds Inv-loop μ-loop
+unfolding flatMap position
+loop-holds c = (omega arith, omega arith, refl, put-none _ _)
+
+told-next-requires : tie.Need-told-next-requires Inv-loop μ-loop
+told-next-requires c κs = c .before .before .before .before .pre .asked (omega arith)
+
+put-row-requires : tie.Need-put-row-requires Inv-loop μ-loop
+put-row-requires c κs = omega arith
+
+add-k : tie.Need-add-k Inv-loop μ-loop
+add-k c = omega arith
+
+loop-less : tie.Need-loop-less Inv-loop μ-loop
+loop-less c = omega arith
+
+loop-again : tie.Need-loop-again Inv-loop μ-loop
+loop-again c =
+    let start = c .before .before .before .before .before .before .before .before .before .before in
+    let a = start .args in
+    let own = c .before .before .before .before .before .before .before .loop in
+    let told = c .before .before .before .before .before .told-next in (
+      omega arith,
+      omega (arith, rowText-most (a .d) (resultRow (told .result .row))),
+      position-more (a .t) (a .m .now) (own .k) (own .inv .2) (told .ensures .1),
+      put-as
+          (told-more (a .t) (a .m .now) (a .count) (start .pre .rows) (start .pre .asked) (a .d) (own .k) (omega arith) (own .inv .2) (told .ensures .0))
+          (put-both (own .inv .3) (c .before .before .put-row .ensures)),
+    )
+
+same-length : tie.Need-same-length Inv-loop μ-loop
+same-length c = omega arith
+
+returns : tie.Need-returns Inv-loop μ-loop
+returns c =
+    let start = c .before .before .before .before in
+    let a = start .args in
+    let own = c .before .loop in
+    put-as (told-end (a .t) (a .m .now) (a .count) (start .pre .rows) (start .pre .asked) (a .d) {k = own .k} (omega arith)) (own .inv .3)
+
+pub put-told-spec : {M : Type 1} → statement M
+put-told-spec =
+    tie.close
+    (tie.spec
+    Inv-loop
+    μ-loop
+    loop-holds
+    told-next-requires
+    put-row-requires
+    add-k
+    loop-less
+    loop-again
+    same-length
+    returns)
