@@ -49,13 +49,13 @@ abbrev pub changeIn : Plan → Change
 changeIn p = record { goes = p .goes; comes = p .comes; coming = p .telling .coming }
 
 abbrev pub callIn : Plan → List ℕ → calls.Change
-callIn p m = callOf (p .telling .size) (p .telling .count) (changeIn p) m
+callIn p m = callOf (p .telling .head .size) (p .telling .head .count) (changeIn p) m
 
 -- The telling has what the change does to the list; one that comes for one that goes has other costs.
 pub record Prepared (t : Telling) (k : Change) (m : List ℕ) : Type 0 where
-  pub ready : Ready (t .size) (t .dimension) (t .count) k m
-  pub other : Other (t .size) (t .dimension) (t .count) k m
-  pub upkept : Upkept (t .size) (t .dimension) (t .count) k m (t .upkeep)
+  pub ready : Ready (t .head .size) (t .head .dimension) (t .head .count) k m
+  pub other : Other (t .head .size) (t .head .dimension) (t .head .count) k m
+  pub upkept : Upkept (t .head .size) (t .head .dimension) (t .head .count) k m (t .upkeep)
 
 pub record Able (p : Plan) (m : List ℕ) : Type 0 where
   pub prepared : p .makes ≡ true → Prepared (p .telling) (changeIn p) m

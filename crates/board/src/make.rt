@@ -1,5 +1,6 @@
 // The change itself, made on sound memory: no rows and no 8.
 use dominance::Move;
+use memory::Head;
 use memory::set_costs;
 use memory::set_count;
 use memory::set_listed;
@@ -13,37 +14,40 @@ ghost use Rattle.dominance.specs.Move.{asMove};
 ghost use Rattle.board.specs.Change as spec;
 ghost use Rattle.board.specs.Plan as plan;
 
-fn make_enter(m: &mut [u8], c: usize, d: usize, n: usize, x: Move, u: Upkeep)
-    requires { ⌜ spec.EnterAsked c d n x u (now m) ⌝ }
+fn make_enter(m: &mut [u8], h: Head, x: Move, u: Upkeep)
+    requires { ⌜ spec.EnterAsked (h .size) (h .dimension) (h .count) x u (now m) ⌝ }
     ensures { λ _. ⌜ spec.EnterMade (asMove x) (now (m .entry)) (now (m .exit)) ⌝ }
 {
+    let n = h.count;
     let costs = x.costs;
-    set_marks(m, c, n, u);
-    set_listed(m, c, x.number, u.listed);
-    set_costs(m, c, x.number, costs);
-    enter_line(m, c, d, n, x);
+    set_marks(m, h, u);
+    set_listed(m, h.size, x.number, u.listed);
+    set_costs(m, h.size, x.number, costs);
+    enter_line(m, h.size, h.dimension, n, x);
     set_count(m, n + 1);
 }
 
-fn make_withdraw(m: &mut [u8], c: usize, d: usize, n: usize, p: usize, u: Upkeep)
-    requires { ⌜ spec.WithdrawAsked c d n p u (now m) ⌝ }
-    ensures { λ _. ⌜ spec.WithdrawMade c p (now (m .entry)) (now (m .exit)) ⌝ }
+fn make_withdraw(m: &mut [u8], h: Head, p: usize, u: Upkeep)
+    requires { ⌜ spec.WithdrawAsked (h .size) (h .dimension) (h .count) p u (now m) ⌝ }
+    ensures { λ _. ⌜ spec.WithdrawMade (h .size) p (now (m .entry)) (now (m .exit)) ⌝ }
 {
-    set_marks(m, c, n, u);
-    withdraw_line(m, c, d, n, p);
+    let n = h.count;
+    set_marks(m, h, u);
+    withdraw_line(m, h.size, h.dimension, n, p);
     set_count(m, n - 1);
 }
 
-fn make_recost(m: &mut [u8], c: usize, d: usize, n: usize, p: usize, x: Move, u: Upkeep)
-    requires { ⌜ spec.RecostAsked c d n p x u (now m) ⌝ }
+fn make_recost(m: &mut [u8], h: Head, p: usize, x: Move, u: Upkeep)
+    requires { ⌜ spec.RecostAsked (h .size) (h .dimension) (h .count) p x u (now m) ⌝ }
     ensures { λ _. ⌜ spec.RecostMade (asMove x) (now (m .entry)) (now (m .exit)) ⌝ }
 {
+    let n = h.count;
     let costs = x.costs;
-    set_marks(m, c, n, u);
-    set_listed(m, c, x.number, u.listed);
-    withdraw_line(m, c, d, n, p);
-    set_costs(m, c, x.number, costs);
-    enter_line(m, c, d, n - 1, x);
+    set_marks(m, h, u);
+    set_listed(m, h.size, x.number, u.listed);
+    withdraw_line(m, h.size, h.dimension, n, p);
+    set_costs(m, h.size, x.number, costs);
+    enter_line(m, h.size, h.dimension, n - 1, x);
     set_count(m, n);
 }
 
@@ -56,15 +60,16 @@ pub fn carry_out(m: &mut [u8], p: Plan)
         return;
     }
     let t = p.telling;
+    let h = t.head;
     let x = t.coming;
     let u = t.upkeep;
     if !p.comes {
-        make_withdraw(m, t.size, t.dimension, t.count, p.goes, u);
+        make_withdraw(m, h, p.goes, u);
         return;
     }
-    if p.goes < t.count {
-        make_recost(m, t.size, t.dimension, t.count, p.goes, x, u);
+    if p.goes < h.count {
+        make_recost(m, h, p.goes, x, u);
         return;
     }
-    make_enter(m, t.size, t.dimension, t.count, x, u);
+    make_enter(m, h, x, u);
 }

@@ -2,6 +2,7 @@
 use crate::told::alike;
 use crate::told::coming_place;
 use crate::told::needed;
+use memory::Head;
 use promises::Verdict;
 use upkeep::Change;
 use upkeep::Plan;
@@ -11,22 +12,22 @@ use upkeep::upkeep_of;
 ghost use Rattle.board.specs.Plan as spec;
 
 // The plan of a change with this verdict, 8 apart.
-pub fn plan_of(m: &[u8], c: usize, d: usize, n: usize, v: Verdict, k: Change, lent: usize) -> Plan
-    requires { ⌜ spec.PlanAsked c d n v k (now m) ⌝ }
-    ensures { λ r. ⌜ spec.PlanOf c n v k (now (m .entry)) lent r ⌝ }
+pub fn plan_of(m: &[u8], h: Head, v: Verdict, k: Change, lent: usize) -> Plan
+    requires { ⌜ spec.PlanAsked (h .size) (h .dimension) (h .count) v k (now m) ⌝ }
+    ensures { λ r. ⌜ spec.PlanOf (h .size) (h .count) v k (now (m .entry)) lent r ⌝ }
 {
     let Verdict::Accepted = v else {
         return nothing(v);
     };
-    if alike(m, c, d, n, k) {
+    if alike(m, h, k) {
         return nothing(Verdict::Accepted);
     }
-    let upkeep = upkeep_of(m, c, d, n, k);
+    let upkeep = upkeep_of(m, h, k);
     let need = needed(upkeep);
     if lent < need {
         return nothing(Verdict::FewRows(need));
     }
-    let place = coming_place(m, c, d, n, k);
+    let place = coming_place(m, h, k);
     let coming = k.coming;
     Plan {
         verdict: Verdict::Accepted,
@@ -36,9 +37,7 @@ pub fn plan_of(m: &[u8], c: usize, d: usize, n: usize, v: Verdict, k: Change, le
         goes: k.goes,
         comes: k.comes,
         telling: Telling {
-            size: c,
-            dimension: d,
-            count: n,
+            head: h,
             place,
             mark: 1,
             coming,

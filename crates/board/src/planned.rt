@@ -31,7 +31,7 @@ pub fn plan_change(m: &[u8], kind: Kind, number: u16, costs: [u16; COSTS], lent:
         comes: comes(kind),
         coming,
     };
-    plan_of(m, h.size, h.dimension, h.count, verdict, k, lent)
+    plan_of(m, h, verdict, k, lent)
 }
 
 pub fn plan_enter(m: &[u8], number: u16, costs: [u16; COSTS], lent: usize) -> Plan

@@ -1,29 +1,79 @@
-// The lists besides Definition 2's, by the letter of their line.
-use crate::answer::at_most;
-use crate::answer::put_told;
+// The lists, by the letter of their line.
+use crate::print::put;
+use crate::print::put_row;
+use crate::print::put_rows;
+use crate::print::put_told;
+use crate::words::at_most;
 use crate::words::value;
-use promises::Answer;
+use query::QueryPlan;
+ghost use Prim.Native.Nat.{_<_};
+ghost use Rattle.upkeep.specs.Telling.{TellingAsked};
 
-fn asked(letter: u8, memory: &[u8], x: usize, rows: &mut [[u16; 6]]) -> Answer {
-    if letter == b'B' {
-        return query::band(memory, x, rows);
-    }
-    if letter == b'K' {
-        return query::rank(memory, x, rows);
-    }
-    if letter == b'O' {
-        return query::on_k(memory, x, rows);
-    }
-    query::chosen(memory, x, rows)
-}
+const ROWS: usize = 4200;
 
 // Whether a line of this letter asks for a list.
 pub fn is_list(letter: u8) -> bool {
     letter == b'Q' || letter == b'B' || letter == b'K' || letter == b'O' || letter == b'S'
 }
 
-pub fn answer(letter: u8, memory: &[u8], values: &[u64], rows: &mut [[u16; 6]]) {
-    let lent = at_most(values, 1, rows.len());
-    let r = asked(letter, memory, value(values, 0) as usize, &mut rows[..lent]);
-    put_told(r, rows);
+fn list(memory: &[u8], lent: usize) {
+    let p = listing::plan_list(memory, lent);
+    let verdict = p.verdict;
+    let telling = p.telling;
+    put_told(verdict, p.count);
+    put(p.opened as u64);
+    put_rows(memory, telling, p.count);
+}
+
+fn planned(letter: u8, memory: &[u8], x: usize, lent: usize) -> QueryPlan
+    ensures { λ r. ⌜ (0 < r .count → TellingAsked (r .telling) (now (memory .entry))) ⌝ }
+{
+    if letter == b'B' {
+        return query::plan_band(memory, x, lent);
+    }
+    if letter == b'O' {
+        return query::plan_on_k(memory, x, lent);
+    }
+    query::plan_chosen(memory, x, lent)
+}
+
+fn query(letter: u8, memory: &[u8], x: usize, lent: usize) {
+    let p = planned(letter, memory, x, lent);
+    let verdict = p.verdict;
+    let telling = p.telling;
+    put_told(verdict, p.count);
+    put_rows(memory, telling, p.count);
+}
+
+fn put_ranked(rows: &[[u16; 6]], count: usize) {
+    let mut i = 0;
+    while i < count {
+        if i < rows.len() {
+            put_row(rows[i]);
+        }
+        i += 1;
+    }
+}
+
+// Rank has its rows in lent space.
+fn rank(memory: &[u8], x: usize, lent: usize, rows: &mut [[u16; 6]]) {
+    let n = at_most(lent, rows.len());
+    let r = query::rank(memory, x, &mut rows[..n]);
+    let verdict = r.verdict;
+    put_told(verdict, r.count);
+    put_ranked(rows, r.count);
+}
+
+pub fn answer(letter: u8, memory: &[u8], values: &[u64]) {
+    let x = value(values, 0) as usize;
+    let lent = value(values, 1) as usize;
+    if letter == b'Q' {
+        list(memory, x);
+        return;
+    }
+    if letter == b'K' {
+        rank(memory, x, lent, &mut [[0u16; 6]; ROWS]);
+        return;
+    }
+    query(letter, memory, x, lent);
 }

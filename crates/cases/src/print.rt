@@ -3,6 +3,10 @@ use libc::STDOUT_FILENO;
 use promises::Verdict;
 use promises::detail_of;
 use promises::number_of;
+use upkeep::Telling;
+use upkeep::told_next;
+ghost use Prim.Native.Nat.{_<_};
+ghost use Rattle.upkeep.specs.Telling.{TellingAsked};
 
 // A blank and a number.
 pub fn put(n: u64) {
@@ -15,7 +19,12 @@ pub fn put_verdict(v: Verdict) {
     put(detail_of(v) as u64);
 }
 
-fn put_row(r: [u16; 6]) {
+pub fn put_told(v: Verdict, count: usize) {
+    put_verdict(v);
+    put(count as u64);
+}
+
+pub fn put_row(r: [u16; 6]) {
     put(r[0] as u64);
     put(r[1] as u64);
     put(r[2] as u64);
@@ -24,13 +33,17 @@ fn put_row(r: [u16; 6]) {
     put(r[5] as u64);
 }
 
-// The first k rows.
-pub fn put_rows(rows: &[[u16; 6]], k: usize) {
+// The rows of a telling, of which there are so many.
+pub fn put_rows(m: &[u8], t: Telling, count: usize)
+    requires { ⌜ (0 < count → TellingAsked t (now m)) ⌝ }
+{
+    let mut at = 0;
     let mut i = 0;
-    while i < k {
-        if i < rows.len() {
-            put_row(rows[i]);
-        }
+    while i < count {
+        let step = told_next(m, t, at);
+        let row = step.row;
+        put_row(row);
+        at = step.next;
         i += 1;
     }
 }

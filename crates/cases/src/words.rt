@@ -1,5 +1,8 @@
-// A line of the input as far as it was read: a letter, then numbers, up to the sign `=`. The numbers go into lent space; the
-// length of the memory in use is kept from line to line.
+// A line of the input and its numbers.
+ghost use Prim.Native.Nat.{_≤_};
+
+// As far as it was read: a letter, then numbers, up to the sign `=`. The numbers go into lent space; the length of the memory
+// in use is kept from line to line.
 pub struct Line {
     pub letter: u8,
     pub count: usize,
@@ -32,6 +35,29 @@ impl Line {
 // The number at place i, or 0 past the end.
 pub fn value(values: &[u64], i: usize) -> u64 {
     if i < values.len() { values[i] } else { 0 }
+}
+
+pub fn at_most(n: usize, bound: usize) -> usize
+    ensures { λ r. ⌜ r ≤ bound ⌝ }
+{
+    if n <= bound { n } else { bound }
+}
+
+pub fn narrow(n: u64) -> u16 {
+    (n % 65536) as u16
+}
+
+// The costs from place i on.
+pub fn costs(values: &[u64], i: usize) -> [u16; 4] {
+    if values.len() <= i {
+        return [0u16; 4];
+    }
+    [
+        narrow(value(values, i)),
+        narrow(value(values, i + 1)),
+        narrow(value(values, i + 2)),
+        narrow(value(values, i + 3)),
+    ]
 }
 
 fn put_value(values: &mut [u64], i: usize, v: u64) {

@@ -1,70 +1,107 @@
-// Numbers that look random, the same at each run, and costs made of them: few values with many ties, or many.
-use crate::cells::DICE;
-use crate::cells::key;
-use crate::cells::put_key;
-
-fn next(s: u64) -> u64 {
-    let a = s ^ (s << 13);
-    let b = a ^ (a >> 7);
-    b ^ (b << 17)
-}
+// Numbers that look random, the same at each run; costs made of them, and the calls that the runs make: most are accepted,
+// some are to be refused.
+use crate::expect::Call;
+use crate::plain::NONE;
+use crate::plain::Plain;
+use crate::plain::find;
+use crate::table::BOARD;
+use crate::table::Table;
+use crate::table::row_at;
+use crate::tally::Tally;
 
 // A number below n.
-pub fn roll(keys: &mut [u64], n: usize) -> usize {
-    let s = next(key(keys, DICE, 0));
-    put_key(keys, DICE, 0, s);
-    if n == 0 {
-        return 0;
-    }
-    (s / 64) as usize % n
+pub fn roll(u: &mut Tally, n: usize) -> usize {
+    let s = if u[0] == 0 { 88172645463325252 } else { u[0] };
+    let a = s ^ (s << 13);
+    let b = a ^ (a >> 7);
+    u[0] = b ^ (b << 17);
+    if n == 0 { 0 } else { (b / 64) as usize % n }
 }
 
-pub fn start(keys: &mut [u64]) {
-    put_key(keys, DICE, 0, 88172645463325252);
-}
-
-// True once in n rolls.
-pub fn once_in(keys: &mut [u64], n: usize) -> bool {
-    roll(keys, n) == 0
-}
-
-fn extreme(n: usize) -> usize {
-    match n % 6 {
-        0 => 0,
-        1 => 1,
-        2 => 32767,
-        3 => 32768,
-        4 => 65534,
-        _ => 65535,
-    }
-}
-
-// A cost in one of the styles: 2, 5 or 40 values, ends of the range, many values of which some share their high bits, any.
-fn cost(keys: &mut [u64], style: usize) -> u16 {
-    let n = roll(keys, 65536) % 65536;
+// The kinds of draws: any cost; of four values, so that many moves are equal; small, for sums that are nearly constant; the
+// ends of the range and its middle.
+fn cost(u: &mut Tally, style: usize) -> u16 {
+    let n = (roll(u, 65536) % 65536) as u16;
     match style {
-        0 => (n % 2) as u16,
-        1 => (n % 5) as u16,
-        2 => (n % 40) as u16,
-        3 => (extreme(n) % 65536) as u16,
-        4 => (n % 4 * 4096 + n / 8 % 32) as u16,
-        _ => n as u16,
+        0 => n,
+        1 => n % 4,
+        2 => n % 20000,
+        _ => n % 2 * 32768 + n / 2 % 2 * 32767,
     }
 }
 
-// Costs that rise where the others fall, so that few dominate.
-fn against(a: u16, b: u16) -> u16 {
-    2000 - a % 2000 + b % 16
+// With sums that are nearly constant few moves dominate.
+pub fn costs(u: &mut Tally, d: usize, style: usize) -> [u16; 4] {
+    let a = cost(u, style);
+    let b = cost(u, style);
+    let e = if d < 3 { 0 } else { cost(u, style) };
+    let f = if d < 4 { 0 } else { cost(u, style) };
+    if style != 2 {
+        return [a, b, e, f];
+    }
+    [60000 - b % 20000 - e % 20000 - f % 20000 + a % 8, b, e, f]
 }
 
-// The styles 0 to 5 with costs apart, 6 to 11 with the second against the first; those past d are zero.
-pub fn costs(keys: &mut [u64], d: usize, style: usize) -> [u16; 4] {
-    let a = cost(keys, style % 6);
-    let b = cost(keys, style % 6);
-    let e = cost(keys, style % 6);
-    let f = cost(keys, style % 6);
-    let second = if style < 6 { b } else { against(a, b) };
-    let third = if 2 < d { e } else { 0 };
-    let fourth = if 3 < d { f } else { 0 };
-    [a, second, third, fourth]
+// Any number, at times past the last; of a board that is to shrink one on it.
+fn number(b: Plain, t: &Table, u: &mut Tally, growing: bool) -> u16 {
+    let any = roll(u, b.c % 5000 + b.c % 5000 / 16 + 1);
+    let r = row_at(t, BOARD, roll(u, b.n));
+    if growing { (any % 65536) as u16 } else { r[1] }
+}
+
+// A number on the board is withdrawn or re-costed, another entered; at times the other way round.
+fn letter(u: &mut Tally, present: bool, growing: bool) -> u8 {
+    let n = roll(u, 96);
+    if present == (n % 12 == 0) {
+        return b'e';
+    }
+    let rarely = if growing { 12 } else { 50 };
+    if n < rarely { b'w' } else { b'c' }
+}
+
+// The rows lent: enough for every call, about as many as the list has, or few.
+fn lent(b: Plain, u: &mut Tally) -> usize {
+    match roll(u, 6) {
+        0 => roll(u, 4),
+        1 => (b.listed % 5000 + 4999) % 5000,
+        2 => b.listed,
+        _ => b.c % 5000 + 1,
+    }
+}
+
+// A change, at times with costs past d.
+pub fn change(b: Plain, t: &Table, u: &mut Tally, style: usize, growing: bool) -> Call {
+    let number = number(b, t, u, growing);
+    let r = find(t, b.n, number);
+    let d = if roll(u, 24) == 0 { 4 } else { b.d };
+    Call {
+        letter: letter(u, r[0] != NONE, growing),
+        number,
+        costs: costs(u, d, style),
+        argument: 0,
+        lent: lent(b, u),
+    }
+}
+
+// A list: its argument is mostly small, at times at the ends of the range and past them.
+pub fn reading(b: Plain, u: &mut Tally, letter: u8) -> Call {
+    let n = roll(u, 60);
+    Call {
+        letter,
+        number: 0,
+        costs: [0u16; 4],
+        argument: if n < 10 { 4094 + n % 4 } else { n % 10 },
+        lent: lent(b, u),
+    }
+}
+
+// One of the other lists.
+pub fn query(b: Plain, u: &mut Tally) -> Call {
+    let letter = match roll(u, 4) {
+        0 => b'B',
+        1 => b'R',
+        2 => b'K',
+        _ => b'S',
+    };
+    reading(b, u, letter)
 }

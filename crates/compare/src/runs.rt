@@ -1,139 +1,88 @@
-// The mixed run of calls on a board: a change, the list, at times another list, damaged memory, a load to be refused.
-use crate::cells::Row;
-use crate::choose;
-use crate::damage::damage;
-use crate::dice::once_in;
-use crate::inputs::Input;
-use crate::nodes::Node;
+// The mixed run of calls on a board, each made on both: a change, the list, another list, at times a load to be refused.
+use crate::ask::ask;
+use crate::ask::spoken;
+use crate::dice;
+use crate::dice::roll;
+use crate::expect::Call;
+use crate::expect::answer;
+use crate::expect::expect;
 use crate::plain::Plain;
-use crate::shapes::Shape;
-use crate::shapes::spoilt_load;
-use crate::steps::call_somehow;
-use crate::tally;
+use crate::table::HELD;
+use crate::table::Table;
+use crate::table::same_rows;
+use crate::tally::Tally;
+use crate::tally::count;
+use crate::tally::judge;
+use promises::Verdict;
 
-fn changed(
-    b: Plain,
-    table: &mut [Row],
-    nodes: &mut [Node],
-    keys: &mut [u64],
-    m: &mut [u8],
-    style: usize,
-    growing: bool,
-) -> Plain {
-    let k = choose::change(b, table, keys, style, growing);
-    let exactly = once_in(keys, 3);
-    call_somehow(b, table, nodes, keys, m, k, exactly)
-}
-
-fn listed(
-    b: Plain,
-    table: &mut [Row],
-    nodes: &mut [Node],
-    keys: &mut [u64],
-    m: &mut [u8],
-) -> Plain {
-    let exactly = once_in(keys, 5);
-    call_somehow(b, table, nodes, keys, m, choose::reading(b'Q', 0), exactly)
-}
-
-fn queried(
-    b: Plain,
-    table: &mut [Row],
-    nodes: &mut [Node],
-    keys: &mut [u64],
-    m: &mut [u8],
-) -> Plain {
-    if !once_in(keys, 8) {
-        return b;
+// The holder has the list. Of a list call, every leaf with a listed move was opened, and no node is without moves; no other
+// call opens any.
+fn is_right(b: Plain, t: &Table, letter: u8, opened: usize) -> bool {
+    if b.holding && (b.held != b.listed || !same_rows(t, HELD, b.list, b.held)) {
+        return false;
     }
-    let k = choose::query(keys, b.d);
-    let exactly = once_in(keys, 2);
-    call_somehow(b, table, nodes, keys, m, k, exactly)
-}
-
-fn read(b: Plain, table: &mut [Row], nodes: &mut [Node], keys: &mut [u64], m: &mut [u8]) -> Plain {
-    let after = listed(b, table, nodes, keys, m);
-    queried(after, table, nodes, keys, m)
-}
-
-fn reloaded(
-    b: Plain,
-    table: &mut [Row],
-    nodes: &mut [Node],
-    keys: &mut [u64],
-    m: &mut [u8],
-    input: &mut [Input],
-    s: Shape,
-) -> Plain {
-    if !once_in(keys, 40) {
-        return b;
+    if letter != b'Q' || 0 < b.refusal {
+        return opened == 0;
     }
-    spoilt_load(b, table, nodes, keys, m, input, s)
+    (b.listed % 5000 + 7) / 8 <= opened && opened <= b.n
 }
 
-fn damaged(b: Plain, table: &mut [Row], keys: &mut [u64], m: &mut [u8]) {
-    if once_in(keys, 60) {
-        damage(b, table, keys, m);
+fn call(b: Plain, t: &mut Table, u: &mut Tally, m: &mut [u8], k: Call) -> Plain {
+    let mut want = expect(b, t, k);
+    let said = ask(m, k, t, b);
+    want.held = said.held;
+    want.holding = b.holding || (k.letter == b'Q' && said.refusal == 0);
+    let right = is_right(want, t, k.letter, said.opened);
+    want.right = right;
+    count(u, k.letter, want, said.opened);
+    judge(u, k.letter, want, said);
+    want
+}
+
+// A load that is to be answered so.
+pub fn judge_load(want: Plain, u: &mut Tally, v: Verdict) {
+    count(u, b'L', want, 0);
+    judge(u, b'L', want, spoken(want, v, 0, 0));
+}
+
+// At times a load: C out of range, or a row with a number too large.
+fn refused_load(b: Plain, u: &mut Tally, m: &mut [u8]) {
+    let kind = roll(u, 40);
+    if b.c == 0 || 1 < kind {
+        return;
     }
+    let c = if kind == 0 { 4097 } else { b.c };
+    let v = loading::load(m, c, b.d, &[[65535, 0, 0, 0, 0]]);
+    judge_load(answer(b, if kind == 0 { 2 } else { 4 }, 0, 0), u, v);
 }
 
-fn disturbed(
-    b: Plain,
-    table: &mut [Row],
-    nodes: &mut [Node],
-    keys: &mut [u64],
-    m: &mut [u8],
-    input: &mut [Input],
-    s: Shape,
-) -> Plain {
-    damaged(b, table, keys, m);
-    reloaded(b, table, nodes, keys, m, input, s)
-}
-
-fn used(
-    b: Plain,
-    table: &mut [Row],
-    nodes: &mut [Node],
-    keys: &mut [u64],
-    m: &mut [u8],
-    style: usize,
-    growing: bool,
-) -> Plain {
-    let after = changed(b, table, nodes, keys, m, style, growing);
-    read(after, table, nodes, keys, m)
+fn read(b: Plain, t: &mut Table, u: &mut Tally, m: &mut [u8]) -> Plain {
+    let first = dice::reading(b, u, b'Q');
+    let listed = call(b, t, u, m, first);
+    let second = dice::query(listed, u);
+    call(listed, t, u, m, second)
 }
 
 fn step(
     b: Plain,
-    table: &mut [Row],
-    nodes: &mut [Node],
-    keys: &mut [u64],
+    t: &mut Table,
+    u: &mut Tally,
     m: &mut [u8],
-    input: &mut [Input],
-    s: Shape,
+    style: usize,
     growing: bool,
 ) -> Plain {
-    let after = used(b, table, nodes, keys, m, s.style, growing);
-    disturbed(after, table, nodes, keys, m, input, s)
+    let k = dice::change(b, t, u, style, growing);
+    let after = call(b, t, u, m, k);
+    refused_load(after, u, m);
+    read(after, t, u, m)
 }
 
 // Boards grow for 24 changes, then shrink for as many.
-pub fn run(
-    b: Plain,
-    table: &mut [Row],
-    nodes: &mut [Node],
-    keys: &mut [u64],
-    m: &mut [u8],
-    input: &mut [Input],
-    s: Shape,
-    changes: usize,
-) -> Plain {
+pub fn run(b: Plain, t: &mut Table, u: &mut Tally, m: &mut [u8], style: usize, steps: usize) {
     let mut after = b;
     let mut i = 0;
-    while i < changes {
-        tally::set(keys, tally::STEP, i);
-        after = step(after, table, nodes, keys, m, input, s, i / 24 % 2 == 0);
+    while i < steps {
+        after = step(after, t, u, m, style, i / 24 % 2 == 0);
         i += 1;
     }
-    after
 }

@@ -16,7 +16,7 @@ pub fn plan_list(m: &[u8], lent: usize) -> Plan
     let Held::Sound(h) = sound_head(m) else {
         return nothing(Verdict::Unsound);
     };
-    let found = find_listed(m, h.size, h.count);
+    let found = find_listed(m, h);
     let opened = nodes_opened(m, h.size, h.dimension, h.count);
-    plan_found(h.size, h.dimension, h.count, found, opened, lent)
+    plan_found(h, found, opened, lent)
 }

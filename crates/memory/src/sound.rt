@@ -9,11 +9,17 @@ use crate::marks::marks_right;
 use crate::order::stands_before;
 use zorder::COSTS;
 ghost use mathlib.Core.Path.{_≡_};
-ghost use Prim.Native.Nat.{_≤_, _<_};
+ghost use Prim.Native.Nat.{_≤_};
 ghost use Rattle.memory.specs.Held.{HeldIn};
-ghost use Rattle.memory.specs.Room.{Room, Numbers};
+ghost use Rattle.memory.specs.Room.{Room, Readable};
 ghost use Rattle.memory.specs.Tests as tests;
-ghost use Rattle.zorder.specs.Address.{rowCosts};
+
+// C, d and the number of moves of a board.
+pub struct Head {
+    pub size: usize,
+    pub dimension: usize,
+    pub count: usize,
+}
 
 // Whether C, d and the number of moves are in range and the memory is long enough for C.
 fn head_right(m: &[u8]) -> bool
@@ -50,13 +56,15 @@ fn numbers_right(m: &[u8], c: usize, n: usize) -> bool
     true
 }
 
-fn order_right(m: &[u8], c: usize, d: usize, n: usize) -> bool
-    requires { ⌜ Room c (now m) × (n ≤ c) × Numbers c n (now m) × (d ≤ rowCosts) ⌝ }
-    ensures { λ r. ⌜ r ≡ tests.orderRight c d n (now (m .entry)) ⌝ }
+fn order_right(m: &[u8], h: Head) -> bool
+    requires { ⌜ Readable h (now m) ⌝ }
+    ensures { λ r. ⌜ r ≡ tests.orderRight (h .size) (h .dimension) (h .count) (now (m .entry)) ⌝ }
 {
+    let n = h.count;
     let mut i = 1;
     while i < n {
-        if !stands_before(d, move_at(m, c, d, i - 1), move_at(m, c, d, i)) {
+        let p = move_at(m, h.size, h.dimension, i - 1);
+        if !stands_before(h.dimension, p, move_at(m, h.size, h.dimension, i)) {
             return false;
         }
         i += 1;
@@ -70,26 +78,21 @@ pub fn is_sound(m: &[u8]) -> bool
     if !head_right(m) {
         return false;
     }
-    let c = size(m);
-    let d = dimension(m);
-    let n = count(m);
-    if !numbers_right(m, c, n) {
+    let h = Head {
+        size: size(m),
+        dimension: dimension(m),
+        count: count(m),
+    };
+    if !numbers_right(m, h.size, h.count) {
         return false;
     }
-    if !order_right(m, c, d, n) {
+    if !order_right(m, h) {
         return false;
     }
-    if !heights_right(m, c, n) {
+    if !heights_right(m, h.size, h.count) {
         return false;
     }
-    marks_right(m, c, d, n)
-}
-
-// C, d and the number of moves of a board.
-pub struct Head {
-    pub size: usize,
-    pub dimension: usize,
-    pub count: usize,
+    marks_right(m, h)
 }
 
 pub enum Held {

@@ -1,4 +1,4 @@
-// A set of numbers below 4,096, by value: 64 words of 64 bits.
+// A set of numbers below 4,096: 64 words of 64 bits.
 ghost use mathlib.Core.Bool.{false};
 ghost use mathlib.Core.Path.{_≡_};
 ghost use Prim.Native.Nat.{ℕ, _<_};
@@ -12,21 +12,20 @@ pub fn empty() -> [u64; WORDS]
     [0u64; WORDS]
 }
 
-pub fn has(set: [u64; WORDS], n: u16) -> bool
+pub fn has(set: &[u64; WORDS], n: u16) -> bool
     requires { ⌜ n < 4096 ⌝ }
-    ensures { λ r. ⌜ r ≡ inSet set n ⌝ }
+    ensures { λ r. ⌜ r ≡ inSet (now (set .entry)) n ⌝ }
 {
     let at = (n / 64) as usize;
     (set[at] >> (n % 64)) & 1 == 1
 }
 
-// The set with n besides.
-pub fn with(set: [u64; WORDS], n: u16) -> [u64; WORDS]
+// n put into the set.
+pub fn add(set: &mut [u64; WORDS], n: u16)
     requires { ⌜ n < 4096 ⌝ }
-    ensures { λ r. ⌜ With set n r ⌝ }
+    ensures { λ _. ⌜ With (now (set .entry)) n (now (set .exit)) ⌝ }
 {
+    let words: &mut [u64] = set;
     let at = (n / 64) as usize;
-    let mut more = set;
-    more[at] = more[at] | (1u64 << (n % 64));
-    more
+    words[at] = words[at] | (1u64 << (n % 64));
 }

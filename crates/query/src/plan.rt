@@ -19,8 +19,8 @@ fn plan_kept(m: &[u8], h: Head, rule: Rule, most: usize, lent: usize) -> Plan
     requires { ⌜ SoundAt (h .size) (h .dimension) (h .count) (now m) × Fair rule ⌝ }
     ensures { λ r. ⌜ PlansKept rule most (now (m .entry)) lent r ⌝ }
 {
-    let found = find(m, h.size, h.dimension, h.count, rule, most);
-    plan_found(h.size, h.dimension, h.count, found, 0, lent)
+    let found = find(m, h, rule, most);
+    plan_found(h, found, 0, lent)
 }
 
 // Band (Definition 3): the moves that b others or fewer dominate.

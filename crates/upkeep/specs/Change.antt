@@ -71,21 +71,13 @@ leavesAt c d k m i = isListed c d m i && leaves d k i (moveIn c d m i)
 unfoldable pub entersAt : ℕ → ℕ → ℕ → Change → List ℕ → ℕ → Bool
 entersAt c d n k m i = not (isListed c d m i) && (not (eqb i (k .goes)) && comesUp c d n k (moveIn c d m i) m)
 
--- A set after the number of place i was looked at: in it if the test says so.
-unfoldable pub NextSet : List ℕ → Bool → ℕ → List ℕ → Type 0
-NextSet ws test number ws' = (k : ℕ) → inSet ws' k ≡ ((test && eqb k number) || inSet ws k)
+-- The numbers of the moves at places below e that pass a test, and how many they are.
+pub record Passing (c : ℕ) (m : List ℕ) (test : ℕ → Bool) (e : ℕ) (ws : List ℕ) (k : ℕ) : Type 0 where
+  pub numbers : (j : ℕ) → inSet ws j ≡ anyTo (λ i. test i && eqb j (numberIn c m i)) e
+  pub counts : k ≡ count test (numbersFrom 0 e)
 
-pub record LookedAt (c d n : ℕ) (k : Change) (u : Upkeep) (i : ℕ) (m : List ℕ) (r : Upkeep) : Type 0 where
-  pub leaving : NextSet (u .leaving) (leavesAt c d k m i) (numberIn c m i) (r .leaving)
-  pub entering : NextSet (u .entering) (entersAt c d n k m i) (numberIn c m i) (r .entering)
-  pub left : r .left ≡ u .left + cond (leavesAt c d k m i) 1 0
-  pub entered : r .entered ≡ u .entered + cond (entersAt c d n k m i) 1 0
-  pub listed : r .listed ≡ u .listed
-
--- The moves at the places below e looked at.
-pub record LookedTo (c d n : ℕ) (k : Change) (e : ℕ) (m : List ℕ) (r : Upkeep) : Type 0 where
-  pub leaving : (j : ℕ) → inSet (r .leaving) j ≡ anyTo (λ i. leavesAt c d k m i && eqb j (numberIn c m i)) e
-  pub entering : (j : ℕ) → inSet (r .entering) j ≡ anyTo (λ i. entersAt c d n k m i && eqb j (numberIn c m i)) e
-  pub left : r .left ≡ count (leavesAt c d k m) (numbersFrom 0 e)
-  pub entered : r .entered ≡ count (entersAt c d n k m) (numbersFrom 0 e)
+-- The moves looked at, the coming one apart.
+pub record Looked (c d n : ℕ) (k : Change) (m : List ℕ) (r : Upkeep) : Type 0 where
+  pub leaving : Passing c m (leavesAt c d k m) n (r .leaving) (r .left)
+  pub entering : Passing c m (entersAt c d n k m) n (r .entering) (r .entered)
   pub listed : r .listed ≡ false

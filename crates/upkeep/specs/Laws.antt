@@ -1,5 +1,6 @@
 -- That the steps of a change compute what the definition says.
 pub mod Places
+pub mod Passing
 pub mod Change
 pub mod Marks
 pub mod Place

@@ -20,6 +20,7 @@ use Rattle.promises.specs.declared.Verdict.{Verdict}
 use Rattle.promises.specs.declared.Verdict.the-variants.{Unsound}
 use Rattle.promises.specs.declared.Answer.{Answer}
 use Rattle.memory.specs.Held.{SoundAt}
+use Rattle.memory.specs.declared.sound.Head.{Head}
 use Rattle.numbers.specs.Set.{inSet}
 use Rattle.upkeep.specs.Telling.{TellingAsked, toldRows}
 use Rattle.upkeep.specs.declared.found.Found.{Found}
@@ -36,10 +37,8 @@ pub record Finds (c n : ℕ) (test : ℕ → Bool) (m : List ℕ) (r : Found) : 
   pub counts : r .count ≡ count (λ i. test (numberIn c m i)) (numbersFrom 0 n)
 
 -- Told are the moves with these numbers, as listed.
-pub record TellsNumbers (c d n : ℕ) (numbers : List ℕ) (t : Telling) : Type 0 where
-  pub size : t .size ≡ c
-  pub dimension : t .dimension ≡ d
-  pub places : t .count ≡ n
+pub record TellsNumbers (h : Head) (numbers : List ℕ) (t : Telling) : Type 0 where
+  pub head : t .head ≡ h
   pub place : t .place ≡ 0
   pub mark : t .mark ≡ listed
   pub leaving : t .upkeep .leaving ≡ numbers
@@ -86,13 +85,13 @@ abbrev pub foundMoves : ℕ → ℕ → ℕ → (ℕ → Bool) → List ℕ → 
 foundMoves c d n test m = select (λ x. test (x .number)) (movesIn (lineFrom c d n m))
 
 -- The plan of each list that is not turned down and whose rows are the moves found.
-pub record PlansFound (c d n : ℕ) (found : Found) (opened lent : ℕ) (p : Plan) : Type 0 where
+pub record PlansFound (h : Head) (found : Found) (opened lent : ℕ) (p : Plan) : Type 0 where
   pub plans :
       {m : List ℕ} {test : ℕ → Bool}
-      → SoundAt c d n m
-      → Finds c n test m found
+      → SoundAt (h .size) (h .dimension) (h .count) m
+      → Finds (h .size) (h .count) test m found
       → (q : Query)
       → queryRefusal (boardIn m) q ≡ 0
-      → listedRows (foundMoves c d n test m) ≡ queryRows (boardIn m) q
+      → listedRows (foundMoves (h .size) (h .dimension) (h .count) test m) ≡ queryRows (boardIn m) q
       → ((t : Tree) → Stands m t → opened ≡ queryOpens (dimensionIn m) q t)
       → QueryPlanned q m lent p

@@ -2,14 +2,14 @@
 use crate::change::Upkeep;
 use crate::telling::Telling;
 use dominance::Move;
+use memory::Head;
 use memory::is_listed;
 use memory::number_at;
 use numbers::WORDS;
+use numbers::add;
 use numbers::empty;
-use numbers::with;
 use zorder::COSTS;
-ghost use Prim.Native.Nat.{_≤_};
-ghost use Rattle.memory.specs.Room.{Room, Numbers};
+ghost use Rattle.memory.specs.Room.{Readable};
 ghost use Rattle.upkeep.specs.Planned as spec;
 
 // The numbers, and how many they are.
@@ -18,19 +18,19 @@ pub struct Found {
     pub count: usize,
 }
 
-// The listed ones of the first n moves.
-pub fn find_listed(m: &[u8], c: usize, n: usize) -> Found
-    requires { ⌜ Room c (now m) × (n ≤ c) × Numbers c n (now m) ⌝ }
-    ensures { λ r. ⌜ spec.Finds c n (spec.isMarked c (now (m .entry))) (now (m .entry)) r ⌝ }
+// The listed ones.
+pub fn find_listed(m: &[u8], h: Head) -> Found
+    requires { ⌜ Readable h (now m) ⌝ }
+    ensures { λ r. ⌜ spec.Finds (h .size) (h .count) (spec.isMarked (h .size) (now (m .entry))) (now (m .entry)) r ⌝ }
 {
+    let n = h.count;
     let mut numbers = empty();
     let mut count: usize = 0;
     let mut i = 0;
     while i < n {
-        let number = number_at(m, c, i);
-        if is_listed(m, c, number) {
-            let more = with(numbers, number);
-            numbers = more;
+        let number = number_at(m, h.size, i);
+        if is_listed(m, h.size, number) {
+            add(&mut numbers, number);
             count += 1;
         }
         i += 1;
@@ -39,14 +39,12 @@ pub fn find_listed(m: &[u8], c: usize, n: usize) -> Found
 }
 
 // The moves with these numbers, told as listed.
-pub fn telling_of(c: usize, d: usize, n: usize, numbers: [u64; WORDS]) -> Telling
-    ensures { λ r. ⌜ spec.TellsNumbers c d n numbers r ⌝ }
+pub fn telling_of(head: Head, numbers: [u64; WORDS]) -> Telling
+    ensures { λ r. ⌜ spec.TellsNumbers head numbers r ⌝ }
 {
     let none = empty();
     Telling {
-        size: c,
-        dimension: d,
-        count: n,
+        head,
         place: 0,
         mark: 0,
         coming: Move {
@@ -67,5 +65,10 @@ pub fn telling_of(c: usize, d: usize, n: usize, numbers: [u64; WORDS]) -> Tellin
 pub fn telling_none() -> Telling
     ensures { λ r. ⌜ spec.TellsNothing r ⌝ }
 {
-    telling_of(0, 0, 0, empty())
+    let head = Head {
+        size: 0,
+        dimension: 0,
+        count: 0,
+    };
+    telling_of(head, empty())
 }

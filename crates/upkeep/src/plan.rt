@@ -3,6 +3,7 @@ use crate::found::Found;
 use crate::found::telling_none;
 use crate::found::telling_of;
 use crate::telling::Telling;
+use memory::Head;
 use promises::Verdict;
 ghost use Rattle.upkeep.specs.Planned as spec;
 
@@ -34,15 +35,15 @@ pub fn nothing(verdict: Verdict) -> Plan
 }
 
 // The moves found are told, or how many rows they need.
-pub fn plan_found(c: usize, d: usize, n: usize, found: Found, opened: usize, lent: usize) -> Plan
-    ensures { λ r. ⌜ spec.PlansFound c d n found opened lent r ⌝ }
+pub fn plan_found(h: Head, found: Found, opened: usize, lent: usize) -> Plan
+    ensures { λ r. ⌜ spec.PlansFound h found opened lent r ⌝ }
 {
     let need = found.count;
     if lent < need {
         return nothing(Verdict::FewRows(need));
     }
     let numbers = found.numbers;
-    let telling = telling_of(c, d, n, numbers);
+    let telling = telling_of(h, numbers);
     Plan {
         verdict: Verdict::Accepted,
         count: need,

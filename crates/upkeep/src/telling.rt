@@ -3,19 +3,20 @@ use crate::change::Upkeep;
 use crate::notice::ROW;
 use crate::notice::row_of;
 use dominance::Move;
+use memory::Head;
 use memory::move_at;
 use memory::number_at;
+use numbers::WORDS;
 use numbers::has;
 ghost use mathlib.Core.Path.{_≡_};
-ghost use Prim.Native.Nat.{_<_};
+ghost use Prim.Native.Nat.{_+_, _*_, _≤_, _<_};
+ghost use Rattle.memory.specs.Room.{Readable};
 ghost use Rattle.upkeep.specs.Telling as spec;
 
 // Told are the moves of `upkeep.leaving` with the mark, then those of `upkeep.entering` marked entered, each part in Z-order;
 // where `upkeep.listed`, the coming move stands among the latter, before the move at its place.
 pub struct Telling {
-    pub size: usize,
-    pub dimension: usize,
-    pub count: usize,
+    pub head: Head,
     pub place: usize,
     pub mark: u16,
     pub coming: Move,
@@ -30,31 +31,37 @@ pub struct Step {
 
 // Positions: the places of the board, for the moves that leave; the places again, for those that enter, with the coming
 // move before its place.
-fn place_at(t: Telling, i: usize) -> usize
-    requires { ⌜ (i ≡ spec.comingAt t → ⊥) ⌝ }
-    ensures { λ r. ⌜ r ≡ spec.placeAt t i ⌝ }
+fn place_at(n: usize, place: usize, i: usize) -> usize
+    requires { ⌜ (i ≡ n + place → ⊥) ⌝ }
+    ensures { λ r. ⌜ r ≡ spec.placeOf n place i ⌝ }
 {
-    if i < t.count {
+    if i < n {
         return i;
     }
-    let k = i - t.count;
-    if k < t.place { k } else { k - 1 }
+    let k = i - n;
+    if k < place { k } else { k - 1 }
 }
 
-fn is_told(m: &[u8], t: Telling, i: usize) -> bool
-    requires { ⌜ spec.TellingAsked t (now m) × (i < spec.positions t) ⌝ }
-    ensures { λ r. ⌜ r ≡ spec.toldAt t (now (m .entry)) i ⌝ }
+fn is_told<'a>(
+    m: &[u8],
+    h: Head,
+    place: usize,
+    listed: bool,
+    leaving: &'a [u64; WORDS],
+    entering: &'a [u64; WORDS],
+    i: usize,
+) -> bool
+    requires { ⌜ Readable h (now m) × (place ≤ h .count) × (i < 2 * h .count + 1) ⌝ }
+    ensures { λ r. ⌜ r ≡ spec.toldIn h place listed (now (leaving .entry)) (now (entering .entry)) (now (m .entry)) i ⌝ }
 {
-    let u = t.upkeep;
-    if i == t.count + t.place {
-        return u.listed;
+    let n = h.count;
+    if i == n + place {
+        return listed;
     }
-    let number = number_at(m, t.size, place_at(t, i));
-    if i < t.count {
-        let leaving = u.leaving;
+    let number = number_at(m, h.size, place_at(n, place, i));
+    if i < n {
         return has(leaving, number);
     }
-    let entering = u.entering;
     has(entering, number)
 }
 
@@ -62,12 +69,14 @@ fn row_at(m: &[u8], t: Telling, i: usize) -> [u16; ROW]
     requires { ⌜ spec.TellingAsked t (now m) × (i < spec.positions t) ⌝ }
     ensures { λ r. ⌜ r ≡ spec.rowAt t (now (m .entry)) i ⌝ }
 {
-    if i == t.count + t.place {
+    let h = t.head;
+    let n = h.count;
+    if i == n + t.place {
         let coming = t.coming;
         return row_of(coming, 2);
     }
-    let x = move_at(m, t.size, t.dimension, place_at(t, i));
-    if i < t.count {
+    let x = move_at(m, h.size, h.dimension, place_at(n, t.place, i));
+    if i < n {
         return row_of(x, t.mark);
     }
     row_of(x, 2)
@@ -78,10 +87,19 @@ pub fn told_next(m: &[u8], t: Telling, i: usize) -> Step
     requires { ⌜ spec.TellingAsked t (now m) ⌝ }
     ensures { λ r. ⌜ (r .row ≡ spec.nextRow t (now (m .entry)) i) × (r .next ≡ spec.nextAt t (now (m .entry)) i) ⌝ }
 {
-    let end = 2 * t.count + 1;
+    let h = t.head;
+    let end = 2 * h.count + 1;
     let mut j = i;
     while j < end {
-        if is_told(m, t, j) {
+        if is_told(
+            m,
+            h,
+            t.place,
+            t.upkeep.listed,
+            &t.upkeep.leaving,
+            &t.upkeep.entering,
+            j,
+        ) {
             return Step {
                 row: row_at(m, t, j),
                 next: j + 1,

@@ -19,45 +19,45 @@ module _ {t : Telling} {k : Change} {m : List ℕ} (a : Prepared t k m) where
   change-is : (goes : ℕ) (comes : Bool) → k .goes ≡ goes → k .comes ≡ comes → k ≡ record { goes = goes; comes = comes; coming = k .coming }
   change-is goes comes e f = λ i. record { goes = e i; comes = f i; coming = k .coming }
 
-  pub enter-prepared : k .comes ≡ true → t .count ≤ k .goes → EnterAsked (t .size) (t .dimension) (t .count) (k .coming) (t .upkeep) m
+  pub enter-prepared : k .comes ≡ true → t .head .count ≤ k .goes → EnterAsked (t .head .size) (t .head .dimension) (t .head .count) (k .coming) (t .upkeep) m
   enter-prepared e l =
-      let is = change-is (t .count) true (omega (arith, a .ready .asked .goes)) e in
+      let is = change-is (t .head .count) true (omega (arith, a .ready .asked .goes)) e in
       record {
-        asked = subst (λ (k : Change). Asked (t .size) (t .dimension) (t .count) k m) is (a .ready .asked);
+        asked = subst (λ (k : Change). Asked (t .head .size) (t .head .dimension) (t .head .count) k m) is (a .ready .asked);
         space = a .ready .space e l;
-        upkept = subst (λ (k : Change). Upkept (t .size) (t .dimension) (t .count) k m (t .upkeep)) is (a .upkept);
+        upkept = subst (λ (k : Change). Upkept (t .head .size) (t .head .dimension) (t .head .count) k m (t .upkeep)) is (a .upkept);
       }
 
-  pub withdraw-prepared : k .comes ≡ false → WithdrawAsked (t .size) (t .dimension) (t .count) (k .goes) (t .upkeep) m
+  pub withdraw-prepared : k .comes ≡ false → WithdrawAsked (t .head .size) (t .head .dimension) (t .head .count) (k .goes) (t .upkeep) m
   withdraw-prepared e =
       let is = change-is (k .goes) false refl e in
       record {
         coming = k .coming;
-        asked = subst (λ (k : Change). Asked (t .size) (t .dimension) (t .count) k m) is (a .ready .asked);
+        asked = subst (λ (k : Change). Asked (t .head .size) (t .head .dimension) (t .head .count) k m) is (a .ready .asked);
         place = a .ready .place e;
-        upkept = subst (λ (k : Change). Upkept (t .size) (t .dimension) (t .count) k m (t .upkeep)) is (a .upkept);
+        upkept = subst (λ (k : Change). Upkept (t .head .size) (t .head .dimension) (t .head .count) k m (t .upkeep)) is (a .upkept);
       }
 
-  pub recost-prepared : k .comes ≡ true → k .goes < t .count → RecostAsked (t .size) (t .dimension) (t .count) (k .goes) (k .coming) (t .upkeep) m
+  pub recost-prepared : k .comes ≡ true → k .goes < t .head .count → RecostAsked (t .head .size) (t .head .dimension) (t .head .count) (k .goes) (k .coming) (t .upkeep) m
   recost-prepared e l =
       let is = change-is (k .goes) true refl e in
       record {
-        asked = subst (λ (k : Change). Asked (t .size) (t .dimension) (t .count) k m) is (a .ready .asked);
+        asked = subst (λ (k : Change). Asked (t .head .size) (t .head .dimension) (t .head .count) k m) is (a .ready .asked);
         place = l;
         number = a .ready .number e l;
         other = a .other .costs e l;
-        upkept = subst (λ (k : Change). Upkept (t .size) (t .dimension) (t .count) k m (t .upkeep)) is (a .upkept);
+        upkept = subst (λ (k : Change). Upkept (t .head .size) (t .head .dimension) (t .head .count) k m (t .upkeep)) is (a .upkept);
       }
 
 module _ {p : Plan} {m m' : List ℕ} (h : p .makes ≡ true) where
   carried : {x : calls.Change} → callIn p m ≡ x → Made x m m' → CarriedOut p m m'
   carried is made = record { made = λ _. subst (λ (x : calls.Change). Made x m m') (sym is) made; idle = λ f. both-ways h f }
 
-  pub enter-carried : p .comes ≡ true → p .telling .count ≤ p .goes → EnterMade (asMove (p .telling .coming)) m m' → CarriedOut p m m'
-  enter-carried e l = carried (call-enter (p .telling .size) (p .telling .count) (changeIn p) m e l)
+  pub enter-carried : p .comes ≡ true → p .telling .head .count ≤ p .goes → EnterMade (asMove (p .telling .coming)) m m' → CarriedOut p m m'
+  enter-carried e l = carried (call-enter (p .telling .head .size) (p .telling .head .count) (changeIn p) m e l)
 
-  pub withdraw-carried : p .comes ≡ false → WithdrawMade (p .telling .size) (p .goes) m m' → CarriedOut p m m'
-  withdraw-carried e = carried (call-withdraw (p .telling .size) (p .telling .count) (changeIn p) m e)
+  pub withdraw-carried : p .comes ≡ false → WithdrawMade (p .telling .head .size) (p .goes) m m' → CarriedOut p m m'
+  withdraw-carried e = carried (call-withdraw (p .telling .head .size) (p .telling .head .count) (changeIn p) m e)
 
-  pub recost-carried : p .comes ≡ true → p .goes < p .telling .count → RecostMade (asMove (p .telling .coming)) m m' → CarriedOut p m m'
-  recost-carried e l = carried (call-recost (p .telling .size) (p .telling .count) (changeIn p) m e l)
+  pub recost-carried : p .comes ≡ true → p .goes < p .telling .head .count → RecostMade (asMove (p .telling .coming)) m m' → CarriedOut p m m'
+  recost-carried e l = carried (call-recost (p .telling .head .size) (p .telling .head .count) (changeIn p) m e l)

@@ -21,6 +21,7 @@ use Rattle.promises.specs.Run.{Bytes}
 use Rattle.promises.specs.declared.Verdict.{Verdict}
 use Rattle.promises.specs.declared.Verdict.the-variants.{Accepted, Unsound, FewRows}
 use Rattle.dominance.specs.Move.{asMove}
+use Rattle.memory.specs.Laws.Held.{held-readable}
 use Rattle.upkeep.specs.Change.{Upkept}
 use Rattle.upkeep.specs.Notice.{noticeRows}
 use Rattle.upkeep.specs.Telling.{toldRows}
@@ -32,7 +33,7 @@ use Rattle.board.specs.Change.{Judges, Other, ComingPlace, neededRows, M
 use Rattle.board.specs.Plan.{callOf, alike, Ready, Planned, PlanAsked, PlanOf}
 use Rattle.board.specs.Laws.Judge.{board-moves}
 use Rattle.board.specs.Laws.Recost.{costs-board}
-use Rattle.board.specs.Laws.Notice.{sound-rows, told-rows, rows-needed, notice-needs}
+use Rattle.board.specs.Laws.Notice.{told-rows, rows-needed, notice-needs}
 use Rattle.board.specs.Laws.Calls.{judged-passes, call-withdraw, call-enter, call-recost, call-notice}
 use Rattle.board.specs.Laws.Accepted.{recost-on}
 use Rattle.board.specs.Laws.Unchanged.{no-notice, same-made}
@@ -168,21 +169,20 @@ module _ {c d n : ℕ} {v : Verdict} {k : Change} {m : List ℕ} (a : PlanAsked 
                 makes = true;
                 goes = k .goes;
                 comes = k .comes;
-                telling = record { size = c; dimension = d; count = n; place = place; mark = 1; coming = k .coming; upkeep = u };
+                telling = record { head = record { size = c; dimension = d; count = n }; place = place; mark = 1; coming = k .coming; upkeep = u };
               }
 
           full-plans : (x : calls.Change) → changeRefusal (boardIn m) x ≡ 0 → (numberOf v ≡ 0 → callOf c n k m ≡ x)
               → Plans (changeAnswer (boardIn m) x lent) (changeNotice (boardIn m) x) (changeOpens (dimensionIn m) x) m lent full
           unfolding numberOf changeAnswer changeOpens toldRows noticeRows
           full-plans x ok stands =
-              let rows = sound-rows (a .sound) in
               record {
                 answered = answered-all _ _ m lent sound ok need (need-of x stands) l;
                 opens = λ _ _ _. refl;
                 closed = λ z. absurd (omega arith);
                 told = rows-needed (ready .asked) b other up q (asMove (k .coming)) ∙ sym e;
                 tells = λ _. told-rows (ready .asked) b other up q ∙ call-notice ready b ∙ ap (changeNotice (boardIn m)) (stands h);
-                asked = λ _. record { room = rows .0; places = rows .1; place = q .within; numbers = rows .2; dimension = rows .3 };
+                asked = λ _. record { readable = held-readable (a .sound); place = q .within };
               }
 
           full-planned : (x : calls.Change) → changeRefusal (boardIn m) x ≡ 0 → (numberOf v ≡ 0 → callOf c n k m ≡ x) → Planned x m lent full

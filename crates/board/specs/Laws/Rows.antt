@@ -20,15 +20,16 @@ use Rattle.line.specs.Laws.Line.{moves-line}
 use Rattle.promises.specs.Layout.{numberIn, costsIn, moveIn, placedIn, lineFrom}
 use Rattle.promises.specs.Sound.{Stands}
 use Rattle.promises.specs.Run.{Bytes}
-use Rattle.memory.specs.Room.{Room, Numbers}
+use Rattle.memory.specs.Room.{Numbers, Readable}
 use Rattle.memory.specs.Held.{SoundAt}
+use Rattle.memory.specs.declared.sound.Head.{Head}
 use Rattle.memory.specs.Stores.{setCosts}
 use Rattle.memory.specs.Frame.{Frame, MarksOnly}
 use Rattle.memory.specs.Laws.Frames.{room-over}
 use Rattle.memory.specs.Laws.Stored.{setCosts-frame}
 use Rattle.memory.specs.Laws.Places.{tab-each}
 use Rattle.memory.specs.Laws.Lines.{getD-line, movesIn-line, lineIn-line, line-over-marks, line-setCosts}
-use Rattle.memory.specs.Laws.Held.{held-dimension, held-room, held-few, held-numbers, held-fit, held-once}
+use Rattle.memory.specs.Laws.Held.{held-dimension, held-room, held-few, held-numbers, held-readable, held-fit, held-once}
 use Rattle.tree.specs.Hold.{RowsHold}
 use Rattle.tree.specs.Enter.{EnterAsked}
 use Rattle.upkeep.specs.Mark.{Once}
@@ -48,8 +49,8 @@ holds-sound {c} {d} {n} {m} s b t stands =
     }
 
 -- What setting the marks asks.
-pub marks-asked : {c d n : ℕ} {m : List ℕ} → SoundAt c d n m → Bytes m → (Room c m × (n ≤ c) × Numbers c n m) × Once c n m
-marks-asked {c} {d} {n} {m} s b = ((held-room c d n m s, held-few c d n m s, held-numbers c d n m s), held-once c d n m s b)
+pub marks-asked : {h : Head} {m : List ℕ} → SoundAt (h .size) (h .dimension) (h .count) m → Bytes m → Readable h m × Once (h .size) (h .count) m
+marks-asked {h} {m} s b = (held-readable s, held-once (h .size) (h .dimension) (h .count) m s b)
 
 module _ {c d n : ℕ} {m : List ℕ} {t : Tree} (h : RowsHold c d n m t) where
   -- What setting the count asks.

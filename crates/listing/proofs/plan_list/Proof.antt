@@ -3,7 +3,7 @@ use borrow.Author.Needs.{needs}
 use native.Mathlib.Omega.{arith}
 use Rattle.model.specs.Calls.{list}
 use Rattle.memory.specs.Held.{SoundAt}
-use Rattle.memory.specs.Laws.Held.{held-room, held-few, held-numbers, sound-held, unsound-held}
+use Rattle.memory.specs.Laws.Held.{held-readable, sound-held, unsound-held}
 use Rattle.upkeep.specs.Laws.Planned.{query-unsound}
 use Rattle.listing.specs.Laws.List.{list-planned}
 use Rattle.listing.proofs.plan_list.Statement.{statement}
@@ -31,7 +31,7 @@ returns c =
     (unsound-held (c .before .before .before .sound-head .ensures) (c .before .enum-told .given .1))
 
 find-listed-requires : tie.Need-find-listed-requires
-find-listed-requires c κs = let s = sound-at c in (held-room _ _ _ _ s, held-few _ _ _ _ s, held-numbers _ _ _ _ s)
+find-listed-requires c κs = held-readable (sound-at c)
 
 nodes-opened-requires : tie.Need-nodes-opened-requires
 nodes-opened-requires c κs = sound-at (c .before)

@@ -11,23 +11,24 @@ use Rattle.memory.specs.Room.{Room, Numbers}
 use Rattle.memory.specs.Held.{SoundAt}
 use Rattle.memory.specs.Laws.Held.{held-room, held-few, held-numbers, held-kept}
 use Rattle.tree.specs.Search.{Opened}
+use Rattle.memory.specs.declared.sound.Head.{Head}
 use Rattle.upkeep.specs.Planned.{isMarked, Finds, QueryPlanned, foundMoves, PlansFound}
 use Rattle.upkeep.specs.Laws.Found.{board-line}
 use Rattle.upkeep.specs.declared.found.Found.{Found}
 use Rattle.upkeep.specs.declared.plan.Plan.{Plan}
 
-module _ {c d n : ℕ} {m : List ℕ} (s : SoundAt c d n m) where
-  list-rows : listedRows (foundMoves c d n (isMarked c m) m) ≡ queryRows (boardIn m) list
+module _ {h : Head} {m : List ℕ} (s : SoundAt (h .size) (h .dimension) (h .count) m) where
+  list-rows : listedRows (foundMoves (h .size) (h .dimension) (h .count) (isMarked (h .size) m) m) ≡ queryRows (boardIn m) list
   unfolding queryRows listOf keptFrom boardIn
   list-rows =
-      ap listedRows (held-kept c d n m s ∙ (λ j. skyline (s .dimension j) (board-line s j)))
+      ap listedRows (held-kept (h .size) (h .dimension) (h .count) m s ∙ (λ j. skyline (s .dimension j) (board-line s j)))
 
   accepts : queryRefusal (boardIn m) list ≡ 0
   unfolding queryRefusal
   accepts = refl
 
-  pub list-planned : {found : Found} → Finds c n (isMarked c m) m found → {opened : ℕ} → Opened d m opened
-      → {lent : ℕ} {p : Plan} → PlansFound c d n found opened lent p → QueryPlanned list m lent p
+  pub list-planned : {found : Found} → Finds (h .size) (h .count) (isMarked (h .size) m) m found → {opened : ℕ} → Opened (h .dimension) m opened
+      → {lent : ℕ} {p : Plan} → PlansFound h found opened lent p → QueryPlanned list m lent p
   unfolding queryOpens
   list-planned f {opened} search plan =
       plan .plans s f list accepts list-rows (λ t w. subst (λ (k : ℕ). opened ≡ nodesOpened k t) (s .dimension) (search .is t w))

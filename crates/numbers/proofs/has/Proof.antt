@@ -15,8 +15,8 @@ cast-at c = search needs
 mul-result : tie.Need-mul-result
 mul-result c = search needs
 
-array-read-result : tie.Need-array-read-result
-array-read-result c = search needs
+element-copy-out-result : tie.Need-element-copy-out-result
+element-copy-out-result c = search needs
 
 cast-result : tie.Need-cast-result
 cast-result c = search needs
@@ -27,8 +27,8 @@ shr-result c = search needs
 returns : tie.Need-returns
 unfolding inSet
 returns c =
-    let a = c .args in
-    ap (λ (b : ℕ). eqb b 1) (and-mask (getD (a .t1) (a .n / 64) 0 / 2 ^ (a .n % 64)) 1)
+    let a = c .before .args in
+    ap (λ (b : ℕ). eqb b 1) (and-mask (getD (a .set .now) (a .n / 64) 0 / 2 ^ (a .n % 64)) 1)
 
 pub has-spec : {M : Type 1} → statement M
-has-spec = tie.close (tie.spec cast-at mul-result array-read-result cast-result shr-result returns)
+has-spec = tie.close (tie.spec cast-at mul-result element-copy-out-result cast-result shr-result returns)

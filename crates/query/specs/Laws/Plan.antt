@@ -10,29 +10,28 @@ use Rattle.model.specs.Laws.Basics.{select-ext, each-map}
 use Rattle.promises.specs.Layout.{sizeIn, dimensionIn, countIn, moveIn, lineIn, boardIn}
 use Rattle.promises.specs.Sound.{Sound}
 use Rattle.memory.specs.Held.{SoundAt}
-use Rattle.memory.specs.Laws.Held.{held-dimension, held-room, held-few, held-numbers}
+use Rattle.memory.specs.Room.{Readable}
+use Rattle.memory.specs.Laws.Held.{held-readable}
+use Rattle.memory.specs.declared.sound.Head.{Head}
 use Rattle.memory.specs.Laws.Lines.{movesIn-line}
 use Rattle.upkeep.specs.Planned.{Finds, foundMoves, PlansFound}
 use Rattle.upkeep.specs.Laws.Places.{each-place, tab-places}
 use Rattle.upkeep.specs.Laws.Change.{line-places}
 use Rattle.upkeep.specs.declared.found.Found.{Found}
 use Rattle.upkeep.specs.declared.plan.Plan.{Plan}
-use Rattle.query.specs.Kept.{Readable, movesTo, stays, staysFor, kept, keptRows}
+use Rattle.query.specs.Kept.{movesTo, stays, staysFor, kept, keptRows}
 use Rattle.query.specs.Plan.{PlansKept}
+use Rattle.query.specs.Rank.{headIn}
 use Rattle.query.specs.declared.rule.Rule.{Rule}
 
 -- ---- sound memory
 
-pub readable-at : {c d n : ℕ} {m : List ℕ} → SoundAt c d n m → Readable c d n m
-readable-at {c} {d} {n} {m} s = (held-room c d n m s, held-few c d n m s, held-numbers c d n m s, held-dimension c d n m s)
+pub sound-readable : (m : List ℕ) → Sound m → Readable (headIn m) m
+sound-readable m s = held-readable (record { size = refl; dimension = refl; count = refl; sound = s })
 
-pub sound-readable : (m : List ℕ) → Sound m → Readable (sizeIn m) (dimensionIn m) (countIn m) m
-sound-readable m s = readable-at (record { size = refl; dimension = refl; count = refl; sound = s })
-
-pub readable-own : (m : List ℕ) {c d n : ℕ} → c ≡ sizeIn m → d ≡ dimensionIn m → n ≡ countIn m → Readable (sizeIn m) (dimensionIn m) (countIn m) m → Readable c d n m
-readable-own m {c} {d} {n} e f g r =
-    subst (λ (x : ℕ). Readable x d n m) (sym e)
-    (subst (λ (y : ℕ). Readable (sizeIn m) y n m) (sym f) (subst (λ (z : ℕ). Readable (sizeIn m) (dimensionIn m) z m) (sym g) r))
+pub readable-own : (m : List ℕ) {c d n : ℕ} → c ≡ sizeIn m → d ≡ dimensionIn m → n ≡ countIn m → Readable (headIn m) m
+    → Readable (record { size = c; dimension = d; count = n }) m
+readable-own m e f g r = subst (λ (h : Head). Readable h m) (λ i. record { size = sym e i; dimension = sym f i; count = sym g i }) r
 
 pub board-moves : (m : List ℕ) → boardIn m .moves ≡ movesTo (sizeIn m) (dimensionIn m) (countIn m) m
 unfolding boardIn lineIn movesTo
@@ -40,26 +39,26 @@ board-moves m = movesIn-line (sizeIn m) (dimensionIn m) (countIn m) m
 
 -- ---- the moves kept
 
-module _ (c d n : ℕ) (rule : Rule) (most : ℕ) (m : List ℕ) where
-  kept-found : foundMoves c d n (staysFor c d n rule most m) m ≡ kept d rule most (movesTo c d n m)
+module _ (h : Head) (rule : Rule) (most : ℕ) (m : List ℕ) where
+  kept-found : foundMoves (h .size) (h .dimension) (h .count) (staysFor (h .size) (h .dimension) (h .count) rule most m) m ≡ kept (h .dimension) rule most (movesTo (h .size) (h .dimension) (h .count) m)
   unfolding kept movesTo moveIn
   kept-found =
-      let by-number : Move → Bool = λ x. staysFor c d n rule most m (x .number) in
-      let by-costs : Move → Bool = λ x. stays d rule most (movesTo c d n m) (x .costs) in
-      let places : List ℕ = numbersFrom 0 n in
-      ap (select by-number) (line-places c d n m)
-      ∙ select-ext by-number by-costs (map (moveIn c d m) places)
-      (each-map (λ x. by-number x ≡ by-costs x) (moveIn c d m) places (each-place (λ i. by-number (moveIn c d m i) ≡ by-costs (moveIn c d m i)) n (λ i _. refl)))
-      ∙ ap (select by-costs) (sym (tab-places (moveIn c d m) n))
+      let by-number : Move → Bool = λ x. staysFor (h .size) (h .dimension) (h .count) rule most m (x .number) in
+      let by-costs : Move → Bool = λ x. stays (h .dimension) rule most (movesTo (h .size) (h .dimension) (h .count) m) (x .costs) in
+      let places : List ℕ = numbersFrom 0 (h .count) in
+      ap (select by-number) (line-places (h .size) (h .dimension) (h .count) m)
+      ∙ select-ext by-number by-costs (map (moveIn (h .size) (h .dimension) m) places)
+      (each-map (λ x. by-number x ≡ by-costs x) (moveIn (h .size) (h .dimension) m) places (each-place (λ i. by-number (moveIn (h .size) (h .dimension) m i) ≡ by-costs (moveIn (h .size) (h .dimension) m i)) (h .count) (λ i _. refl)))
+      ∙ ap (select by-costs) (sym (tab-places (moveIn (h .size) (h .dimension) m) (h .count)))
 
-  module _ (s : SoundAt c d n m) (found : Found) (f : Finds c n (staysFor c d n rule most m) m found) where
-    kept-rows : listedRows (foundMoves c d n (staysFor c d n rule most m) m) ≡ keptRows rule most m
+  module _ (s : SoundAt (h .size) (h .dimension) (h .count) m) (found : Found) (f : Finds (h .size) (h .count) (staysFor (h .size) (h .dimension) (h .count) rule most m) m found) where
+    kept-rows : listedRows (foundMoves (h .size) (h .dimension) (h .count) (staysFor (h .size) (h .dimension) (h .count) rule most m) m) ≡ keptRows rule most m
     unfolding keptRows
     kept-rows =
         ap listedRows kept-found
         ∙ (λ i. listedRows (kept (s .dimension i) rule most (movesTo (s .size i) (s .dimension i) (s .count i) m)))
         ∙ ap (λ (ms : List Move). listedRows (kept (dimensionIn m) rule most ms)) (sym (board-moves m))
 
-    pub kept-planned : {lent : ℕ} {p : Plan} → PlansFound c d n found 0 lent p → PlansKept rule most m lent p
+    pub kept-planned : {lent : ℕ} {p : Plan} → PlansFound h found 0 lent p → PlansKept rule most m lent p
     kept-planned plan =
         record { plans = λ q ok rows shut. plan .plans s f q ok (kept-rows ∙ sym rows) (λ t _. sym (shut t)) }

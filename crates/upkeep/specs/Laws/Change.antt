@@ -25,8 +25,9 @@ use Rattle.memory.specs.Laws.Lines.{movesIn-line}
 use Rattle.memory.specs.Laws.Places.{anyTo-found}
 use Rattle.memory.specs.Laws.Held.{held-dimension, held-order, held-listed, held-fit, held-fit-at, held-once}
 use Rattle.numbers.specs.Set.{inSet}
-use Rattle.upkeep.specs.Change.{dropAt, movesAfter, stays, hiddenByOthers, hiddenByComing, comesUp, leaves, leavesAt, entersAt, LookedTo, Upkept}
+use Rattle.upkeep.specs.Change.{dropAt, movesAfter, stays, hiddenByOthers, hiddenByComing, comesUp, leaves, leavesAt, entersAt, Passing, Looked, Upkept}
 use Rattle.upkeep.specs.Laws.Places.{each-place, tab-places, anyTo-places, drop-places}
+use Rattle.upkeep.specs.Laws.Passing.{passing-at}
 use Rattle.upkeep.specs.declared.change.Change.{Change}
 use Rattle.upkeep.specs.declared.change.Upkeep.{Upkeep}
 
@@ -179,33 +180,20 @@ module _ (c d n : ℕ) (k : Change) (m : List ℕ) (s : SoundAt c d n m) (b : By
 
   -- ---- the sets and the counts
 
-  set-at : (test : ℕ → Bool) (ws : List ℕ) → ((j : ℕ) → inSet ws j ≡ anyTo (λ i. test i && eqb j (numberIn c m i)) n)
-      → (i : ℕ) → i < n → inSet ws (numberIn c m i) ≡ test i
-  set-at test ws found i h =
-      found (numberIn c m i)
-      ∙ same-test (anyTo here n) (test i)
-      (λ e. let w = any-witness here (numbersFrom 0 n) (sym (anyTo-places here n) ∙ e) in from (w .0) (each-mem (λ j. j < n) (each-place (λ j. j < n) n (λ j l. l)) (w .1)) (w .2))
-      (λ e. anyTo-found here n i h (and-both (test i) (eqb (numberIn c m i) (numberIn c m i)) e (eq-eqb (numberIn c m i) (numberIn c m i) refl)))
-    where
-      here : ℕ → Bool
-      here j = test j && eqb (numberIn c m i) (numberIn c m j)
-
-      from : (j : ℕ) → j < n → here j ≡ true → test i ≡ true
-      from j l e =
-          ap test (held-once c d n m s b i j h l (eqb-true (numberIn c m i) (numberIn c m j) (and-right (test j) (eqb (numberIn c m i) (numberIn c m j)) e)))
-          ∙ and-left (test j) (eqb (numberIn c m i) (numberIn c m j)) e
+  set-at : (test : ℕ → Bool) {ws : List ℕ} {left : ℕ} → Passing c m test n ws left → (i : ℕ) → i < n → inSet ws (numberIn c m i) ≡ test i
+  set-at test found i h = passing-at c m test found i h (λ j l e t. ap test (held-once c d n m s b i j h l e) ∙ t)
 
   count-at : (p q : ℕ → Bool) → ((i : ℕ) → i < n → p i ≡ q i) → count p (numbersFrom 0 n) ≡ count q (numbersFrom 0 n)
   count-at p q same = count-ext p q (numbersFrom 0 n) (each-place (λ i. p i ≡ q i) n same)
 
-  pub upkept : (u : Upkeep) → LookedTo c d n k n m u → (listed : Bool)
+  pub upkept : (u : Upkeep) → Looked c d n k m u → (listed : Bool)
       → listed ≡ comingListed
       → Upkept c d n k m (record { leaving = u .leaving; entering = u .entering; left = u .left; entered = u .entered; listed = listed })
   upkept u looked listed e =
       record {
-        leaving = λ i h. set-at (leavesAt c d k m) (u .leaving) (looked .leaving) i h ∙ leaves-law i h;
-        entering = λ i h. set-at (entersAt c d n k m) (u .entering) (looked .entering) i h ∙ enters-law i h;
-        left = looked .left ∙ count-at (leavesAt c d k m) (λ i. isListed c d m i && not (stays c d n k m i)) leaves-law;
-        entered = looked .entered ∙ count-at (entersAt c d n k m) (λ i. not (isListed c d m i) && stays c d n k m i) enters-law;
+        leaving = λ i h. set-at (leavesAt c d k m) (looked .leaving) i h ∙ leaves-law i h;
+        entering = λ i h. set-at (entersAt c d n k m) (looked .entering) i h ∙ enters-law i h;
+        left = looked .leaving .counts ∙ count-at (leavesAt c d k m) (λ i. isListed c d m i && not (stays c d n k m i)) leaves-law;
+        entered = looked .entering .counts ∙ count-at (entersAt c d n k m) (λ i. not (isListed c d m i) && stays c d n k m i) enters-law;
         listed = e;
       }

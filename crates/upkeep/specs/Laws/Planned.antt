@@ -13,6 +13,7 @@ use Rattle.model.specs.Calls as calls
 use Rattle.model.specs.Calls.{accepted, refusedWith, orElse, rowsAnswer, Query, queryRefusal, queryRows, queryAnswer}
 use Rattle.model.specs.Changing.{queryOpens}
 use Rattle.promises.specs.Layout.{dimensionIn, boardIn}
+use Rattle.memory.specs.declared.sound.Head.{Head}
 use Rattle.promises.specs.Sound.{Stands, Sound}
 use Rattle.promises.specs.Answers.{answerOf, numberOf, detailOf, counted, rowsAfter, resultRow}
 use Rattle.promises.specs.Promise.{Said, UnsoundSaid, QueryPromise}
@@ -125,28 +126,28 @@ module _ (q : Query) (m : List ℕ) (lent : ℕ) {p : Plan} where
       (answered-refused (queryRefusal (boardIn m) q) (queryRows (boardIn m) q) m lent s (BadArgument 0) (ap refusedWith (sym f)) (omega arith))
       (omega arith)
 
-module _ (c d n : ℕ) (found : Found) (opened lent : ℕ) where
-  need-of : {m : List ℕ} {test : ℕ → Bool} {rows : List Row} → Finds c n test m found → listedRows (foundMoves c d n test m) ≡ rows → found .count ≡ length rows
-  need-of {m} {test} f e = found-count c d n test m found f ∙ ap length e
+module _ (h : Head) (found : Found) (opened lent : ℕ) where
+  need-of : {m : List ℕ} {test : ℕ → Bool} {rows : List Row} → Finds (h .size) (h .count) test m found → listedRows (foundMoves (h .size) (h .dimension) (h .count) test m) ≡ rows → found .count ≡ length rows
+  need-of {m} {test} f e = found-count h test m found f ∙ ap length e
 
-  pub found-few : {p : Plan} → Nothing (FewRows (found .count)) p → lent < found .count → PlansFound c d n found opened lent p
+  pub found-few : {p : Plan} → Nothing (FewRows (found .count)) p → lent < found .count → PlansFound h found opened lent p
   unfolding queryAnswer numberOf
-  found-few e h =
+  found-few e l =
       record {
         plans = λ {m} s f q ok rows _.
-            refused-plans e (answered-few (queryRefusal (boardIn m) q) (queryRows (boardIn m) q) m lent (s .sound) ok (found .count) (need-of f rows) h)
+            refused-plans e (answered-few (queryRefusal (boardIn m) q) (queryRows (boardIn m) q) m lent (s .sound) ok (found .count) (need-of f rows) l)
             (omega arith);
       }
 
-  pub found-all : (t : Telling) → TellsNumbers c d n (found .numbers) t → found .count ≤ lent
-      → PlansFound c d n found opened lent (record { verdict = Accepted; count = found .count; opened = opened; makes = false; goes = 0; comes = false; telling = t })
+  pub found-all : (t : Telling) → TellsNumbers h (found .numbers) t → found .count ≤ lent
+      → PlansFound h found opened lent (record { verdict = Accepted; count = found .count; opened = opened; makes = false; goes = 0; comes = false; telling = t })
   unfolding queryAnswer numberOf
-  found-all t g h =
+  found-all t g l =
       record {
         plans = λ {m} {test} s f q ok rows nodes.
-            let told = found-rows c d n test m found f t g ∙ rows in
+            let told = found-rows h test m found f t g ∙ rows in
             record {
-              answered = answered-all (queryRefusal (boardIn m) q) (queryRows (boardIn m) q) m lent (s .sound) ok (found .count) (need-of f rows) h;
+              answered = answered-all (queryRefusal (boardIn m) q) (queryRows (boardIn m) q) m lent (s .sound) ok (found .count) (need-of f rows) l;
               opens = λ _. nodes;
               closed = λ z. absurd (omega arith);
               told = sym (length-map (toldRows t m) resultRow) ∙ ap length told ∙ sym (need-of f rows);

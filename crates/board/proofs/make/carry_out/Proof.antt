@@ -12,7 +12,7 @@ returns c = record { made = λ f. both-ways f (not-true _ (c .if1 .taken)); idle
 
 make-withdraw-requires : tie.Need-make-withdraw-requires
 make-withdraw-requires c κs =
-    let makes = c .before .before .before .before .before .before in
+    let makes = c .before .before .before .before .before .before .before in
     let start = makes .before .before .before in
     withdraw-prepared (start .pre .prepared (not-false _ (makes .if1 .left))) (not-true _ (c .before .if2 .taken))
 
@@ -22,13 +22,13 @@ same-length c = search needs
 returns-2 : tie.Need-returns-2
 returns-2 c =
     let comes = c .before .before .before .before in
-    let makes = comes .before .before .before .before .before in
+    let makes = comes .before .before .before .before .before .before in
     withdraw-carried (not-false _ (makes .if1 .left)) (not-true _ (comes .if2 .taken)) (c .before .before .make-withdraw .ensures)
 
 make-recost-requires : tie.Need-make-recost-requires
 make-recost-requires c κs =
     let comes = c .before .before .before .before in
-    let makes = comes .before .before .before .before .before in
+    let makes = comes .before .before .before .before .before .before in
     let start = makes .before .before .before in
     recost-prepared (start .pre .prepared (not-false _ (makes .if1 .left))) (not-false _ (comes .if2 .left)) (c .before .if3 .taken)
 
@@ -39,13 +39,13 @@ returns-3 : tie.Need-returns-3
 returns-3 c =
     let goes = c .before .before .before .before in
     let comes = goes .before .before .before in
-    let makes = comes .before .before .before .before .before in
+    let makes = comes .before .before .before .before .before .before in
     recost-carried (not-false _ (makes .if1 .left)) (not-false _ (comes .if2 .left)) (goes .if3 .taken) (c .before .before .make-recost .ensures)
 
 make-enter-requires : tie.Need-make-enter-requires
 make-enter-requires c κs =
     let comes = c .before .before .before .before in
-    let makes = comes .before .before .before .before .before in
+    let makes = comes .before .before .before .before .before .before in
     let start = makes .before .before .before in
     enter-prepared (start .pre .prepared (not-false _ (makes .if1 .left))) (not-false _ (comes .if2 .left)) (c .before .if3 .left)
 
@@ -56,7 +56,7 @@ returns-4 : tie.Need-returns-4
 returns-4 c =
     let goes = c .before .before .before .before in
     let comes = goes .before .before .before in
-    let makes = comes .before .before .before .before .before in
+    let makes = comes .before .before .before .before .before .before in
     enter-carried (not-false _ (makes .if1 .left)) (not-false _ (comes .if2 .left)) (goes .if3 .left) (c .before .before .make-enter .ensures)
 
 pub carry-out-spec : {M : Type 1} → statement M

@@ -21,7 +21,7 @@ set-listed-requires : tie.Need-set-listed-requires
 set-listed-requires c κs =
     let marks = c .before .before .before in
     let start = marks .before .before .before .before in
-    coming-asked (start .pre .asked) refl (marks-written (start .args .c) (marks .set-marks .ensures .frame))
+    coming-asked (start .pre .asked) refl (marks-written (start .args .h .size) (marks .set-marks .ensures .frame))
 
 set-costs-requires : tie.Need-set-costs-requires
 set-costs-requires c κs =
@@ -30,7 +30,7 @@ set-costs-requires c κs =
     let start = marks .before .before .before .before in
     let a = start .args in
     coming-asked (start .pre .asked) refl
-    (marks-written (a .c) (listed-frame (a .x .number) (a .u .listed) (start .pre .asked .fit refl .number) (marks .set-marks .ensures .frame) (listed .set-listed .ensures)))
+    (marks-written (a .h .size) (listed-frame (a .x .number) (a .u .listed) (start .pre .asked .fit refl .number) (marks .set-marks .ensures .frame) (listed .set-listed .ensures)))
 
 enter-line-requires : tie.Need-enter-line-requires
 unfolding Bytes

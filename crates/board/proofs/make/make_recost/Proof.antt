@@ -21,7 +21,7 @@ set-listed-requires : tie.Need-set-listed-requires
 set-listed-requires c κs =
     let marks = c .before .before .before in
     let start = marks .before .before .before .before in
-    coming-asked (start .pre .asked) refl (marks-written (start .args .c) (marks .set-marks .ensures .frame))
+    coming-asked (start .pre .asked) refl (marks-written (start .args .h .size) (marks .set-marks .ensures .frame))
 
 withdraw-line-requires : tie.Need-withdraw-line-requires
 unfolding Bytes

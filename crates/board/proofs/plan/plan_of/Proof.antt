@@ -3,7 +3,8 @@ use mathlib.Core.Path.{sym, _∙_}
 use native.Mathlib.Omega.{arith}
 use borrow.Author.Needs.{needs}
 use Rattle.promises.specs.Run.{Bytes}
-use Rattle.board.specs.Laws.Notice.{sound-rows, upkeep-counted}
+use Rattle.memory.specs.Laws.Held.{held-readable}
+use Rattle.board.specs.Laws.Notice.{upkeep-counted}
 use Rattle.board.specs.Laws.Plan.{plan-refused, plan-idle, plan-few, plan-full}
 use Rattle.board.proofs.Keys.{key-refuses, key-number}
 use Rattle.board.proofs.plan.plan_of.Statement.{statement}
@@ -23,7 +24,7 @@ returns c =
     plan-refused (start .pre) bytes (key-refuses (start .args .v) (c .before .match .keys2)) (c .nothing .ensures)
 
 alike-requires : tie.Need-alike-requires
-alike-requires c κs = sound-rows (c .before .before .before .pre .sound)
+alike-requires c κs = held-readable (c .before .before .before .pre .sound)
 
 nothing-requires-2 : tie.Need-nothing-requires-2
 nothing-requires-2 c κs = search needs
@@ -66,7 +67,7 @@ returns-3 c =
     (up .upkeep-of .ensures) (need .needed .ensures) (c .before .if2 .taken) (c .nothing3 .ensures)
 
 coming-place-requires : tie.Need-coming-place-requires
-coming-place-requires c κs = sound-rows (c .before .before .before .before .before .before .before .before .pre .sound)
+coming-place-requires c κs = held-readable (c .before .before .before .before .before .before .before .before .pre .sound)
 
 returns-4 : tie.Need-returns-4
 unfolding Bytes

@@ -23,12 +23,12 @@ alike-by c d n k m comes inside e f =
 returns : tie.Need-returns
 returns c =
     let a = c .before .before .before .args in
-    alike-by (a .c) (a .d) (a .n) (a .k) (a .m .now) false _ (not-true _ (c .if1 .taken)) refl
+    alike-by (a .h .size) (a .h .dimension) (a .h .count) (a .k) (a .m .now) false _ (not-true _ (c .if1 .taken)) refl
 
 returns-2 : tie.Need-returns-2
 returns-2 c =
     let a = c .before .before .before .before .args in
-    alike-by (a .c) (a .d) (a .n) (a .k) (a .m .now) true false (not-false _ (c .before .if1 .left)) (le-ltb _ _ (c .if2 .taken))
+    alike-by (a .h .size) (a .h .dimension) (a .h .count) (a .k) (a .m .now) true false (not-false _ (c .before .if1 .left)) (le-ltb _ _ (c .if2 .taken))
 
 number-at-requires : tie.Need-number-at-requires
 number-at-requires c κs = search needs
@@ -36,8 +36,8 @@ number-at-requires c κs = search needs
 costs-of-requires : tie.Need-costs-of-requires
 costs-of-requires c κs =
     let start = c .before .before .before .before .before .before .before in
-    let below = start .pre .2 (start .args .k .goes) (c .before .before .before .if2 .left) in
-    (start .pre .0, omega (arith, c .number-at .ensures, below), start .pre .3)
+    let below = start .pre .numbers (start .args .k .goes) (c .before .before .before .if2 .left) in
+    (start .pre .room, omega (arith, c .number-at .ensures, below), start .pre .dimension)
 
 same-requires : tie.Need-same-requires
 same-requires c κs = search needs
@@ -48,8 +48,8 @@ returns-3 c =
     let comes = inside .before in
     let a = comes .before .before .before .args in
     c .same .ensures
-    ∙ ap (equal (a .k .coming .costs)) (c .before .costs-of .ensures ∙ ap (costsIn (a .c) (a .d) (a .m .now)) (c .before .before .number-at .ensures))
-    ∙ alike-by (a .c) (a .d) (a .n) (a .k) (a .m .now) true true (not-false _ (comes .if1 .left)) (lt-ltb _ _ (inside .if2 .left))
+    ∙ ap (equal (a .k .coming .costs)) (c .before .costs-of .ensures ∙ ap (costsIn (a .h .size) (a .h .dimension) (a .m .now)) (c .before .before .number-at .ensures))
+    ∙ alike-by (a .h .size) (a .h .dimension) (a .h .count) (a .k) (a .m .now) true true (not-false _ (comes .if1 .left)) (lt-ltb _ _ (inside .if2 .left))
 
 pub alike-spec : {M : Type 1} → statement M
 alike-spec = tie.close (tie.spec returns returns-2 number-at-requires costs-of-requires same-requires returns-3)

@@ -1,52 +1,16 @@
--- `compare::runs::run` meets its contract: the loop goes once over its range. Assumes nothing.
+-- `runs::run` meets its contract: one step after another. Assumes nothing but what `libc` says of its calls.
+use Prim.Native.Nat.{_-_}
 use mathlib.Core.Path.{_≡_}
 use lib.ListN.{length}
-use Prim.Native.Nat.{_-_}
 use borrow.Author.Needs.{needs}
 use Rattle.compare.proofs.runs.run.Statement.{statement}
 use Rattle.compare.proofs.runs.run.Tie as tie
 
 abbrev Inv-loop : tie.InvT-loop
-Inv-loop table₀ nodes₀ keys₀ m₀ input₀ s changes after₀ i₀ table nodes keys m input after i = (length table ≡ length table₀) × (length nodes ≡ length nodes₀) × (length keys ≡ length keys₀) × (length m ≡ length m₀) × (length input ≡ length input₀)
+Inv-loop t₀ u₀ m₀ style steps after₀ i₀ t u m after i = length m ≡ length m₀
 
 abbrev μ-loop : tie.MeasureT-loop
-μ-loop table₀ nodes₀ keys₀ m₀ input₀ s changes after₀ i₀ table nodes keys m input after i = changes - i
-
-loop-holds : tie.Need-loop-holds Inv-loop μ-loop
-loop-holds c = search needs
-
-set-requires : tie.Need-set-requires Inv-loop μ-loop
-set-requires c κs = search needs
-
-step-requires : tie.Need-step-requires Inv-loop μ-loop
-step-requires c κs = search needs
-
-add-i : tie.Need-add-i Inv-loop μ-loop
-add-i c = search needs
-
-loop-less : tie.Need-loop-less Inv-loop μ-loop
-loop-less c = search needs
-
-loop-again : tie.Need-loop-again Inv-loop μ-loop
-loop-again c = search needs
-
-same-length : tie.Need-same-length Inv-loop μ-loop
-same-length c = search needs
-
-same-length-2 : tie.Need-same-length-2 Inv-loop μ-loop
-same-length-2 c = search needs
-
-same-length-3 : tie.Need-same-length-3 Inv-loop μ-loop
-same-length-3 c = search needs
-
-same-length-4 : tie.Need-same-length-4 Inv-loop μ-loop
-same-length-4 c = search needs
-
-same-length-5 : tie.Need-same-length-5 Inv-loop μ-loop
-same-length-5 c = search needs
-
-returns : tie.Need-returns Inv-loop μ-loop
-returns c = search needs
+μ-loop t₀ u₀ m₀ style steps after₀ i₀ t u m after i = steps - i
 
 pub run-spec : {M : Type 1} → statement M
 run-spec =
@@ -54,15 +18,10 @@ run-spec =
     (tie.spec
     Inv-loop
     μ-loop
-    loop-holds
-    set-requires
-    step-requires
-    add-i
-    loop-less
-    loop-again
-    same-length
-    same-length-2
-    same-length-3
-    same-length-4
-    same-length-5
-    returns)
+    (λ c. search needs)
+    (λ c κs. search needs)
+    (λ c. search needs)
+    (λ c. search needs)
+    (λ c. search needs)
+    (λ c. search needs)
+    (λ c. search needs))

@@ -1,26 +1,61 @@
 -- `fields::costs_of` meets its contract. The loop's invariant: the row holds the first j costs. Assumes nothing.
-use Prim.Native.Nat.{ℕ, _-_, _≤_}
-use mathlib.Core.List.{List}
+use Rattle.zorder.specs.Address.{rowCosts, padded}
+use Prim.Native.Nat.{ℕ, _+_, _-_, _≤_, _<_}
+use mathlib.Core.List.{List, _++_, append-nil}
+use mathlib.Core.Logic.{⊎-elim}
 use mathlib.Core.Path.{_≡_, sym, ap, ap₂, _∙_}
 use native.Mathlib.Omega.{arith}
-use lib.ListN.{length, set}
+use lib.ListN.{length, getD, set, replicate, length-append, length-replicate, getD-replicate, List·getD-append}
+use lib.Seq.{getD-append-add}
 use Rattle.zorder.proofs.Fill.{filled, filled-none, filled-more, filled-all}
 use Rattle.promises.specs.Layout.{costPlace, costIn, tab, costsIn}
 use Rattle.promises.specs.Laws.Tab.{length-tab, getD-tab}
 use Rattle.memory.proofs.fields.costs_of.Statement.{statement}
 use Rattle.memory.proofs.fields.costs_of.Tie as tie
 
+-- ---- the row that is read
+
+module _ (c d : ℕ) (m : List ℕ) (number : ℕ) (few : d ≤ rowCosts) where
+  row-length : length (costsIn c d m number) ≡ rowCosts
+  unfolding costsIn padded
+  row-length =
+      let cost = tab (costIn c m number) d in
+      omega (arith, length-append cost (replicate (rowCosts - d) 0), length-tab (costIn c m number) d, length-replicate {A = ℕ} (rowCosts - d) 0)
+
+  row-cost : (j : ℕ) → j < d → getD (costsIn c d m number) j 0 ≡ costIn c m number j
+  unfolding costsIn padded
+  row-cost j h =
+      let cost = costIn c m number in
+      List·getD-append (tab cost d) (replicate (rowCosts - d) 0) 0 j (omega (arith, length-tab cost d)) ∙ getD-tab cost 0 d j h
+
+  row-past : (j : ℕ) → d ≤ j → j < rowCosts → getD (costsIn c d m number) j 0 ≡ 0
+  unfolding costsIn padded
+  row-past j h l =
+      let cost = tab (costIn c m number) d in
+      let zeros : List ℕ = replicate (rowCosts - d) 0 in
+      let from : j ≡ length cost + (j - d) = omega (arith, length-tab (costIn c m number) d) in
+      ap (λ (k : ℕ). getD (cost ++ zeros) k 0) from
+      ∙ getD-append-add cost zeros (j - d) 0
+      ∙ getD-replicate (rowCosts - d) (j - d) 0 0 (omega arith)
+
+  row-whole : filled (costsIn c d m number) rowCosts ≡ costsIn c d m number
+  unfolding padded
+  row-whole = filled-all (costsIn c d m number) rowCosts row-length ∙ append-nil (costsIn c d m number)
+
 abbrev Inv-loop : tie.InvT-loop
-Inv-loop m c d number at costs₀ j₀ costs j = (j ≤ d) × (costs ≡ filled (tab (costIn c m number) d) j)
+Inv-loop m c d number at costs₀ j₀ costs j = (j ≤ rowCosts) × (costs ≡ filled (costsIn c d m number) j)
 
 abbrev μ-loop : tie.MeasureT-loop
-μ-loop m c d number at costs₀ j₀ costs j = d - j
+μ-loop m c d number at costs₀ j₀ costs j = rowCosts - j
 
 mul-at : tie.Need-mul-at Inv-loop μ-loop
 mul-at c = omega arith
 
 add-at : tie.Need-add-at Inv-loop μ-loop
 add-at c = omega arith
+
+cast-at : tie.Need-cast-at Inv-loop μ-loop
+cast-at c = omega arith
 
 mul-at-2 : tie.Need-mul-at-2 Inv-loop μ-loop
 mul-at-2 c = omega arith
@@ -31,7 +66,7 @@ add-at-2 c = omega arith
 loop-holds : tie.Need-loop-holds Inv-loop μ-loop
 loop-holds c =
     let a = c .before .args in
-    (omega arith, filled-none (tab (costIn (a .c) (a .m .now) (a .number)) (a .d)))
+    (omega arith, filled-none (costsIn (a .c) (a .d) (a .m .now) (a .number)))
 
 mul-word : tie.Need-mul-word Inv-loop μ-loop
 mul-word c = omega arith
@@ -57,23 +92,28 @@ loop-less c = omega arith
 loop-again : tie.Need-loop-again Inv-loop μ-loop
 unfolding costIn costPlace
 loop-again c =
-    let a = c .before .before .before .before .args in
-    let own = c .before .before .loop in
-    let cost : ℕ → ℕ = costIn (a .c) (a .m .now) (a .number) in
-    let count : length (tab cost (a .d)) ≡ a .d = length-tab cost (a .d) in (
+    let a = c .before .before .before .before .before .args in
+    let few = c .before .before .before .before .before .pre .2 in
+    let own = c .before .before .before .loop in
+    let row = costsIn (a .c) (a .d) (a .m .now) (a .number) in
+    let count : length row ≡ rowCosts = row-length (a .c) (a .d) (a .m .now) (a .number) few in
+    let cost : c .if1 .costs ≡ getD row (own .j) 0 =
+    ⊎-elim
+    (λ w. w .1 ∙ c .before .word .ensures ∙ sym (row-cost (a .c) (a .d) (a .m .now) (a .number) few (own .j) (w .0 .taken)))
+    (λ w. w .1 ∙ sym (row-past (a .c) (a .d) (a .m .now) (a .number) few (own .j) (w .0 .left) (omega arith)))
+    (c .if1 .came) in (
       omega arith,
-      ap₂ (λ (row : List ℕ) (v : ℕ). set row (own .j) v) (own .inv .1) (c .word .ensures ∙ sym (getD-tab cost 0 (a .d) (own .j) (omega arith)))
-          ∙ filled-more (tab cost (a .d)) (own .j) 0 (omega arith) (omega arith),
+      ap₂ (λ (l : List ℕ) (v : ℕ). set l (own .j) v) (own .inv .1) cost ∙ filled-more row (own .j) 0 (omega arith) (omega arith),
     )
 
 returns : tie.Need-returns Inv-loop μ-loop
-unfolding costsIn
 returns c =
     let a = c .before .before .before .args in
     let own = c .before .loop in
-    let cost : ℕ → ℕ = costIn (a .c) (a .m .now) (a .number) in
-    let all : own .j ≡ a .d = omega arith in
-    own .inv .1 ∙ ap (filled (tab cost (a .d))) all ∙ filled-all (tab cost (a .d)) (a .d) (length-tab cost (a .d))
+    let all : own .j ≡ rowCosts = omega arith in
+    own .inv .1
+    ∙ ap (filled (costsIn (a .c) (a .d) (a .m .now) (a .number))) all
+    ∙ row-whole (a .c) (a .d) (a .m .now) (a .number) (c .before .before .before .pre .2)
 
 pub costs-of-spec : {M : Type 1} → statement M
 costs-of-spec =
@@ -83,6 +123,7 @@ costs-of-spec =
     μ-loop
     mul-at
     add-at
+    cast-at
     mul-at-2
     add-at-2
     loop-holds

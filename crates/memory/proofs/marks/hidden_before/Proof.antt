@@ -13,22 +13,22 @@ use Rattle.memory.proofs.marks.hidden_before.Statement.{statement}
 use Rattle.memory.proofs.marks.hidden_before.Tie as tie
 
 abbrev Inv-loop : tie.InvT-loop
-Inv-loop m c d i x j₀ j = (j ≤ i) × (hiddenBefore c d m j (asMove x) ≡ false)
+Inv-loop m h i x j₀ j = (j ≤ i) × (hiddenBefore (h .size) (h .dimension) m j (asMove x) ≡ false)
 
 abbrev μ-loop : tie.MeasureT-loop
-μ-loop m c d i x j₀ j = i - j
+μ-loop m h i x j₀ j = i - j
 
 loop-holds : tie.Need-loop-holds Inv-loop μ-loop
-loop-holds c = let a = c .before .args in (omega arith, hidden-none (a .c) (a .d) (a .m .now) (asMove (a .x)))
+loop-holds c = let a = c .before .args in (omega arith, hidden-none (a .h .size) (a .h .dimension) (a .m .now) (asMove (a .x)))
 
 move-at-requires : tie.Need-move-at-requires Inv-loop μ-loop
-move-at-requires c κs = omega (arith, c .before .before .before .pre .2 (c .before .loop .j) (omega arith))
+move-at-requires c κs = omega (arith, c .before .before .before .pre .0 .numbers (c .before .loop .j) (omega arith))
 
 is-listed-requires : tie.Need-is-listed-requires Inv-loop μ-loop
 is-listed-requires c κs =
     let a = c .before .before .before .before .args in
     let j = c .before .before .loop .j in
-    omega (arith, c .before .before .before .before .pre .2 j (omega arith), number-of (a .c) (a .d) (a .m .now) j (asMove (c .move-at .result)) (c .move-at .ensures))
+    omega (arith, c .before .before .before .before .pre .0 .numbers j (omega arith), number-of (a .h .size) (a .h .dimension) (a .m .now) j (asMove (c .move-at .result)) (c .move-at .ensures))
 
 hides-requires : tie.Need-hides-requires Inv-loop μ-loop
 hides-requires c κs = omega arith
@@ -39,9 +39,9 @@ returns c =
     let j = c .before .before .before .before .before .before .loop .j in
     let at = c .before .before .before .before .move-at in
     sym
-    (hidden-found (a .c) (a .d) (a .m .now) (asMove (a .x)) (a .i) j (omega arith)
-    (listed-at (a .c) (a .d) (a .m .now) j (at .result .number) (number-of (a .c) (a .d) (a .m .now) j (asMove (at .result)) (at .ensures)) ∙ sym (c .before .before .before .is-listed .ensures) ∙ c .before .before .if1 .taken)
-    (ap (λ (p : Move). hides (a .d) p (asMove (a .x))) (sym (at .ensures)) ∙ sym (c .before .hides .ensures) ∙ c .if2 .taken))
+    (hidden-found (a .h .size) (a .h .dimension) (a .m .now) (asMove (a .x)) (a .i) j (omega arith)
+    (listed-at (a .h .size) (a .h .dimension) (a .m .now) j (at .result .number) (number-of (a .h .size) (a .h .dimension) (a .m .now) j (asMove (at .result)) (at .ensures)) ∙ sym (c .before .before .before .is-listed .ensures) ∙ c .before .before .if1 .taken)
+    (ap (λ (p : Move). hides (a .h .dimension) p (asMove (a .x))) (sym (at .ensures)) ∙ sym (c .before .hides .ensures) ∙ c .if2 .taken))
 
 add-j : tie.Need-add-j Inv-loop μ-loop
 add-j c = omega arith
@@ -54,11 +54,11 @@ loop-again c =
     let a = c .before .before .before .before .before .before .args in
     let own = c .before .before .before .before .loop in
     let at = c .before .before .move-at in
-    let listed = listed-at (a .c) (a .d) (a .m .now) (own .j) (at .result .number) (number-of (a .c) (a .d) (a .m .now) (own .j) (asMove (at .result)) (at .ensures)) ∙ sym (c .before .is-listed .ensures) in (
+    let listed = listed-at (a .h .size) (a .h .dimension) (a .m .now) (own .j) (at .result .number) (number-of (a .h .size) (a .h .dimension) (a .m .now) (own .j) (asMove (at .result)) (at .ensures)) ∙ sym (c .before .is-listed .ensures) in (
       omega arith,
-      hidden-more (a .c) (a .d) (a .m .now) (asMove (a .x)) (own .j) (own .inv .1)
+      hidden-more (a .h .size) (a .h .dimension) (a .m .now) (asMove (a .x)) (own .j) (own .inv .1)
           (⊎-elim
-          (λ w. inr (ap (λ (p : Move). hides (a .d) p (asMove (a .x))) (sym (at .ensures)) ∙ sym (w .1 .ensures) ∙ w .2 .left))
+          (λ w. inr (ap (λ (p : Move). hides (a .h .dimension) p (asMove (a .x))) (sym (at .ensures)) ∙ sym (w .1 .ensures) ∙ w .2 .left))
           (λ w. inl (listed ∙ w .left))
           (c .if1 .came)),
     )
@@ -68,7 +68,7 @@ returns-2 c =
     let a = c .before .before .before .args in
     let own = c .before .loop in
     let all : own .j ≡ a .i = omega arith in
-    sym (subst (λ (k : ℕ). hiddenBefore (a .c) (a .d) (a .m .now) k (asMove (a .x)) ≡ false) all (own .inv .1))
+    sym (subst (λ (k : ℕ). hiddenBefore (a .h .size) (a .h .dimension) (a .m .now) k (asMove (a .x)) ≡ false) all (own .inv .1))
 
 pub hidden-before-spec : {M : Type 1} → statement M
 hidden-before-spec =

@@ -66,7 +66,7 @@ order-right-requires c κs =
     let dimension = c .before .before .before .dimension in
     let count = c .before .before .count in
     let j = sym (c .before .numbers-right .ensures) ∙ not-false (c .before .numbers-right .result) (c .if2 .left) in
-    (omega arith, omega arith, numbers-right (size .result) m (count .result) j, omega arith)
+    record { room = omega arith; rows = omega arith; numbers = numbers-right (size .result) m (count .result) j; dimension = omega arith }
 
 returns-3 : tie.Need-returns-3
 returns-3 c =
@@ -103,7 +103,7 @@ marks-right-requires c κs =
     let count = c .before .before .before .before .before .before .count in
     let numbers = c .before .before .before .before .before .numbers-right in
     let j = sym (numbers .ensures) ∙ not-false (numbers .result) (c .before .before .before .before .if2 .left) in
-    (omega arith, omega arith, numbers-right (size .result) m (count .result) j, omega arith)
+    record { room = omega arith; rows = omega arith; numbers = numbers-right (size .result) m (count .result) j; dimension = omega arith }
 
 returns-5 : tie.Need-returns-5
 unfolding Bytes

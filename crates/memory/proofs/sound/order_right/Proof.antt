@@ -11,22 +11,22 @@ use Rattle.memory.proofs.sound.order_right.Statement.{statement}
 use Rattle.memory.proofs.sound.order_right.Tie as tie
 
 abbrev Inv-loop : tie.InvT-loop
-Inv-loop m c d n i₀ i = (1 ≤ i) × (i - 1 ≤ n - 1) × (orderRight c d i m ≡ true)
+Inv-loop m h n i₀ i = (1 ≤ i) × (i - 1 ≤ n - 1) × (orderRight (h .size) (h .dimension) i m ≡ true)
 
 abbrev μ-loop : tie.MeasureT-loop
-μ-loop m c d n i₀ i = n - i
+μ-loop m h n i₀ i = n - i
 
 loop-holds : tie.Need-loop-holds Inv-loop μ-loop
-loop-holds c = let a = c .before .args in (omega arith, omega arith, order-none (a .c) (a .d) (a .m .now))
+loop-holds c = let a = c .before .args in (omega arith, omega arith, order-none (a .h .size) (a .h .dimension) (a .m .now))
 
 sub-move-at : tie.Need-sub-move-at Inv-loop μ-loop
 sub-move-at c = omega arith
 
 move-at-requires : tie.Need-move-at-requires Inv-loop μ-loop
-move-at-requires c κs = omega (arith, c .before .before .before .pre .2 (c .before .loop .i - 1) (omega arith))
+move-at-requires c κs = omega (arith, c .before .before .before .pre .numbers (c .before .loop .i - 1) (omega arith))
 
 move-at-requires-2 : tie.Need-move-at-requires-2 Inv-loop μ-loop
-move-at-requires-2 c κs = omega (arith, c .before .before .before .before .pre .2 (c .before .before .loop .i) (omega arith))
+move-at-requires-2 c κs = omega (arith, c .before .before .before .before .pre .numbers (c .before .before .loop .i) (omega arith))
 
 stands-before-requires : tie.Need-stands-before-requires Inv-loop μ-loop
 stands-before-requires c κs = omega arith
@@ -36,8 +36,8 @@ returns c =
     let a = c .before .before .before .before .before .before .before .args in
     let i = c .before .before .before .before .before .loop .i in
     sym
-    (order-fail (a .c) (a .d) (a .m .now) (a .n) i (omega arith) (omega arith)
-    (ap₂ (moveBefore (a .d)) (sym (c .before .before .before .move-at .ensures)) (sym (c .before .before .move-at2 .ensures))
+    (order-fail (a .h .size) (a .h .dimension) (a .m .now) (a .h .count) i (omega arith) (omega arith)
+    (ap₂ (moveBefore (a .h .dimension)) (sym (c .before .before .before .move-at .ensures)) (sym (c .before .before .move-at2 .ensures))
     ∙ sym (c .before .stands-before .ensures)
     ∙ not-true (c .before .stands-before .result) (c .if1 .taken)))
 
@@ -53,8 +53,8 @@ loop-again c =
     let own = c .before .before .before .before .before .loop in (
       omega arith,
       omega arith,
-      order-more (a .c) (a .d) (a .m .now) (own .i) (omega arith) (own .inv .2)
-          (ap₂ (moveBefore (a .d)) (sym (c .before .before .before .move-at .ensures)) (sym (c .before .before .move-at2 .ensures))
+      order-more (a .h .size) (a .h .dimension) (a .m .now) (own .i) (omega arith) (own .inv .2)
+          (ap₂ (moveBefore (a .h .dimension)) (sym (c .before .before .before .move-at .ensures)) (sym (c .before .before .move-at2 .ensures))
           ∙ sym (c .before .stands-before .ensures)
           ∙ not-false (c .before .stands-before .result) (c .if1 .left)),
     )
@@ -63,7 +63,7 @@ returns-2 : tie.Need-returns-2 Inv-loop μ-loop
 returns-2 c =
     let a = c .before .before .before .args in
     let own = c .before .loop in
-    sym (own .inv .2) ∙ order-end (a .c) (a .d) (a .m .now) (a .n) (own .i) (omega arith)
+    sym (own .inv .2) ∙ order-end (a .h .size) (a .h .dimension) (a .m .now) (a .h .count) (own .i) (omega arith)
 
 pub order-right-spec : {M : Type 1} → statement M
 order-right-spec =

@@ -19,28 +19,28 @@ abbrev beatenTo : ℕ → ℕ → ℕ → Rule → List ℕ → List ℕ → ℕ
 beatenTo c d n rule m q = basics.count (λ x. rules.beats d rule (x .costs) q) (movesTo c d n m)
 
 abbrev Inv-loop : tie.InvT-loop
-Inv-loop m c d n rule most costs beaten₀ j₀ beaten j = (j ≤ n) × (beaten ≤ most) × (beaten ≤ j) × (beaten ≡ beatenTo c d j rule m costs)
+Inv-loop m h rule most costs n beaten₀ j₀ beaten j = (j ≤ n) × (beaten ≤ most) × (beaten ≤ j) × (beaten ≡ beatenTo (h .size) (h .dimension) j rule m costs)
 
 abbrev μ-loop : tie.MeasureT-loop
-μ-loop m c d n rule most costs beaten₀ j₀ beaten j = n - j
+μ-loop m h rule most costs n beaten₀ j₀ beaten j = n - j
 
 loop-holds : tie.Need-loop-holds Inv-loop μ-loop
 loop-holds c =
     let a = c .before .args in
-    (omega arith, omega arith, omega arith, sym (count-none (a .c) (a .d) (a .m .now) (λ x. rules.beats (a .d) (a .rule) (x .costs) (a .costs))))
+    (omega arith, omega arith, omega arith, sym (count-none (a .h .size) (a .h .dimension) (a .m .now) (λ x. rules.beats (a .h .dimension) (a .rule) (x .costs) (a .costs))))
 
 costs-at-requires : tie.Need-costs-at-requires Inv-loop μ-loop
-costs-at-requires c κs = omega (arith, c .before .before .before .pre .0 .2 (c .before .loop .j) (omega arith))
+costs-at-requires c κs = (c .before .before .before .pre .0, omega arith)
 
 beats-requires : tie.Need-beats-requires Inv-loop μ-loop
-beats-requires c κs = (omega arith, c .before .before .before .before .pre .1)
+beats-requires c κs = (c .before .before .before .before .pre .0 .dimension, c .before .before .before .before .pre .1)
 
 returns : tie.Need-returns Inv-loop μ-loop
 returns c =
     let a = c .before .before .before .before .before .before .before .args in
     let own = c .before .before .before .before .before .loop in
-    let beat = ap (λ (p : List ℕ). rules.beats (a .d) (a .rule) p (a .costs)) (sym (c .before .before .before .costs-at .ensures)) ∙ sym (c .before .before .beats .ensures) ∙ c .before .if1 .taken in
-    sym (stays-over (a .c) (a .d) (a .n) (a .rule) (a .most) (a .m .now) (a .costs) (own .j) (omega arith) beat (omega (arith, own .inv .3, c .if2 .taken)))
+    let beat = ap (λ (p : List ℕ). rules.beats (a .h .dimension) (a .rule) p (a .costs)) (sym (c .before .before .before .costs-at .ensures)) ∙ sym (c .before .before .beats .ensures) ∙ c .before .if1 .taken in
+    sym (stays-over (a .h .size) (a .h .dimension) (a .h .count) (a .rule) (a .most) (a .m .now) (a .costs) (own .j) (omega arith) beat (omega (arith, own .inv .3, c .if2 .taken)))
 
 add-beaten : tie.Need-add-beaten Inv-loop μ-loop
 add-beaten c = omega arith
@@ -55,9 +55,9 @@ loop-again : tie.Need-loop-again Inv-loop μ-loop
 loop-again c =
     let a = c .before .before .before .before .before .before .args in
     let own = c .before .before .before .before .loop in
-    let test : Move → Bool = λ x. rules.beats (a .d) (a .rule) (x .costs) (a .costs) in
-    let beat = ap (λ (p : List ℕ). rules.beats (a .d) (a .rule) p (a .costs)) (sym (c .before .before .costs-at .ensures)) ∙ sym (c .before .beats .ensures) in
-    let more = count-more (a .c) (a .d) (a .m .now) test (own .j) in
+    let test : Move → Bool = λ x. rules.beats (a .h .dimension) (a .rule) (x .costs) (a .costs) in
+    let beat = ap (λ (p : List ℕ). rules.beats (a .h .dimension) (a .rule) p (a .costs)) (sym (c .before .before .costs-at .ensures)) ∙ sym (c .before .beats .ensures) in
+    let more = count-more (a .h .size) (a .h .dimension) (a .m .now) test (own .j) in
     ⊎-elim
     (λ w. (omega arith, omega (arith, w .1 .left, w .2), omega (arith, w .2), w .2 ∙ ap (λ (k : ℕ). k + 1) (own .inv .3) ∙ sym (more true (beat ∙ w .0 .taken))))
     (λ w. (omega arith, omega (arith, w .1), omega (arith, w .1), w .1 ∙ own .inv .3 ∙ sym (more false (beat ∙ w .0 .left))))
@@ -67,8 +67,8 @@ returns-2 : tie.Need-returns-2 Inv-loop μ-loop
 returns-2 c =
     let a = c .before .before .before .args in
     let own = c .before .loop in
-    let all : own .j ≡ a .n = omega arith in
-    sym (stays-within (a .c) (a .d) (a .n) (a .rule) (a .most) (a .m .now) (a .costs) (omega (arith, own .inv .3, ap (λ (k : ℕ). beatenTo (a .c) (a .d) k (a .rule) (a .m .now) (a .costs)) all)))
+    let all : own .j ≡ a .h .count = omega arith in
+    sym (stays-within (a .h .size) (a .h .dimension) (a .h .count) (a .rule) (a .most) (a .m .now) (a .costs) (omega (arith, own .inv .3, ap (λ (k : ℕ). beatenTo (a .h .size) (a .h .dimension) k (a .rule) (a .m .now) (a .costs)) all)))
 
 pub stays-spec : {M : Type 1} → statement M
 stays-spec =

@@ -30,29 +30,29 @@ by-tests c d n k x m p q r s t = sym (λ i. p i && q i && r i && not (s i) && no
 
 returns : tie.Need-returns
 returns c =
-    let a = c .before .before .args in
-    by-tests (a .c) (a .d) (a .n) (a .k) (asMove (a .x)) (a .m .now) (le-ltb (a .k .goes) (a .n) (c .if1 .taken)) refl refl refl refl
+    let a = c .before .before .before .args in
+    by-tests (a .h .size) (a .h .dimension) (a .h .count) (a .k) (asMove (a .x)) (a .m .now) (le-ltb (a .k .goes) (a .h .count) (c .if1 .taken)) refl refl refl refl
 
 move-at-requires : tie.Need-move-at-requires
 move-at-requires c κs =
-    let a = c .before .before .args in
-    let pre = c .before .before .pre in
-    let on-board : a .k .goes < a .n = omega arith in
-    (pre .0, omega arith, pre .2 (a .k .goes) on-board, pre .3)
+    let a = c .before .before .before .args in
+    let pre = c .before .before .before .pre in
+    let on-board : a .k .goes < a .h .count = omega arith in
+    (pre .room, omega arith, pre .numbers (a .k .goes) on-board, pre .dimension)
 
 is-listed-requires : tie.Need-is-listed-requires
 is-listed-requires c κs =
-    let a = c .before .before .before .args in
-    let pre = c .before .before .before .pre in
-    let on-board : a .k .goes < a .n = omega arith in
-    (pre .0, omega (arith, pre .2 (a .k .goes) on-board, number-read (a .c) (a .d) (a .m .now) (a .k .goes) (c .move-at .ensures)))
+    let a = c .before .before .before .before .args in
+    let pre = c .before .before .before .before .pre in
+    let on-board : a .k .goes < a .h .count = omega arith in
+    (pre .room, omega (arith, pre .numbers (a .k .goes) on-board, number-read (a .h .size) (a .h .dimension) (a .m .now) (a .k .goes) (c .move-at .ensures)))
 
 returns-2 : tie.Need-returns-2
 returns-2 c =
-    let a = c .before .before .before .before .before .args in
-    by-tests (a .c) (a .d) (a .n) (a .k) (asMove (a .x)) (a .m .now)
-    (lt-ltb (a .k .goes) (a .n) (omega arith))
-    (listed-read (a .c) (a .d) (a .m .now) (a .k .goes) (c .before .before .move-at .ensures) (c .before .is-listed .ensures) ∙ not-true _ (c .if2 .taken))
+    let a = c .before .before .before .before .before .before .args in
+    by-tests (a .h .size) (a .h .dimension) (a .h .count) (a .k) (asMove (a .x)) (a .m .now)
+    (lt-ltb (a .k .goes) (a .h .count) (omega arith))
+    (listed-read (a .h .size) (a .h .dimension) (a .m .now) (a .k .goes) (c .before .before .move-at .ensures) (c .before .is-listed .ensures) ∙ not-true _ (c .if2 .taken))
     refl refl refl
 
 hides-requires : tie.Need-hides-requires
@@ -60,12 +60,12 @@ hides-requires c κs = search needs
 
 returns-3 : tie.Need-returns-3
 returns-3 c =
-    let a = c .before .before .before .before .before .before .before .args in
+    let a = c .before .before .before .before .before .before .before .before .args in
     let same = c .before .before .before .before .move-at .ensures in
-    by-tests (a .c) (a .d) (a .n) (a .k) (asMove (a .x)) (a .m .now)
-    (lt-ltb (a .k .goes) (a .n) (omega arith))
-    (listed-read (a .c) (a .d) (a .m .now) (a .k .goes) same (c .before .before .before .is-listed .ensures) ∙ not-false _ (c .before .before .if2 .left))
-    (ap (λ (y : Move). hides (a .d) y (asMove (a .x))) (sym same) ∙ sym (c .before .hides .ensures) ∙ not-true _ (c .if3 .taken))
+    by-tests (a .h .size) (a .h .dimension) (a .h .count) (a .k) (asMove (a .x)) (a .m .now)
+    (lt-ltb (a .k .goes) (a .h .count) (omega arith))
+    (listed-read (a .h .size) (a .h .dimension) (a .m .now) (a .k .goes) same (c .before .before .before .is-listed .ensures) ∙ not-false _ (c .before .before .if2 .left))
+    (ap (λ (y : Move). hides (a .h .dimension) y (asMove (a .x))) (sym same) ∙ sym (c .before .hides .ensures) ∙ not-true _ (c .if3 .taken))
     refl refl
 
 hidden-by-coming-requires : tie.Need-hidden-by-coming-requires
@@ -73,12 +73,12 @@ hidden-by-coming-requires c κs = search needs
 
 returns-4 : tie.Need-returns-4
 returns-4 c =
-    let a = c .before .before .before .before .before .before .before .before .before .args in
+    let a = c .before .before .before .before .before .before .before .before .before .before .args in
     let same = c .before .before .before .before .before .before .move-at .ensures in
-    by-tests (a .c) (a .d) (a .n) (a .k) (asMove (a .x)) (a .m .now)
-    (lt-ltb (a .k .goes) (a .n) (omega arith))
-    (listed-read (a .c) (a .d) (a .m .now) (a .k .goes) same (c .before .before .before .before .before .is-listed .ensures) ∙ not-false _ (c .before .before .before .before .if2 .left))
-    (ap (λ (y : Move). hides (a .d) y (asMove (a .x))) (sym same) ∙ sym (c .before .before .before .hides .ensures) ∙ not-false _ (c .before .before .if3 .left))
+    by-tests (a .h .size) (a .h .dimension) (a .h .count) (a .k) (asMove (a .x)) (a .m .now)
+    (lt-ltb (a .k .goes) (a .h .count) (omega arith))
+    (listed-read (a .h .size) (a .h .dimension) (a .m .now) (a .k .goes) same (c .before .before .before .before .before .is-listed .ensures) ∙ not-false _ (c .before .before .before .before .if2 .left))
+    (ap (λ (y : Move). hides (a .h .dimension) y (asMove (a .x))) (sym same) ∙ sym (c .before .before .before .hides .ensures) ∙ not-false _ (c .before .before .if3 .left))
     (sym (c .before .hidden-by-coming .ensures) ∙ c .if4 .taken)
     refl
 
@@ -87,12 +87,12 @@ hidden-by-others-requires c κs = search needs
 
 returns-5 : tie.Need-returns-5
 returns-5 c =
-    let a = c .before .before .before .before .before .before .before .before .before .before .args in
+    let a = c .before .before .before .before .before .before .before .before .before .before .before .args in
     let same = c .before .before .before .before .before .before .before .move-at .ensures in
-    by-tests (a .c) (a .d) (a .n) (a .k) (asMove (a .x)) (a .m .now)
-    (lt-ltb (a .k .goes) (a .n) (omega arith))
-    (listed-read (a .c) (a .d) (a .m .now) (a .k .goes) same (c .before .before .before .before .before .before .is-listed .ensures) ∙ not-false _ (c .before .before .before .before .before .if2 .left))
-    (ap (λ (y : Move). hides (a .d) y (asMove (a .x))) (sym same) ∙ sym (c .before .before .before .before .hides .ensures) ∙ not-false _ (c .before .before .before .if3 .left))
+    by-tests (a .h .size) (a .h .dimension) (a .h .count) (a .k) (asMove (a .x)) (a .m .now)
+    (lt-ltb (a .k .goes) (a .h .count) (omega arith))
+    (listed-read (a .h .size) (a .h .dimension) (a .m .now) (a .k .goes) same (c .before .before .before .before .before .before .is-listed .ensures) ∙ not-false _ (c .before .before .before .before .before .if2 .left))
+    (ap (λ (y : Move). hides (a .h .dimension) y (asMove (a .x))) (sym same) ∙ sym (c .before .before .before .before .hides .ensures) ∙ not-false _ (c .before .before .before .if3 .left))
     (sym (c .before .before .hidden-by-coming .ensures) ∙ c .before .if4 .left)
     (sym (c .hidden-by-others .ensures))
 

@@ -1,19 +1,27 @@
 -- `found::find_listed` meets its contract. The loop's invariant: of the moves passed the listed ones are found. Assumes nothing.
-use Prim.Native.Nat.{_-_, _≤_}
+use Prim.Native.Nat.{ℕ, _-_, _≤_}
+use mathlib.Core.Bool.{Bool}
+use mathlib.Core.List.{List}
 use mathlib.Core.Logic.{⊎-elim}
-use mathlib.Core.Path.{sym, subst, _∙_}
+use mathlib.Core.Path.{sym, ap, subst, _∙_}
 use native.Mathlib.Omega.{arith}
 use Rattle.numbers.specs.Set.{With}
 use Rattle.upkeep.specs.Planned.{isMarked}
-use Rattle.upkeep.specs.Laws.Found.{FindsTo, finds-few, finds-none, finds-takes, finds-passes, finds-all}
+use Rattle.upkeep.specs.Laws.Passing.{passing-few, passing-none, passing-takes, passing-passes}
+use Rattle.upkeep.specs.Laws.Found.{FindsTo, finds-all}
+use Rattle.promises.specs.Layout.{numberIn}
 use Rattle.upkeep.proofs.found.find_listed.Statement.{statement}
 use Rattle.upkeep.proofs.found.find_listed.Tie as tie
 
+-- Whether the move at place i is listed.
+abbrev listedAt : ℕ → List ℕ → ℕ → Bool
+listedAt c m i = isMarked c m (numberIn c m i)
+
 abbrev Inv-loop : tie.InvT-loop
-Inv-loop m c n numbers₀ count₀ i₀ numbers count i = (i ≤ n) × FindsTo c m (isMarked c m) i numbers count
+Inv-loop m h n numbers₀ count₀ i₀ numbers count i = (i ≤ n) × FindsTo (h .size) m (isMarked (h .size) m) i numbers count
 
 abbrev μ-loop : tie.MeasureT-loop
-μ-loop m c n numbers₀ count₀ i₀ numbers count i = n - i
+μ-loop m h n numbers₀ count₀ i₀ numbers count i = n - i
 
 empty-requires : tie.Need-empty-requires Inv-loop μ-loop
 empty-requires c κs = tt
@@ -21,23 +29,23 @@ empty-requires c κs = tt
 loop-holds : tie.Need-loop-holds Inv-loop μ-loop
 loop-holds c =
     let a = c .before .before .args in
-    (omega arith, finds-none (a .c) (a .m .now) (isMarked (a .c) (a .m .now)) (c .empty .result) (c .empty .ensures))
+    (omega arith, passing-none (a .h .size) (a .m .now) (listedAt (a .h .size) (a .m .now)) (c .empty .result) (c .empty .ensures))
 
 number-at-requires : tie.Need-number-at-requires Inv-loop μ-loop
 number-at-requires c κs = omega arith
 
 is-listed-requires : tie.Need-is-listed-requires Inv-loop μ-loop
-is-listed-requires c κs = omega (arith, c .before .before .before .before .before .pre .2 (c .before .before .loop .i) (omega arith))
+is-listed-requires c κs = omega (arith, c .before .before .before .before .before .pre .numbers (c .before .before .loop .i) (omega arith))
 
-with-requires : tie.Need-with-requires Inv-loop μ-loop
-with-requires c κs =
-    let pre = c .before .before .before .before .before .before .before .pre in
-    omega (arith, pre .0 .1, pre .2 (c .before .before .before .before .loop .i) (omega arith), c .before .before .number-at .ensures)
+add-requires : tie.Need-add-requires Inv-loop μ-loop
+add-requires c κs =
+    let pre = c .before .before .before .before .before .before .before .before .pre in
+    omega (arith, pre .room .1, pre .numbers (c .before .before .before .before .before .loop .i) (omega arith), c .before .before .before .number-at .ensures)
 
 add-count : tie.Need-add-count Inv-loop μ-loop
 add-count c =
-    let a = c .before .before .before .before .before .before .before .before .args in
-    omega (arith, finds-few (a .c) (a .m .now) (isMarked (a .c) (a .m .now)) (c .before .before .before .before .before .loop .inv .1))
+    let a = c .before .before .before .before .before .before .before .before .before .args in
+    omega (arith, passing-few (a .h .size) (a .m .now) (listedAt (a .h .size) (a .m .now)) (c .before .before .before .before .before .before .loop .inv .1))
 
 add-i : tie.Need-add-i Inv-loop μ-loop
 add-i c = omega arith
@@ -50,13 +58,12 @@ loop-again c =
     let a = c .before .before .before .before .before .before .before .args in
     let own = c .before .before .before .before .loop in
     let at = c .before .before .number-at in
-    let test = c .before .is-listed in (
+    let says = ap (isMarked (a .h .size) (a .m .now)) (sym (at .ensures)) ∙ sym (c .before .is-listed .ensures) in (
       omega arith,
       ⊎-elim
-          (λ w. finds-takes (a .c) (a .m .now) (isMarked (a .c) (a .m .now)) (own .i) (own .numbers) (own .count) (own .inv .1) (at .result) (at .ensures) (c .if1 .numbers) (c .if1 .count)
-          (sym (test .ensures) ∙ w .0 .taken) (subst (With (own .numbers) (at .result)) (sym (w .2)) (w .1 .ensures)) (w .3))
-          (λ w. finds-passes (a .c) (a .m .now) (isMarked (a .c) (a .m .now)) (own .i) (own .numbers) (own .count) (own .inv .1) (at .result) (at .ensures) (c .if1 .numbers) (c .if1 .count)
-          (sym (test .ensures) ∙ w .0 .left) (w .1) (w .2))
+          (λ w. passing-takes (a .h .size) (a .m .now) (listedAt (a .h .size) (a .m .now)) (own .i) (own .inv .1) (says ∙ w .0 .taken) (at .result) (at .ensures)
+          (subst (With (own .numbers) (at .result)) (sym (w .3)) (w .2 .ensures)) (w .4))
+          (λ w. passing-passes (a .h .size) (a .m .now) (listedAt (a .h .size) (a .m .now)) (own .i) (own .inv .1) (says ∙ w .0 .left) (w .1) (w .2))
           (c .if1 .came),
     )
 
@@ -64,7 +71,7 @@ returns : tie.Need-returns Inv-loop μ-loop
 returns c =
     let a = c .before .before .before .before .args in
     let own = c .before .loop in
-    finds-all (a .c) (a .m .now) (isMarked (a .c) (a .m .now)) (a .n) (own .i) _ (omega arith) (own .inv .1)
+    finds-all (a .h .size) (a .m .now) (isMarked (a .h .size) (a .m .now)) (a .h .count) (own .i) _ (omega arith) (own .inv .1)
 
 pub find-listed-spec : {M : Type 1} → statement M
 find-listed-spec =
@@ -76,7 +83,7 @@ find-listed-spec =
     loop-holds
     number-at-requires
     is-listed-requires
-    with-requires
+    add-requires
     add-count
     add-i
     loop-less

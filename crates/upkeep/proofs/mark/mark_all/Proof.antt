@@ -12,13 +12,13 @@ use Rattle.upkeep.proofs.mark.mark_all.Statement.{statement}
 use Rattle.upkeep.proofs.mark.mark_all.Tie as tie
 
 abbrev Inv-loop : tie.InvT-loop
-Inv-loop m₀ c d n i₀ m i = (i ≤ n) × Marked c d i m₀ m
+Inv-loop m₀ h n i₀ m i = (i ≤ n) × Marked (h .size) (h .dimension) i m₀ m
 
 abbrev μ-loop : tie.MeasureT-loop
-μ-loop m₀ c d n i₀ m i = n - i
+μ-loop m₀ h n i₀ m i = n - i
 
 loop-holds : tie.Need-loop-holds Inv-loop μ-loop
-loop-holds c = let a = c .before .args in (omega arith, marked-none (a .c) (a .d) (a .m .now))
+loop-holds c = let a = c .before .args in (omega arith, marked-none (a .h .size) (a .h .dimension) (a .m .now))
 
 move-at-requires : tie.Need-move-at-requires Inv-loop μ-loop
 move-at-requires c κs =
@@ -26,7 +26,7 @@ move-at-requires c κs =
     let pre = c .before .before .before .before .pre in
     let own = c .before .before .loop in
     let frame = own .inv .1 .frame in
-    (room-over (a .c) frame (pre .0 .0), omega arith, numbers-kept (a .c) (a .n) (a .m .now) (own .m) frame (pre .0 .1) (pre .0 .2) (own .i) (omega arith), pre .0 .3)
+    (room-over (a .h .size) frame (pre .0 .room), omega arith, numbers-kept (a .h .size) (a .h .count) (a .m .now) (own .m) frame (pre .0 .rows) (pre .0 .numbers) (own .i) (omega arith), pre .0 .dimension)
 
 hidden-before-requires : tie.Need-hidden-before-requires Inv-loop μ-loop
 hidden-before-requires c κs =
@@ -34,10 +34,13 @@ hidden-before-requires c κs =
     let pre = c .before .before .before .before .before .before .pre in
     let own = c .before .before .before .before .loop in
     let frame = own .inv .1 .frame in (
-      room-over (a .c) frame (pre .0 .0),
+      record {
+        room = room-over (a .h .size) frame (pre .0 .room);
+        rows = pre .0 .rows;
+        numbers = numbers-kept (a .h .size) (a .h .count) (a .m .now) (own .m) frame (pre .0 .rows) (pre .0 .numbers);
+        dimension = pre .0 .dimension;
+      },
       omega arith,
-      λ j l. numbers-kept (a .c) (a .n) (a .m .now) (own .m) frame (pre .0 .1) (pre .0 .2) j (omega arith),
-      pre .0 .3,
     )
 
 set-listed-requires : tie.Need-set-listed-requires Inv-loop μ-loop
@@ -47,9 +50,9 @@ set-listed-requires c κs =
     let own = c .before .before .before .before .before .before .loop in
     let frame = own .inv .1 .frame in
     let moved = c .before .before .before .move-at in
-    let number = number-of (a .c) (a .d) (own .m) (own .i) (asMove (moved .result)) (moved .ensures) in
-    let below = numbers-kept (a .c) (a .n) (a .m .now) (own .m) frame (pre .0 .1) (pre .0 .2) (own .i) (omega arith) in
-    (room-over (a .c) frame (pre .0 .0), omega (arith, number, below))
+    let number = number-of (a .h .size) (a .h .dimension) (own .m) (own .i) (asMove (moved .result)) (moved .ensures) in
+    let below = numbers-kept (a .h .size) (a .h .count) (a .m .now) (own .m) frame (pre .0 .rows) (pre .0 .numbers) (own .i) (omega arith) in
+    (room-over (a .h .size) frame (pre .0 .room), omega (arith, number, below))
 
 add-i : tie.Need-add-i Inv-loop μ-loop
 add-i c = omega arith
@@ -66,12 +69,12 @@ loop-again c =
     let frame = own .inv .1 .frame in
     let moved = c .before .before .before .before .before .before .move-at in
     let hidden = c .before .before .before .before .hidden-before in
-    let below = numbers-kept (a .c) (a .n) (a .m .now) (own .m) frame (pre .0 .1) (pre .0 .2) in
-    let once = once-kept (a .c) (a .n) (a .m .now) (own .m) frame (pre .0 .1) (pre .1) in
-    let more = marked-more (a .c) (a .d) (own .i) (a .m .now) (own .m) (room-over (a .c) frame (pre .0 .0)) (omega arith) (below (own .i) (omega arith)) (λ j l e. let g = once j (own .i) (omega arith) (omega arith) e in omega arith) (own .inv .1) (moved .result .number) (hidden .result)
-    (number-of (a .c) (a .d) (own .m) (own .i) (asMove (moved .result)) (moved .ensures))
-    (hidden .ensures ∙ ap (hiddenBefore (a .c) (a .d) (own .m) (own .i)) (moved .ensures)) in
-    (omega arith, subst (Marked (a .c) (a .d) (own .i + 1) (a .m .now)) (sym (c .before .before .set-listed .ensures)) more)
+    let below = numbers-kept (a .h .size) (a .h .count) (a .m .now) (own .m) frame (pre .0 .rows) (pre .0 .numbers) in
+    let once = once-kept (a .h .size) (a .h .count) (a .m .now) (own .m) frame (pre .0 .rows) (pre .1) in
+    let more = marked-more (a .h .size) (a .h .dimension) (own .i) (a .m .now) (own .m) (room-over (a .h .size) frame (pre .0 .room)) (omega arith) (below (own .i) (omega arith)) (λ j l e. let g = once j (own .i) (omega arith) (omega arith) e in omega arith) (own .inv .1) (moved .result .number) (hidden .result)
+    (number-of (a .h .size) (a .h .dimension) (own .m) (own .i) (asMove (moved .result)) (moved .ensures))
+    (hidden .ensures ∙ ap (hiddenBefore (a .h .size) (a .h .dimension) (own .m) (own .i)) (moved .ensures)) in
+    (omega arith, subst (Marked (a .h .size) (a .h .dimension) (own .i + 1) (a .m .now)) (sym (c .before .before .set-listed .ensures)) more)
 
 same-length : tie.Need-same-length Inv-loop μ-loop
 same-length c = c .before .loop .inv .1 .frame .length
@@ -80,8 +83,8 @@ returns : tie.Need-returns Inv-loop μ-loop
 returns c =
     let a = c .before .before .before .args in
     let own = c .before .loop in
-    let all : own .i ≡ a .n = omega arith in
-    subst (λ (k : ℕ). Marked (a .c) (a .d) k (a .m .now) (own .m)) all (own .inv .1)
+    let all : own .i ≡ a .h .count = omega arith in
+    subst (λ (k : ℕ). Marked (a .h .size) (a .h .dimension) k (a .m .now) (own .m)) all (own .inv .1)
 
 pub mark-all-spec : {M : Type 1} → statement M
 mark-all-spec =

@@ -24,7 +24,7 @@ returns c =
     let a = c .before .before .before .before .before .before .before .before .before .args in
     let pre = c .before .before .before .before .before .before .before .before .before .pre in
     let read = c .before .before .before .before .before .before .number-at .ensures in
-    mark-leaves (a .c) (a .i) (a .leaving) (a .entering) (a .m .now) (pre .0) (c .before .before .before .before .before .before .number-at .result) read (omega (arith, pre .2)) (c .before .before .set-listed .last .0)
+    mark-leaves (a .c) (a .i) (a .leaving .now) (a .entering .now) (a .m .now) (pre .0) (c .before .before .before .before .before .before .number-at .result) read (omega (arith, pre .2)) (c .before .before .set-listed .last .0)
     (sym (c .before .before .before .before .before .has .ensures) ∙ c .before .before .before .before .if1 .taken) (c .before .before .set-listed .ensures)
 
 has-requires-2 : tie.Need-has-requires-2
@@ -41,7 +41,7 @@ returns-2 c =
     let a = c .before .before .before .before .before .before .before .before .before .before .before .args in
     let pre = c .before .before .before .before .before .before .before .before .before .before .before .pre in
     let read = c .before .before .before .before .before .before .before .before .number-at .ensures in
-    mark-enters (a .c) (a .i) (a .leaving) (a .entering) (a .m .now) (pre .0) (c .before .before .before .before .before .before .before .before .number-at .result) read (omega (arith, pre .2)) (c .before .before .set-listed2 .last .0)
+    mark-enters (a .c) (a .i) (a .leaving .now) (a .entering .now) (a .m .now) (pre .0) (c .before .before .before .before .before .before .before .before .number-at .result) read (omega (arith, pre .2)) (c .before .before .set-listed2 .last .0)
     (sym (c .before .before .before .before .before .before .before .has .ensures) ∙ c .before .before .before .before .before .before .if1 .left) (sym (c .before .before .before .before .before .has2 .ensures) ∙ c .before .before .before .before .if2 .taken) (c .before .before .set-listed2 .ensures)
 
 same-length-3 : tie.Need-same-length-3
@@ -51,9 +51,9 @@ returns-3 : tie.Need-returns-3
 returns-3 c =
     let a = c .before .before .before .before .before .before .before .args in
     let read = c .before .before .before .before .number-at .ensures in
-    mark-left (a .c) (a .i) (a .leaving) (a .entering) (a .m .now)
-    (ap (inSet (a .leaving)) (sym read) ∙ sym (c .before .before .before .has .ensures) ∙ c .before .before .if1 .left)
-    (ap (inSet (a .entering)) (sym read) ∙ sym (c .before .has2 .ensures) ∙ c .if2 .left)
+    mark-left (a .c) (a .i) (a .leaving .now) (a .entering .now) (a .m .now)
+    (ap (inSet (a .leaving .now)) (sym read) ∙ sym (c .before .before .before .has .ensures) ∙ c .before .before .if1 .left)
+    (ap (inSet (a .entering .now)) (sym read) ∙ sym (c .before .has2 .ensures) ∙ c .if2 .left)
 
 pub set-mark-spec : {M : Type 1} → statement M
 set-mark-spec =

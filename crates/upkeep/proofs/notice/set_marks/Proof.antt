@@ -10,23 +10,23 @@ use Rattle.upkeep.proofs.notice.set_marks.Statement.{statement}
 use Rattle.upkeep.proofs.notice.set_marks.Tie as tie
 
 abbrev Inv-loop : tie.InvT-loop
-Inv-loop m₀ c n leaving entering i₀ m i = (i ≤ n) × Marking c n i leaving entering m₀ m
+Inv-loop m₀ h u n i₀ m i = (i ≤ n) × Marking (h .size) n i (u .leaving) (u .entering) m₀ m
 
 abbrev μ-loop : tie.MeasureT-loop
-μ-loop m₀ c n leaving entering i₀ m i = n - i
+μ-loop m₀ h u n i₀ m i = n - i
 
 loop-holds : tie.Need-loop-holds Inv-loop μ-loop
 loop-holds c =
-    let a = c .before .before .before .args in
-    (omega arith, marking-none (a .c) (a .n) (a .u .leaving) (a .u .entering) (a .m .now))
+    let a = c .before .args in
+    (omega arith, marking-none (a .h .size) (a .h .count) (a .t3 .leaving) (a .t3 .entering) (a .m .now))
 
 set-mark-requires : tie.Need-set-mark-requires Inv-loop μ-loop
 set-mark-requires c κs =
-    let a = c .before .before .before .before .before .before .args in
-    let pre = c .before .before .before .before .before .before .pre in
-    let own = c .before .before .loop in
-    let small = pre .0 .2 (own .i) (omega arith) in
-    (room-over (a .c) (own .inv .1 .frame) (pre .0 .0), omega arith, omega (arith, number-over-marks (a .c) (own .inv .1 .frame) (own .i) (omega arith)))
+    let a = c .before .before .before .before .before .before .before .args in
+    let pre = c .before .before .before .before .before .before .before .pre .0 in
+    let own = c .before .before .before .before .before .loop in
+    let small = pre .numbers (own .i) (omega arith) in
+    (room-over (a .h .size) (own .inv .1 .frame) (pre .room), omega (arith, pre .rows), omega (arith, number-over-marks (a .h .size) (own .inv .1 .frame) (own .i) (omega (arith, pre .rows))))
 
 add-i : tie.Need-add-i Inv-loop μ-loop
 add-i c = omega arith
@@ -36,21 +36,24 @@ loop-less c = omega arith
 
 loop-again : tie.Need-loop-again Inv-loop μ-loop
 loop-again c =
-    let a = c .before .before .before .before .before .before .before .before .before .args in
-    let pre = c .before .before .before .before .before .before .before .before .before .pre in
-    let own = c .before .before .before .before .before .loop in
-    (omega arith, marking-more (a .c) (a .n) (a .u .leaving) (a .u .entering) (a .m .now) (pre .0 .1) (pre .0 .2) (pre .1) (own .i) (omega arith) (own .m) (c .before .before .set-mark .last .0) (own .inv .1) (c .before .before .set-mark .ensures))
+    let a = c .before .before .before .before .before .before .before .before .before .before .args in
+    let pre = c .before .before .before .before .before .before .before .before .before .before .pre in
+    let own = c .before .before .before .before .before .before .before .before .loop in
+    let set = c .before .before .set-mark in (
+      omega arith,
+      marking-more (a .h .size) (a .h .count) (a .t3 .leaving) (a .t3 .entering) (a .m .now) (pre .0 .rows) (pre .0 .numbers) (pre .1) (own .i) (omega arith) (own .m) (set .last .0) (own .inv .1) (set .ensures),
+    )
 
 same-length : tie.Need-same-length Inv-loop μ-loop
 same-length c = c .before .loop .inv .1 .frame .length
 
 returns : tie.Need-returns Inv-loop μ-loop
 returns c =
-    let a = c .before .before .before .before .before .args in
+    let a = c .before .before .before .args in
     let own = c .before .loop in
-    let all : own .i ≡ a .n = omega arith in
-    marking-all (a .c) (a .n) (a .u .leaving) (a .u .entering) (a .m .now) (own .m)
-    (subst (λ (e : ℕ). Marking (a .c) (a .n) e (a .u .leaving) (a .u .entering) (a .m .now) (own .m)) all (own .inv .1))
+    let all : own .i ≡ a .h .count = omega arith in
+    marking-all (a .h .size) (a .h .count) (a .t3 .leaving) (a .t3 .entering) (a .m .now) (own .m)
+    (subst (λ (e : ℕ). Marking (a .h .size) (a .h .count) e (a .t3 .leaving) (a .t3 .entering) (a .m .now) (own .m)) all (own .inv .1))
 
 pub set-marks-spec : {M : Type 1} → statement M
 set-marks-spec =

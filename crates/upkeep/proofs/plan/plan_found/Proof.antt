@@ -10,7 +10,7 @@ nothing-requires c κs = search needs
 returns : tie.Need-returns
 returns c =
     let a = c .before .before .args in
-    found-few (a .c) (a .d) (a .n) (a .found) (a .opened) (a .lent) (c .nothing .ensures) (c .before .if1 .taken)
+    found-few (a .h) (a .found) (a .opened) (a .lent) (c .nothing .ensures) (c .before .if1 .taken)
 
 telling-of-requires : tie.Need-telling-of-requires
 telling-of-requires c κs = search needs
@@ -18,7 +18,7 @@ telling-of-requires c κs = search needs
 returns-2 : tie.Need-returns-2
 returns-2 c =
     let a = c .before .before .before .args in
-    found-all (a .c) (a .d) (a .n) (a .found) (a .opened) (a .lent) (c .telling-of .result) (c .telling-of .ensures) (c .before .before .if1 .left)
+    found-all (a .h) (a .found) (a .opened) (a .lent) (c .telling-of .result) (c .telling-of .ensures) (c .before .before .if1 .left)
 
 pub plan-found-spec : {M : Type 1} → statement M
 plan-found-spec = tie.close (tie.spec nothing-requires returns telling-of-requires returns-2)

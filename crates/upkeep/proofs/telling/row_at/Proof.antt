@@ -11,14 +11,14 @@ use Rattle.upkeep.proofs.telling.row_at.Statement.{statement}
 use Rattle.upkeep.proofs.telling.row_at.Tie as tie
 
 add-if1 : tie.Need-add-if1
-add-if1 c = search needs
+add-if1 c = let asked = c .before .before .before .pre .0 in omega (arith, asked .readable .rows, asked .readable .room .1, asked .place)
 
 row-of-requires : tie.Need-row-of-requires
 row-of-requires c κs = search needs
 
 returns : tie.Need-returns
 returns c =
-    let a = c .before .before .before .before .before .args in
+    let a = c .before .before .before .before .before .before .args in
     c .row-of .ensures ∙ sym (coming-row (a .t) (a .m .now) (a .i) (c .before .before .if1 .taken))
 
 place-at-requires : tie.Need-place-at-requires
@@ -26,32 +26,33 @@ place-at-requires c κs = search needs
 
 move-at-requires : tie.Need-move-at-requires
 move-at-requires c κs =
-    let a = c .before .before .before .before .args in
-    let pre = c .before .before .before .before .pre in
-    let on-board : c .place-at .result < a .t .count = omega (arith, place-below (a .t) (a .i) (pre .0 .place) (pre .1) (c .before .if1 .left), c .place-at .ensures) in
-    (pre .0 .room, omega (arith, pre .0 .places), pre .0 .numbers (c .place-at .result) on-board, pre .0 .dimension)
+    let a = c .before .before .before .before .before .args in
+    let pre = c .before .before .before .before .before .pre in
+    let asked = pre .0 .readable in
+    let on-board : c .place-at .result < a .t .head .count = omega (arith, place-below (a .t .head .count) (a .t .place) (a .i) (pre .0 .place) (pre .1) (c .before .if1 .left), c .place-at .ensures) in
+    (asked .room, omega (arith, asked .rows), asked .numbers (c .place-at .result) on-board, asked .dimension)
 
 row-of-requires-2 : tie.Need-row-of-requires-2
 row-of-requires-2 c κs = search needs
 
 returns-2 : tie.Need-returns-2
 returns-2 c =
-    let read = c .before .before .before .before in
-    let a = read .before .before .before .before .args in
+    let read = c .before .before .before in
+    let a = read .before .before .before .before .before .args in
     c .row-of2 .ensures
-    ∙ ap (moveNumbers (a .t .mark)) (c .before .before .before .move-at .ensures)
-    ∙ sym (place-row (a .t) (a .m .now) (a .i) (read .before .if1 .left) (read .place-at .result) (sym (read .place-at .ensures)) (lt-ltb (a .i) (a .t .count) (c .before .if2 .taken)))
+    ∙ ap (moveNumbers (a .t .mark)) (c .before .before .move-at .ensures)
+    ∙ sym (place-row (a .t) (a .m .now) (a .i) (read .before .if1 .left) (read .place-at .result) (sym (read .place-at .ensures)) (lt-ltb (a .i) (a .t .head .count) (c .before .if2 .taken)))
 
 row-of-requires-3 : tie.Need-row-of-requires-3
 row-of-requires-3 c κs = search needs
 
 returns-3 : tie.Need-returns-3
 returns-3 c =
-    let read = c .before .before .before .before in
-    let a = read .before .before .before .before .args in
+    let read = c .before .before .before in
+    let a = read .before .before .before .before .before .args in
     c .row-of3 .ensures
-    ∙ ap (moveNumbers entered) (c .before .before .before .move-at .ensures)
-    ∙ sym (place-row (a .t) (a .m .now) (a .i) (read .before .if1 .left) (read .place-at .result) (sym (read .place-at .ensures)) (le-ltb (a .i) (a .t .count) (omega arith)))
+    ∙ ap (moveNumbers entered) (c .before .before .move-at .ensures)
+    ∙ sym (place-row (a .t) (a .m .now) (a .i) (read .before .if1 .left) (read .place-at .result) (sym (read .place-at .ensures)) (le-ltb (a .i) (a .t .head .count) (c .before .if2 .left)))
 
 pub row-at-spec : {M : Type 1} → statement M
 row-at-spec =

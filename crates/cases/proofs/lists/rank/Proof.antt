@@ -1,0 +1,19 @@
+-- `lists::rank` meets its contract: what is lent is no longer than the whole. Assumes nothing but what `libc` says of its calls.
+use mathlib.Core.Path.{sym}
+use lib.Seq.{length-take-le}
+use borrow.Author.Needs.{needs}
+use Rattle.cases.proofs.lists.rank.Statement.{statement}
+use Rattle.cases.proofs.lists.rank.Tie as tie
+
+pub rank-spec : {M : Type 1} → statement M
+rank-spec =
+    tie.close
+    (tie.spec
+    (λ c κs. search needs)
+    (λ c. search needs)
+    (λ c. sym (length-take-le _ _ (search needs)))
+    (λ c κs. search needs)
+    (λ c κs. search needs)
+    (λ c κs. search needs)
+    (λ c. search needs)
+    (λ c. search needs))
