@@ -1,4 +1,3 @@
 -- What the walks share.
 pub mod Walk
-pub mod Again
 pub mod Lent

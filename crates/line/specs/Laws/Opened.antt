@@ -24,7 +24,7 @@ use Rattle.line.specs.Search.{nodeAt, nodesAt, nodesIn, nodesLeft, nearA
 use Rattle.line.specs.Laws.Line.{Low, WholeTree, moves-line, line-cons}
 use Rattle.line.specs.Laws.Decode.{tailOf, tail-low}
 use Rattle.line.specs.Laws.Places.{lower-le}
-use Rattle.line.specs.Laws.Search.{tail-high, tail-lower, tail-left, nodes-line}
+use Rattle.line.specs.Laws.Search.{tail-lower, tail-left, nodes-line}
 
 -- ---- a node and what follows it
 
@@ -217,13 +217,6 @@ module _ (rs : List Placed) (i : ℕ) (h : i < length rs) (d l : ℕ) where
 
   past-left : nodesIn (drop (lower l (drop (suc i) rs)) (drop (suc i) rs)) ≡ nodesLeft (heightAt rs (nodeEnd l i rs)) (drop (nodeEnd l i rs) rs)
   past-left = ap nodesIn past-node ∙ all-left rs (nodeEnd l i rs)
-
-  -- Where a node ends, one of its level or a higher one starts.
-  pub end-height : nodeEnd l i rs < length rs → l ≤ heightAt rs (nodeEnd l i rs)
-  unfolding heightAt
-  end-height b =
-      tail-high l (getD rs (nodeEnd l i rs) none) (drop (suc (nodeEnd l i rs)) rs)
-      (ap (tailOf l) (sym (past-node ∙ drop-cons rs (nodeEnd l i rs) none b)) ∙ tail-past l (drop (suc i) rs))
 
 -- ---- the turns of the search
 

@@ -2,17 +2,18 @@
 -- right part alone, and a node is found whole between the two.
 use Prim.Native.Nat.{ℕ, zero, suc, _+_, _≤_, _<_}
 use mathlib.Core.Bool.{Bool, true, false, cond}
-use mathlib.Core.Path.{_≡_, refl, sym, ap, ap₂, _∙_}
+use mathlib.Core.Logic.{_⊎_, inl, inr}
+use mathlib.Core.Path.{_≡_, refl, sym, ap, ap₂, _∙_, subst}
 use mathlib.Core.List.{List, [], _∷_, _++_, append-assoc}
 use native.Mathlib.Nat.{add-zero, add-suc, suc-add, zero-add, add-sub-cancel-left}
 use native.Mathlib.Omega.{arith}
-use borrow.Author.Tests.{le-leb, lt-leb}
+use borrow.Author.Tests.{leb-true, le-leb, lt-leb}
 use lib.Dec.{leb}
-use lib.ListN.{length, take, drop, set, length-set, length-drop, List·getD-append}
-use lib.Seq.{getD-append-add, getD-append-seam, take-append-le, drop-append-le, take-append-add, drop-append-add, set-append-left, set-append-seam, take-at, drop-at}
+use lib.ListN.{length, getD, take, drop, set, length-set, length-drop, List·getD-append}
+use lib.Seq.{getD-drop, getD-append-add, getD-append-seam, take-append-le, drop-append-le, take-append-add, drop-append-add, set-append-left, set-append-seam, take-at, drop-at}
 use Rattle.model.specs.Basics.{count}
 use Rattle.model.specs.Moves.{Move}
-use Rattle.model.specs.Laws.Bool.{condCases}
+use Rattle.model.specs.Laws.Bool.{testCases, condCases}
 use Rattle.model.specs.Laws.Basics.{each-mono, count-none}
 use Rattle.line.specs.Line.{Placed, none}
 use Rattle.line.specs.Laws.Line.{row, Low}
@@ -235,3 +236,30 @@ pub entry-next : (l s j : ℕ) (rs : List Placed) → entryAt l s (suc j) rs ≡
 unfolding entryAt
 entry-next l s zero rs = refl
 entry-next l s (suc j) rs = ap (λ (p : ℕ). nodeEnd l p rs) (entry-next l s j rs)
+
+-- ---- heights where nodes start
+
+module _ (l : ℕ) where
+  -- The row after the lower ones has height l or more; so has the row where a node starts, but that of the line, and where one ends.
+  lower-high : (rs : List Placed) → lower l rs < length rs → l ≤ heightAt rs (lower l rs)
+  unfolding lower heightAt
+  lower-high [] = λ h. absurd (omega arith)
+  lower-high (r ∷ rs) =
+      testCases (λ b. cond b 0 (suc (lower l rs)) < suc (length rs) → l ≤ getD (r ∷ rs) (cond b 0 (suc (lower l rs))) none .height) (leb l (r .height))
+      (λ e h. leb-true l (r .height) e)
+      (λ e h. lower-high rs (omega arith))
+
+  module _ (rs : List Placed) where
+    pub start-high : (p : ℕ) → (nodeStart l p rs ≡ 0) ⊎ (l ≤ heightAt rs (nodeStart l p rs))
+    unfolding nodeStart
+    start-high zero = inl refl
+    start-high (suc p) =
+        condCases (λ (s : ℕ). (s ≡ 0) ⊎ (l ≤ heightAt rs s)) (leb l (heightAt rs (suc p)))
+        (λ e. inr (leb-true l (heightAt rs (suc p)) e))
+        (λ e. start-high p)
+
+    pub end-high : (p : ℕ) → nodeEnd l p rs < length rs → l ≤ heightAt rs (nodeEnd l p rs)
+    unfolding nodeEnd heightAt
+    end-high p h =
+        subst (λ (r : Placed). l ≤ r .height) (getD-drop (suc p) rs (lower l (drop (suc p) rs)) none)
+        (lower-high (drop (suc p) rs) (omega (arith, length-drop (suc p) rs)))

@@ -1,7 +1,7 @@
 -- What sound memory gives of its rows, its marks and its moves, for its own c, d and n.
 use Prim.Native.Nat.{ℕ, zero, suc, _≤_, _<_}
 use mathlib.Core.Bool.{true, false, not}
-use mathlib.Core.List.{List, [], _∷_, map, List·Memᴰ, List·Memᴰ·head, List·Memᴰ·tail}
+use mathlib.Core.List.{List, [], _∷_, map}
 use mathlib.Core.Path.{_≡_, refl, sym, ap, _∙_, subst}
 use native.Mathlib.Nat.{le-of-suc-le-suc}
 use native.Mathlib.Omega.{arith}
@@ -16,7 +16,7 @@ use Rattle.model.specs.Calls.{memoryNeed}
 use Rattle.model.specs.Sound.{Fit}
 use Rattle.model.specs.Laws.Loading.{size-most}
 use Rattle.model.specs.Laws.Bool.{and-left, and-right, not-back}
-use Rattle.model.specs.Laws.Basics.{select-same, each-mem, any-false}
+use Rattle.model.specs.Laws.Basics.{mem-at, select-same, each-mem, any-false}
 use Rattle.line.specs.Line.{Placed, movesIn}
 use Rattle.promises.specs.Layout.{sizeIn, dimensionIn, countIn, numberIn, markIn, moveIn, placedIn, tab, lineFrom, lineIn, boardIn, keptFrom, keptIn}
 use Rattle.promises.specs.Sound.{Stands, Sound}
@@ -31,11 +31,6 @@ use Rattle.memory.specs.Laws.Lines.{movesIn-line}
 use Rattle.memory.specs.declared.sound.Head.{Head}
 use Rattle.memory.specs.declared.sound.Held.{Held}
 use Rattle.memory.specs.declared.sound.Held.the-variants as held
-
-mem-at : {A : Type 0} (xs : List A) (z : A) (i : ℕ) → i < length xs → List·Memᴰ (getD xs i z) xs
-mem-at [] z i h = absurd (omega arith)
-mem-at (x ∷ xs) z zero h = List·Memᴰ·head refl
-mem-at (x ∷ xs) z (suc i) h = List·Memᴰ·tail (mem-at xs z i (le-of-suc-le-suc h))
 
 no-other : (n : ℕ) (ns : List ℕ) → has n ns ≡ false → (i : ℕ) → i < length ns → n ≡ getD ns i 0 → ⊥
 unfolding has

@@ -4,7 +4,7 @@ use mathlib.Core.List.{List}
 use mathlib.Core.Logic.{_≢_}
 use mathlib.Core.Path.{_≡_, sym, ap, ap₂, _∙_}
 use native.Mathlib.Omega.{arith}
-use lib.ListN.{length, getD, take}
+use lib.ListN.{length, getD}
 use Rattle.zorder.specs.Address.{rowCosts}
 use Rattle.model.specs.Basics.{Each}
 use Rattle.model.specs.Moves.{Move}
@@ -15,7 +15,7 @@ use Rattle.promises.specs.Layout.{sizeIn, dimensionIn, countIn, numberIn, heigh
 use Rattle.memory.specs.Room.{Room, Numbers}
 use Rattle.memory.specs.Stores.{setHeight, setCosts}
 use Rattle.memory.specs.Frame.{Frame, MarksOnly, WorkOnly}
-use Rattle.promises.specs.Laws.Tab.{each-tab, length-tab, getD-tab, tab-ext, tab-set, tab-insert, take-tab, map-tab}
+use Rattle.promises.specs.Laws.Tab.{each-tab, length-tab, getD-tab, tab-ext, tab-set, tab-insert, map-tab}
 use Rattle.memory.specs.Laws.Places.{tab-each}
 use Rattle.memory.specs.Laws.Fields.{number-over-head, height-over-head, costs-over-head, costs-over-rows, number-over-marks, height-over-marks, costs-over-marks, number-over-costs, height-over-costs, number-over-work, height-over-work, costs-over-work}
 use Rattle.memory.specs.Laws.Stored.{setHeight-rows, setCosts-costs, number-setHeight, height-setHeight, height-setHeight-other, costs-setCosts-other}
@@ -46,10 +46,6 @@ module _ (c d n : ℕ) (m : List ℕ) where
   pub heightsIn-line : heightsIn (lineFrom c d n m) ≡ tab (heightIn c m) n
   unfolding lineFrom heightsIn placedIn
   heightsIn-line = map-tab (λ (r : Placed). r .height) (placedIn c d m) n
-
-  pub take-line : (k : ℕ) → k ≤ n → take k (lineFrom c d n m) ≡ lineFrom c d k m
-  unfolding lineFrom
-  take-line k h = take-tab (placedIn c d m) n k h
 
   pub numbers-each : Numbers c n m → Each (λ r. r .move .number < c) (lineFrom c d n m)
   unfolding lineFrom placedIn moveIn

@@ -95,9 +95,6 @@ setCount-head n m = frame-widen (omega arith) (omega arith) (setCount-frame n m)
 pub length-setNumber : (c i v : ℕ) (m : List ℕ) → length (setNumber c i v m) ≡ length m
 length-setNumber c i v m = setNumber-frame c i m v .length
 
-pub length-setHeight : (c i h : ℕ) (m : List ℕ) → length (setHeight c i h m) ≡ length m
-length-setHeight c i h m = setHeight-frame c i m h .length
-
 -- ---- the head
 
 module _ (c d n : ℕ) (m : List ℕ) (h : 16 ≤ length m) where

@@ -1,12 +1,12 @@
 -- Lists: members, the entries that pass a test, and how many.
-use Prim.Native.Nat.{ℕ, suc, _+_, _<_}
+use Prim.Native.Nat.{ℕ, zero, suc, _+_, _<_}
 use mathlib.Core.Bool.{Bool, true, false, cond, _&&_, _||_, or-assoc, and-assoc}
 use mathlib.Core.List.{List, [], _∷_, _++_, map, List·Memᴰ, List·Memᴰ·head, List·Memᴰ·tail, List·Memᴰ·not-nil, List·Memᴰ·cases-cons}
 use mathlib.Core.Logic.{_⊎_, inl, inr, ⊎-elim}
 use mathlib.Core.Path.{_≡_, refl, sym, ap, ap₂, _∙_, subst}
-use native.Mathlib.Nat.{zero-lt-suc}
+use native.Mathlib.Nat.{zero-lt-suc, not-suc-le-zero, le-of-suc-le-suc}
 use lib.Dec.{eqb}
-use lib.ListN.{length, length-append}
+use lib.ListN.{length, getD, set, length-append}
 use borrow.Author.Tests.{eqb-true, eq-eqb}
 use Rattle.model.specs.Basics.{Each, consIf, select, any, all, count, lastOr, equal}
 use Rattle.model.specs.Laws.Bool.{and-left, and-right, and-both, or-cases, or-left, or-right, or-false-left, or-false-right, or-false-both, same-test, both-ways}
@@ -41,6 +41,19 @@ module _ {A : Type 0} where
   pub each-right : (P : A → Type 0) (xs ys : List A) → Each P (xs ++ ys) → Each P ys
   each-right P [] ys es = es
   each-right P (x ∷ xs) ys es = each-right P xs ys (es .1)
+
+  pub mem-at : (xs : List A) (z : A) (i : ℕ) → i < length xs → List·Memᴰ (getD xs i z) xs
+  mem-at [] z i h = absurd (not-suc-le-zero h)
+  mem-at (x ∷ xs) z zero h = List·Memᴰ·head refl
+  mem-at (x ∷ xs) z (suc i) h = List·Memᴰ·tail (mem-at xs z i (le-of-suc-le-suc h))
+
+  pub each-at : (P : A → Type 0) (xs : List A) (i : ℕ) (z : A) → i < length xs → Each P xs → P (getD xs i z)
+  each-at P xs i z h es = each-mem P es (mem-at xs z i h)
+
+  pub each-set : (P : A → Type 0) (xs : List A) (i : ℕ) (z y : A) → (P (getD xs i z) → P y) → Each P xs → Each P (set xs i y)
+  each-set P [] i z y f es = tt
+  each-set P (x ∷ xs) zero z y f es = (f (es .0), es .1)
+  each-set P (x ∷ xs) (suc i) z y f es = (es .0, each-set P xs i z y f (es .1))
 
   pub last-mem : (x : A) (xs : List A) → List·Memᴰ (lastOr x xs) (x ∷ xs)
   unfolding lastOr

@@ -9,7 +9,7 @@ use borrow.Author.Tests.{not-false}
 use Rattle.zorder.specs.Between.{rowCosts, RowCosts, before, nearOf, farOf}
 use Rattle.zorder.specs.Laws.Between.{near-row, near-le, far-ge, near-part, far-part}
 use Rattle.model.specs.Basics.{Each, any, firstOr, lastOr}
-use Rattle.model.specs.Moves.{Move, noMove, zBefore, moveBefore, ordered}
+use Rattle.model.specs.Moves.{Move, zBefore, moveBefore, ordered}
 use Rattle.model.specs.Dominance.{dominates, hides}
 use Rattle.model.specs.Lists.{hidden, skyline}
 use Rattle.model.specs.Tree.{Entry, Tree, empty, rooted, movesUnder, movesOf}
@@ -17,7 +17,7 @@ use Rattle.model.specs.Nodes.{Node, nodeOf, nodesFrom, nodesOf, nearCorn
 use Rattle.model.specs.Sound.{Fit}
 use Rattle.model.specs.Laws.Bool.{byCases, not-flip, or-false-left, same-test, both-ways}
 use Rattle.model.specs.Laws.Basics.{each-mem, each-mono, mem-each, each-append, each-left, each-right, last-mem, any-mem, any-witness, any-mono, mem-pos}
-use Rattle.model.specs.Laws.Sorting.{rising-left, rising-right, rising-tail, first-least, last-greatest}
+use Rattle.model.specs.Laws.Sorting.{rising-left, rising-right, first-least, last-greatest}
 use Rattle.model.specs.Laws.Order.{move-order}
 use Rattle.model.specs.Laws.Dominance.{dominates-places, dominates-below, below-dominates, row-lengths}
 use Rattle.model.specs.Laws.Skyline.{skyline-mem, mem-skyline, skyline-hider}
@@ -157,14 +157,6 @@ unfolding opens
 unopened d all n n' f e =
     ap not (any-mono (λ m. dominates d (m .costs) (nearCornerOf d n)) (λ m. dominates d (m .costs) (nearCornerOf d n')) all f (not-false _ e))
 
-abbrev pub costsAt : List Move → ℕ → List ℕ
-costsAt ms i = getD ms i noMove .costs
-
-getD-in : (ms : List Move) (i : ℕ) → i < length ms → List·Memᴰ (getD ms i noMove) ms
-getD-in [] i k = absurd (omega arith)
-getD-in (m ∷ ms) zero k = List·Memᴰ·head refl
-getD-in (m ∷ ms) (suc i) k = List·Memᴰ·tail (getD-in ms i (omega arith))
-
 pub corner-row : (d : ℕ) (n : Node) → d ≤ rowCosts → RowCosts d (nearCornerOf d n)
 unfolding nearCornerOf
 corner-row d n = near-row d (n .first .costs) (n .last .costs)
@@ -181,14 +173,6 @@ module _ (d c : ℕ) (l : d ≤ rowCosts) where
   to-last [] es r m = absurd (List·Memᴰ·not-nil m)
   to-last (y ∷ ys) es r {x} m =
       no-earlier d (lastOr y ys) x (last-greatest (Fit c d) (moveBefore d) (move-order d c l) y x ys (es .0) (es .1) r m)
-
-  in-order : (ms : List Move) → Each (Fit c d) ms → ordered d ms ≡ true
-      → (i j : ℕ) → i ≤ j → j < length ms → before d (costsAt ms j) (costsAt ms i) ≡ false
-  unfolding ordered nodeOf firstOr
-  in-order [] es r i j a k = absurd (omega arith)
-  in-order (m ∷ ms) es r zero j a k = from-first (m ∷ ms) es r (getD-in (m ∷ ms) j k)
-  in-order (m ∷ ms) es r (suc i) zero a k = absurd (omega arith)
-  in-order (m ∷ ms) es r (suc i) (suc j) a k = in-order ms (es .1) (rising-tail (moveBefore d) m ms r) i j (omega arith) (omega arith)
 
   module _ (ms : List Move) (es : Each (Fit c d) ms) (r : ordered d ms ≡ true) where
     last-row : {x : Move} → List·Memᴰ x ms → RowCosts d (nodeOf ms .last .costs)

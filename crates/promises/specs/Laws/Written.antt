@@ -4,7 +4,7 @@ use mathlib.Core.Bool.{Bool, true, false, not, _&&_}
 use mathlib.Core.List.{List, map}
 use mathlib.Core.Path.{_≡_, sym, ap, _∙_}
 use native.Mathlib.Omega.{arith}
-use borrow.Author.Tests.{leb-true, ltb-true, le-leb, lt-leb, lt-ltb, le-ltb}
+use borrow.Author.Tests.{ltb-true, le-leb, lt-leb, lt-ltb, le-ltb}
 use lib.Dec.{leb, ltb}
 use lib.ListN.{length, drop, length-drop}
 use lib.Seq.{ext-getD, getD-drop}
@@ -13,7 +13,7 @@ use Rattle.model.specs.Tree.{Tree}
 use Rattle.model.specs.Loading.{loadTree}
 use Rattle.model.specs.Changing.{changeTree}
 use Rattle.model.specs.Calls.{Board, memoryNeed, loaded, Change, changed}
-use Rattle.model.specs.Laws.Bool.{and-left, and-right, and-both, and-false-right, or-false-both, or-left, or-right}
+use Rattle.model.specs.Laws.Bool.{and-right, and-both, and-false-right, or-false-both, or-left, or-right}
 use Rattle.promises.specs.Layout.{sizeIn, dimensionIn, boardIn}
 use Rattle.promises.specs.Sound.{Sound}
 use Rattle.promises.specs.Written.{inArea, changeWrites, loadWrites}
@@ -28,10 +28,6 @@ module _ (a b i : ℕ) where
   pub in-area : a ≤ i → i < b → inArea a b i ≡ true
   unfolding inArea
   in-area l u = and-both (leb a i) (ltb i b) (le-leb a i l) (lt-ltb i b u)
-
-  pub area-starts : inArea a b i ≡ true → a ≤ i
-  unfolding inArea
-  area-starts e = leb-true a i (and-left (leb a i) (ltb i b) e)
 
   pub area-ends : inArea a b i ≡ true → i < b
   unfolding inArea

@@ -12,6 +12,7 @@ use Rattle.line.specs.Line.{Placed}
 use Rattle.line.specs.Places as places
 use Rattle.line.specs.Places.{heightAt, nodeStart, nodeEnd, entries, entryAt}
 use Rattle.line.specs.Enter.{cutEntry, splitAt, cascade}
+use Rattle.line.specs.Laws.Places.{start-high}
 use Rattle.promises.specs.Layout.{heightIn, lineFrom}
 use Rattle.memory.specs.Room.{Numbers}
 use Rattle.memory.specs.Stores.{setHeight}
@@ -21,7 +22,6 @@ use Rattle.memory.specs.Laws.Stored.{setHeight-rows, number-setHeight, height-s
 use Rattle.memory.specs.Laws.Lines.{heightAt-line, line-setHeight}
 use Rattle.tree.specs.Rows.{NodeStart, NodeEnd, Entries}
 use Rattle.tree.specs.Split.{NodeOfNine, CutPlace, Cut, CascadeAsked, Cascaded}
-use Rattle.tree.specs.Laws.Entries.{start-high}
 
 -- ---- the cut made
 

@@ -10,6 +10,7 @@ use Rattle.model.specs.Moves.{Move, noMove, moveBefore, insert}
 use Rattle.model.specs.Tree.{Tree, movesOf}
 use Rattle.model.specs.Entering.{enterTree}
 use Rattle.model.specs.Sound.{Fit}
+use Rattle.model.specs.Laws.Basics.{each-at}
 use Rattle.model.specs.Laws.Sorting.{StrictOrder, each-insert}
 use Rattle.model.specs.Laws.Order.{move-order, off-board}
 use Rattle.model.specs.Laws.Tree.{ruled-filled}
@@ -30,7 +31,7 @@ use Rattle.tree.specs.Rows.{Inserted}
 use Rattle.tree.specs.Split.{CascadeAsked, Cascaded}
 use Rattle.tree.specs.Hold.{RowsHold, Enterable}
 use Rattle.tree.specs.Enter.{PutAsked, Put, EnterAsked, Entered}
-use Rattle.tree.specs.Laws.Putting.{placed-top, each-at, row-is}
+use Rattle.tree.specs.Laws.Putting.{placed-top, row-is}
 
 -- ---- rows that hold a tree
 

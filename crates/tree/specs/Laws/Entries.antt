@@ -2,20 +2,19 @@
 use Prim.Native.Nat.{ℕ, zero, suc, _+_, _-_, _≤_, _<_}
 use mathlib.Core.Bool.{Bool, cond}
 use mathlib.Core.List.{List, [], _∷_}
-use mathlib.Core.Logic.{_⊎_, inl, inr}
-use mathlib.Core.Path.{_≡_, refl, sym, ap, ap₂, _∙_, subst}
+use mathlib.Core.Path.{_≡_, sym, ap, ap₂, _∙_, subst}
 use native.Mathlib.Decide.{decLt}
 use native.Mathlib.Omega.{arith}
-use borrow.Author.Tests.{leb-true, le-leb}
+use borrow.Author.Tests.{le-leb}
 use lib.Dec.{leb}
-use lib.ListN.{length, getD, take, drop, length-drop, drop-of-length-le}
-use lib.Seq.{drop-cons, drop-drop, take-nil, getD-drop}
+use lib.ListN.{length, getD, take, drop, drop-of-length-le}
+use lib.Seq.{drop-cons, drop-drop, take-nil}
 use Rattle.model.specs.Basics.{count, select}
-use Rattle.model.specs.Laws.Bool.{testCases, condCases}
+use Rattle.model.specs.Laws.Bool.{testCases}
 use Rattle.model.specs.Laws.Basics.{count-cons}
 use Rattle.line.specs.Line.{Placed, none}
-use Rattle.line.specs.Places.{heightAt, lower, nodeStart, nodeEnd, entries, entryAt}
-use Rattle.line.specs.Laws.Places.{atLeast, end-past, entry-next}
+use Rattle.line.specs.Places.{heightAt, lower, nodeEnd, entries, entryAt}
+use Rattle.line.specs.Laws.Places.{atLeast, end-past, entry-next, end-high}
 
 module _ (l : ℕ) where
   -- Rows lower than l count for nothing.
@@ -41,30 +40,7 @@ module _ (l : ℕ) where
       let less : n - lower l rs ≡ suc n - suc (lower l rs) = omega arith in
       count-lower n rs ∙ ap (λ (k : ℕ). count (atLeast l) (take k (drop (lower l rs) rs))) less)
 
-  -- The row after them has height l or more.
-  lower-high : (rs : List Placed) → lower l rs < length rs → l ≤ heightAt rs (lower l rs)
-  unfolding lower heightAt
-  lower-high [] = λ h. absurd (omega arith)
-  lower-high (r ∷ rs) =
-      testCases (λ b. cond b 0 (suc (lower l rs)) < suc (length rs) → l ≤ getD (r ∷ rs) (cond b 0 (suc (lower l rs))) none .height) (leb l (r .height))
-      (λ e h. leb-true l (r .height) e)
-      (λ e h. lower-high rs (omega arith))
-
   module _ (rs : List Placed) where
-    pub start-high : (p : ℕ) → (nodeStart l p rs ≡ 0) ⊎ (l ≤ heightAt rs (nodeStart l p rs))
-    unfolding nodeStart
-    start-high zero = inl refl
-    start-high (suc p) =
-        condCases (λ (s : ℕ). (s ≡ 0) ⊎ (l ≤ heightAt rs s)) (leb l (heightAt rs (suc p)))
-        (λ e. inr (leb-true l (heightAt rs (suc p)) e))
-        (λ e. start-high p)
-
-    pub end-high : (p : ℕ) → nodeEnd l p rs < length rs → l ≤ heightAt rs (nodeEnd l p rs)
-    unfolding nodeEnd heightAt
-    end-high p h =
-        subst (λ (r : Placed). l ≤ r .height) (getD-drop (suc p) rs (lower l (drop (suc p) rs)) none)
-        (lower-high (drop (suc p) rs) (omega (arith, length-drop (suc p) rs)))
-
     module _ (e : ℕ) where
       -- What has entries starts before e and before the end of the line.
       entries-some : (s : ℕ) → 0 < entries l s e rs → (s < e) × (s < length rs)
@@ -104,7 +80,7 @@ module _ (l : ℕ) where
       entry-before (suc k) s t h =
           let in-line = entries-some s (omega arith) in
           subst (λ (q : ℕ). q < e) (sym (entry-next l s k rs))
-          (entry-before k (nodeEnd l s rs) (end-high s) (omega (arith, entries-next s (in-line .0) (in-line .1) (t (in-line .1)))))
+          (entry-before k (nodeEnd l s rs) (end-high l rs s) (omega (arith, entries-next s (in-line .0) (in-line .1) (t (in-line .1)))))
 
     pub entry-after : (s k : ℕ) → s + k ≤ entryAt l s k rs
     unfolding entryAt

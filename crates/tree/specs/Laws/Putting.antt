@@ -7,12 +7,12 @@ use native.Mathlib.Decide.{decLt}
 use native.Mathlib.Omega.{arith}
 use borrow.Author.Tests.{eq-eqb, ne-eqb}
 use lib.Dec.{ltb, eqb}
-use lib.ListN.{length, getD, take, drop, set, List·getD-eq-default}
+use lib.ListN.{length, take, drop, List·getD-eq-default}
 use Rattle.zorder.specs.Between.{sideOf}
 use Rattle.model.specs.Basics.{Each}
 use Rattle.model.specs.Moves.{Move}
 use Rattle.model.specs.Laws.Bool.{condCases, both-ways}
-use Rattle.model.specs.Laws.Basics.{each-append}
+use Rattle.model.specs.Laws.Basics.{each-append, each-set}
 use Rattle.model.specs.Laws.Tree.{each-take, each-drop}
 use Rattle.line.specs.Line.{Placed, none}
 use Rattle.line.specs.Places as places
@@ -109,17 +109,6 @@ unfolding placed insertAt places.setHeight heightAt
 placed-top d x p [] h = absurd (omega arith)
 placed-top d x zero (r ∷ rs) h = ap (λ (zs : List Placed). heightAt zs 0) (placed-over d x 0 (r ∷ rs) (takes-first d x 0 (r ∷ rs) refl))
 placed-top d x (suc p) (r ∷ rs) h = condCases (λ (zs : List Placed). heightAt zs 0 ≡ r .height) (takesOver d x (suc p) (r ∷ rs)) (λ e. refl) (λ e. refl)
-
-module _ {A : Type 0} (Q : A → Type 0) where
-  each-set : (xs : List A) (i : ℕ) (z y : A) → (Q (getD xs i z) → Q y) → Each Q xs → Each Q (set xs i y)
-  each-set [] i z y f es = tt
-  each-set (x ∷ xs) zero z y f es = (f (es .0), es .1)
-  each-set (x ∷ xs) (suc i) z y f es = (es .0, each-set xs i z y f (es .1))
-
-  pub each-at : (xs : List A) (i : ℕ) (z : A) → i < length xs → Each Q xs → Q (getD xs i z)
-  each-at [] i z h es = absurd (omega arith)
-  each-at (x ∷ xs) zero z h es = es .0
-  each-at (x ∷ xs) (suc i) z h es = each-at xs i z (omega arith) (es .1)
 
 module _ (P : Move → Type 0) where
   abbrev ofMove : Placed → Type 0

@@ -29,7 +29,8 @@ use Rattle.line.specs.Line.{Placed, none, lineOf, movesIn}
 use Rattle.line.specs.Places.{moveAt, heightAt, nodeEnd}
 use Rattle.line.specs.Search.{nearAt, passedAt, openedFrom, openedPast}
 use Rattle.line.specs.Laws.Line.{WholeTree, tree-whole}
-use Rattle.line.specs.Laws.Opened.{first-height, end-height, opened-all, opened-end, opened-upper, opened-leaf, opened-passed}
+use Rattle.line.specs.Laws.Places.{end-high}
+use Rattle.line.specs.Laws.Opened.{first-height, opened-all, opened-end, opened-upper, opened-leaf, opened-passed}
 use Rattle.promises.specs.Layout.{sizeIn, dimensionIn, countIn, numberIn, markIn, costsIn, moveIn, placedIn, lineFrom, lineIn, boardIn, keptFrom, keptIn}
 use Rattle.promises.specs.Sound.{Stands}
 use Rattle.promises.specs.Run.{Bytes}
@@ -201,7 +202,7 @@ module _ {c d n : ℕ} {m : List ℕ} (s : Searchable c d n m) where
         let high = level-height c d n m e k v in
         record {
           inside = f .within;
-          level = λ j. omega (arith, w .level h, high, ap (heightAt rs) (f .is d), f .is d, end-height rs i placed d l (omega (arith, f .is d, length-line c d n m)));
+          level = λ j. omega (arith, w .level h, high, ap (heightAt rs) (f .is d), f .is d, end-high l rs i (omega (arith, f .is d, length-line c d n m)));
           few = omega (arith, w .level h);
           total = omega (arith, g, ap (openedPast d rs) (f .is d), ap (openedFrom d rs e) high);
         }

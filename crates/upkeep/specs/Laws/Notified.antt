@@ -13,11 +13,6 @@ use Rattle.model.specs.Laws.Sorting.{StrictOrder, BeforeEach, select-insert, in
 use Rattle.model.specs.Laws.Skyline.{skyline-mem, mem-skyline}
 use Rattle.model.specs.Laws.Notice.{among, gone, mem-among, among-mem}
 
-and-not-swap : (a b : Bool) → ((not a && b) && not b) ≡ false
-and-not-swap true b = refl
-and-not-swap false true = refl
-and-not-swap false false = refl
-
 enter-order : (s l : Bool) → (s && not l) ≡ (not l && s)
 enter-order true true = refl
 enter-order true false = refl
