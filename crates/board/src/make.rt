@@ -9,7 +9,6 @@ use tree::withdraw_line;
 use upkeep::Plan;
 use upkeep::Upkeep;
 use upkeep::set_marks;
-ghost use mathlib.Core.Path.{_≡_};
 ghost use Rattle.dominance.specs.Move.{asMove};
 ghost use Rattle.board.specs.Change as spec;
 ghost use Rattle.board.specs.Plan as plan;

@@ -7,9 +7,8 @@ use Rattle.model.specs.Nodes.{nodesOpened}
 use Rattle.model.specs.Calls.{list, listOf, queryRefusal, queryRows}
 use Rattle.model.specs.Changing.{queryOpens}
 use Rattle.promises.specs.Layout.{boardIn, keptFrom}
-use Rattle.memory.specs.Room.{Room, Numbers}
 use Rattle.memory.specs.Held.{SoundAt}
-use Rattle.memory.specs.Laws.Held.{held-room, held-few, held-numbers, held-kept}
+use Rattle.memory.specs.Laws.Held.{held-kept}
 use Rattle.tree.specs.Search.{Opened}
 use Rattle.memory.specs.declared.sound.Head.{Head}
 use Rattle.upkeep.specs.Planned.{isMarked, Finds, QueryPlanned, foundMoves, PlansFound}

@@ -5,24 +5,23 @@ use Prim.Native.Nat.{ℕ, _<_}
 use mathlib.Core.Bool.{Bool, true, false, not, cond, _&&_, _||_, or-false}
 use mathlib.Core.List.{List, map, List·Memᴰ, Memᴰ·of-map}
 use mathlib.Core.Path.{_≡_, refl, sym, ap, _∙_, subst}
-use borrow.Author.Tests.{eqb-true, eq-eqb, lt-ltb, not-false}
+use borrow.Author.Tests.{eqb-true, lt-ltb, not-false}
 use lib.Dec.{eqb, ltb}
 use Rattle.model.specs.Basics.{select, any, count, numbersFrom}
 use Rattle.model.specs.Moves.{Move, moveBefore, insert}
 use Rattle.model.specs.Dominance.{hides}
 use Rattle.model.specs.Lists.{hidden, skyline}
 use Rattle.model.specs.Sound.{Fit}
-use Rattle.model.specs.Laws.Bool.{testCases, both-ways, and-both, and-left, and-right, same-test}
-use Rattle.model.specs.Laws.Basics.{each-mem, any-map, any-select, any-mem, any-witness, any-mono, count-ext}
+use Rattle.model.specs.Laws.Bool.{testCases, both-ways, and-both, and-right}
+use Rattle.model.specs.Laws.Basics.{each-mem, any-map, any-select, any-mem, any-mono, count-ext}
 use Rattle.model.specs.Laws.Skyline.{HiderIn, skyline-mem, enter-hidden, skyline-hider, enter-hidden-self}
 use Rattle.line.specs.Line.{movesIn}
 use Rattle.promises.specs.Layout.{numberIn, moveIn, lineFrom}
 use Rattle.promises.specs.Run.{Bytes}
 use Rattle.dominance.specs.Move.{asMove}
 use Rattle.memory.specs.Held.{SoundAt}
-use Rattle.memory.specs.Tests.{anyTo, isListed}
+use Rattle.memory.specs.Tests.{isListed}
 use Rattle.memory.specs.Laws.Lines.{movesIn-line}
-use Rattle.memory.specs.Laws.Places.{anyTo-found}
 use Rattle.memory.specs.Laws.Held.{held-dimension, held-order, held-listed, held-fit, held-fit-at, held-once}
 use Rattle.numbers.specs.Set.{inSet}
 use Rattle.upkeep.specs.Change.{dropAt, movesAfter, stays, hiddenByOthers, hiddenByComing, comesUp, leaves, leavesAt, entersAt, Passing, Looked, Upkept}

@@ -6,7 +6,7 @@ use mathlib.Core.Path.{_≡_, sym, ap, _∙_, subst}
 use native.Mathlib.Omega.{arith}
 use lib.ListN.{length, length-map}
 use Rattle.model.specs.Basics.{select, count, numbersFrom}
-use Rattle.model.specs.Moves.{Move, listed, rowOf}
+use Rattle.model.specs.Moves.{listed, rowOf}
 use Rattle.model.specs.Lists.{listedRows}
 use Rattle.model.specs.Laws.Basics.{select-ext, select-map}
 use Rattle.line.specs.Line.{movesIn}

@@ -11,15 +11,13 @@ use Rattle.model.specs.Lists.{listedRows}
 use Rattle.model.specs.Tree.{Tree}
 use Rattle.model.specs.Calls as calls
 use Rattle.model.specs.Calls.{accepted, refusedWith, orElse, rowsAnswer, Query, queryRefusal, queryRows, queryAnswer}
-use Rattle.model.specs.Changing.{queryOpens}
-use Rattle.promises.specs.Layout.{dimensionIn, boardIn}
+use Rattle.promises.specs.Layout.{boardIn}
 use Rattle.memory.specs.declared.sound.Head.{Head}
 use Rattle.promises.specs.Sound.{Stands, Sound}
 use Rattle.promises.specs.Answers.{answerOf, numberOf, detailOf, counted, rowsAfter, resultRow}
 use Rattle.promises.specs.Promise.{Said, UnsoundSaid, QueryPromise}
 use Rattle.promises.specs.declared.Verdict.{Verdict}
 use Rattle.promises.specs.declared.Verdict.the-variants.{Accepted, Unsound, BadArgument, FewRows}
-use Rattle.memory.specs.Held.{SoundAt}
 use Rattle.upkeep.specs.Telling.{toldRows}
 use Rattle.upkeep.specs.Planned.{Finds, TellsNumbers, Nothing, answerIn, Answered, Plans, QueryPlanned, foundMoves, PlansFound}
 use Rattle.upkeep.specs.Laws.Telling.{length-none}

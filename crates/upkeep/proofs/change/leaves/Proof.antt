@@ -7,7 +7,6 @@ use native.Mathlib.Omega.{arith}
 use borrow.Author.Needs.{needs}
 use borrow.Author.Tests.{eq-eqb, ne-eqb, not-true, not-false}
 use lib.Dec.{eqb}
-use Rattle.model.specs.Moves.{Move}
 use Rattle.promises.specs.Layout.{moveIn}
 use Rattle.memory.specs.Tests.{isListed}
 use Rattle.memory.specs.Laws.Turns.{listed-at}
