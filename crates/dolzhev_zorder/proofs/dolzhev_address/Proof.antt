@@ -4,16 +4,10 @@ use borrow.Author.Needs.{needs}
 use Rattle.dolzhev_zorder.proofs.dolzhev_address.Statement.{statement}
 use Rattle.dolzhev_zorder.proofs.dolzhev_address.Tie as tie
 
-address-requires : tie.Need-address-requires
-address-requires c κs = search needs
-
-number-of-requires : tie.Need-number-of-requires
-number-of-requires c κs = search needs
-
 returns : tie.Need-returns
 returns c =
     let promise = c .before .address .ensures in
     record { verdict = _; refusal = c .number-of .ensures; detail = sym (promise .detail); promise = promise }
 
 pub dolzhev-address-spec : {M : Type 1} → statement M
-dolzhev-address-spec = tie.close (tie.spec address-requires number-of-requires returns)
+dolzhev-address-spec = tie.close (tie.spec (λ c κs. search needs) (λ c κs. search needs) returns)

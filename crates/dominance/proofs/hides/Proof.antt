@@ -4,12 +4,9 @@ use Rattle.model.specs.Dominance.{hides}
 use Rattle.dominance.proofs.hides.Statement.{statement}
 use Rattle.dominance.proofs.hides.Tie as tie
 
-dominates-requires : tie.Need-dominates-requires
-dominates-requires c κs = search needs
-
 returns : tie.Need-returns
 unfolding hides
 returns c = search needs
 
 pub hides-spec : {M : Type 1} → statement M
-hides-spec = tie.close (tie.spec dominates-requires returns)
+hides-spec = tie.close (tie.spec (λ c κs. search needs) returns)

@@ -15,9 +15,6 @@ Inv-loop m₀ out₀ p₀ turns₀ m out p turns = Ready (p .dimension) m × Len
 abbrev μ-loop : tie.MeasureT-loop
 μ-loop m₀ out₀ p₀ turns₀ m out p turns = turns
 
-start-requires : tie.Need-start-requires Inv-loop μ-loop
-start-requires c κs = search needs
-
 loop-holds : tie.Need-loop-holds Inv-loop μ-loop
 unfolding StateIn memoryNeed
 loop-holds c = (
@@ -29,18 +26,9 @@ slice-aggregate-answer-read : tie.Need-slice-aggregate-answer-read Inv-loop μ-l
 unfolding memoryNeed
 slice-aggregate-answer-read c = omega arith
 
-slice-aggregate-answer-read-2 : tie.Need-slice-aggregate-answer-read-2 Inv-loop μ-loop
-slice-aggregate-answer-read-2 c = omega arith
-
-answer-read-requires : tie.Need-answer-read-requires Inv-loop μ-loop
-answer-read-requires c κs = search needs
-
 slice-aggregate-finish : tie.Need-slice-aggregate-finish Inv-loop μ-loop
 unfolding memoryNeed
 slice-aggregate-finish c = omega arith
-
-slice-aggregate-finish-2 : tie.Need-slice-aggregate-finish-2 Inv-loop μ-loop
-slice-aggregate-finish-2 c = omega arith
 
 finish-requires : tie.Need-finish-requires Inv-loop μ-loop
 finish-requires c κs =
@@ -52,24 +40,9 @@ array-share-prefix-out c = omega (arith, c .before .before .finish .ensures .wit
 slice-aggregate-write-all : tie.Need-slice-aggregate-write-all Inv-loop μ-loop
 slice-aggregate-write-all c = sym (length-take-le _ _ (c .before .before .before .finish .ensures .within))
 
-write-all-requires : tie.Need-write-all-requires Inv-loop μ-loop
-write-all-requires c κs = search needs
-
-returns : tie.Need-returns Inv-loop μ-loop
-returns c = search needs
-
-sub-turns : tie.Need-sub-turns Inv-loop μ-loop
-sub-turns c = omega arith
-
-loop-less : tie.Need-loop-less Inv-loop μ-loop
-loop-less c = omega arith
-
 loop-again : tie.Need-loop-again Inv-loop μ-loop
 loop-again c =
     (c .before .before .before .before .before .answer-read .ensures, record { memory = omega arith; text = omega arith })
-
-returns-2 : tie.Need-returns-2 Inv-loop μ-loop
-returns-2 c = search needs
 
 pub main-spec : {M : Type 1} → statement M
 main-spec =
@@ -77,19 +50,19 @@ main-spec =
     (tie.spec
     Inv-loop
     μ-loop
-    start-requires
+    (λ c κs. search needs)
     loop-holds
     slice-aggregate-answer-read
-    slice-aggregate-answer-read-2
-    answer-read-requires
+    (λ c. omega arith)
+    (λ c κs. search needs)
     slice-aggregate-finish
-    slice-aggregate-finish-2
+    (λ c. omega arith)
     finish-requires
     array-share-prefix-out
     slice-aggregate-write-all
-    write-all-requires
-    returns
-    sub-turns
-    loop-less
+    (λ c κs. search needs)
+    (λ c. search needs)
+    (λ c. omega arith)
+    (λ c. omega arith)
     loop-again
-    returns-2)
+    (λ c. search needs))

@@ -54,27 +54,6 @@ module _ (ws : List ℕ) (n : ℕ) (fits : n / 64 < length ws) where
       by-number (no d) =
           ap (λ (b : ℕ). eqb b 1) (bit-other k d) ∙ ap (λ (b : Bool). b || inSet ws k) (sym (ne-eqb k n d))
 
-cast-at : tie.Need-cast-at
-cast-at c = search needs
-
-mul-words : tie.Need-mul-words
-mul-words c = search needs
-
-slice-read-words : tie.Need-slice-read-words
-slice-read-words c = search needs
-
-cast-words : tie.Need-cast-words
-cast-words c = search needs
-
-shl-words : tie.Need-shl-words
-shl-words c = search needs
-
-mul-words-2 : tie.Need-mul-words-2
-mul-words-2 c = search needs
-
-slice-write-words : tie.Need-slice-write-words
-slice-write-words c = search needs
-
 returns : tie.Need-returns
 returns c =
     let a = c .before .before .args in
@@ -87,11 +66,11 @@ pub add-spec : {M : Type 1} → statement M
 add-spec =
     tie.close
     (tie.spec
-    cast-at
-    mul-words
-    slice-read-words
-    cast-words
-    shl-words
-    mul-words-2
-    slice-write-words
+    (λ c. search needs)
+    (λ c. search needs)
+    (λ c. search needs)
+    (λ c. search needs)
+    (λ c. search needs)
+    (λ c. search needs)
+    (λ c. search needs)
     returns)

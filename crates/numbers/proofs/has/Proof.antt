@@ -9,21 +9,6 @@ use Rattle.numbers.specs.Set.{inSet}
 use Rattle.numbers.proofs.has.Statement.{statement}
 use Rattle.numbers.proofs.has.Tie as tie
 
-cast-at : tie.Need-cast-at
-cast-at c = search needs
-
-mul-result : tie.Need-mul-result
-mul-result c = search needs
-
-element-copy-out-result : tie.Need-element-copy-out-result
-element-copy-out-result c = search needs
-
-cast-result : tie.Need-cast-result
-cast-result c = search needs
-
-shr-result : tie.Need-shr-result
-shr-result c = search needs
-
 returns : tie.Need-returns
 unfolding inSet
 returns c =
@@ -31,4 +16,4 @@ returns c =
     ap (λ (b : ℕ). eqb b 1) (and-mask (getD (a .set .now) (a .n / 64) 0 / 2 ^ (a .n % 64)) 1)
 
 pub has-spec : {M : Type 1} → statement M
-has-spec = tie.close (tie.spec cast-at mul-result element-copy-out-result cast-result shr-result returns)
+has-spec = tie.close (tie.spec (λ c. search needs) (λ c. search needs) (λ c. search needs) (λ c. search needs) (λ c. search needs) returns)

@@ -5,15 +5,6 @@ use Rattle.board.specs.Kind.{comes}
 use Rattle.board.proofs.judge.comes.Statement.{statement}
 use Rattle.board.proofs.judge.comes.Tie as tie
 
-enum-told : tie.Need-enum-told
-enum-told c = search needs
-
-enum-told-2 : tie.Need-enum-told-2
-enum-told-2 c = search needs
-
-enum-told-3 : tie.Need-enum-told-3
-enum-told-3 c = search needs
-
 returns : tie.Need-returns
 unfolding comes
 returns c = sym (ap comes (c .enum-told .given .1))
@@ -27,4 +18,4 @@ unfolding comes
 returns-3 c = sym (ap comes (c .enum-told3 .given .1))
 
 pub comes-spec : {M : Type 1} → statement M
-comes-spec = tie.close (tie.spec enum-told enum-told-2 enum-told-3 returns returns-2 returns-3)
+comes-spec = tie.close (tie.spec (λ c. search needs) (λ c. search needs) (λ c. search needs) returns returns-2 returns-3)

@@ -15,20 +15,11 @@ use Rattle.board.specs.Laws.Judge.{judges-by}
 use Rattle.board.proofs.judge.judge.Statement.{statement}
 use Rattle.board.proofs.judge.judge.Tie as tie
 
-cast-if1 : tie.Need-cast-if1
-cast-if1 c = search needs
-
 returns : tie.Need-returns
 unfolding refusal refusedWith answerOf numberOf detailOf
 returns c =
     let a = c .before .before .before .args in
     judges-by (a .kind) (a .h) (a .x) (a .on) true _ _ (le-leb (a .h .size) (a .x .number) (c .if1 .taken)) refl refl refl
-
-comes-requires : tie.Need-comes-requires
-comes-requires c κs = search needs
-
-zero-past-requires : tie.Need-zero-past-requires
-zero-past-requires c κs = search needs
 
 returns-2 : tie.Need-returns-2
 unfolding refusal refusedWith answerOf numberOf detailOf costPastBad
@@ -46,9 +37,6 @@ passed c =
     (λ w. ap₂ _&&_ (sym (c .before .comes .ensures) ∙ w .0 .taken) (ap not (sym (w .1 .ensures)) ∙ w .2 .left))
     (λ w. ap₂ _&&_ (sym (c .before .comes .ensures) ∙ w .left) refl)
     (c .if2 .came)
-
-is-new-requires : tie.Need-is-new-requires
-is-new-requires c κs = search needs
 
 -- By the last check alone.
 last : (k : ℕ) {b b' : Bool} → b ≡ b' → refusedWith (refusal ((false, 4) ∷ (false, 7) ∷ (b', k) ∷ [])) ≡ refusedWith (refusal ((false, 4) ∷ (false, 7) ∷ (b, k) ∷ []))
@@ -86,12 +74,12 @@ pub judge-spec : {M : Type 1} → statement M
 judge-spec =
     tie.close
     (tie.spec
-    cast-if1
+    (λ c. search needs)
     returns
-    comes-requires
-    zero-past-requires
+    (λ c κs. search needs)
+    (λ c κs. search needs)
     returns-2
-    is-new-requires
+    (λ c κs. search needs)
     returns-3
     returns-4
     returns-5

@@ -16,9 +16,6 @@ make-withdraw-requires c κs =
     let start = makes .before .before .before in
     withdraw-prepared (start .pre .prepared (not-false _ (makes .if1 .left))) (not-true _ (c .before .if2 .taken))
 
-same-length : tie.Need-same-length
-same-length c = search needs
-
 returns-2 : tie.Need-returns-2
 returns-2 c =
     let comes = c .before .before .before .before in
@@ -31,9 +28,6 @@ make-recost-requires c κs =
     let makes = comes .before .before .before .before .before .before in
     let start = makes .before .before .before in
     recost-prepared (start .pre .prepared (not-false _ (makes .if1 .left))) (not-false _ (comes .if2 .left)) (c .before .if3 .taken)
-
-same-length-2 : tie.Need-same-length-2
-same-length-2 c = search needs
 
 returns-3 : tie.Need-returns-3
 returns-3 c =
@@ -49,9 +43,6 @@ make-enter-requires c κs =
     let start = makes .before .before .before in
     enter-prepared (start .pre .prepared (not-false _ (makes .if1 .left))) (not-false _ (comes .if2 .left)) (c .before .if3 .left)
 
-same-length-3 : tie.Need-same-length-3
-same-length-3 c = search needs
-
 returns-4 : tie.Need-returns-4
 returns-4 c =
     let goes = c .before .before .before .before in
@@ -65,11 +56,11 @@ carry-out-spec =
     (tie.spec
     returns
     make-withdraw-requires
-    same-length
+    (λ c. search needs)
     returns-2
     make-recost-requires
-    same-length-2
+    (λ c. search needs)
     returns-3
     make-enter-requires
-    same-length-3
+    (λ c. search needs)
     returns-4)

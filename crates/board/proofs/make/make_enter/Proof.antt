@@ -42,9 +42,6 @@ enter-line-requires c κs =
     let bytes : Bytes (start .args .m .now) = λ i. omega (arith, marks .before .before .before .slice-known .given i) in
     enter-line-asked (start .pre) bytes (marks .set-marks .ensures) (listed .set-listed .ensures) (costs .set-costs .ensures)
 
-add-set-count : tie.Need-add-set-count
-add-set-count c = search needs
-
 set-count-requires : tie.Need-set-count-requires
 unfolding Bytes
 set-count-requires c κs =
@@ -55,9 +52,6 @@ set-count-requires c κs =
     let start = marks .before .before .before .before in
     let bytes : Bytes (start .args .m .now) = λ i. omega (arith, marks .before .before .before .slice-known .given i) in
     enter-count-asked (start .pre) bytes (marks .set-marks .ensures) (listed .set-listed .ensures) (costs .set-costs .ensures) (entered .enter-line .ensures)
-
-same-length : tie.Need-same-length
-same-length c = search needs
 
 returns : tie.Need-returns
 unfolding Bytes
@@ -79,7 +73,7 @@ make-enter-spec =
     set-listed-requires
     set-costs-requires
     enter-line-requires
-    add-set-count
+    (λ c. search needs)
     set-count-requires
-    same-length
+    (λ c. search needs)
     returns)

@@ -43,9 +43,6 @@ set-costs-requires c κs =
     coming-asked (start .pre .asked) refl
     (recost-written (start .pre) bytes (marks .set-marks .ensures) (listed .set-listed .ensures) (gone .withdraw-line .ensures))
 
-sub-enter-line : tie.Need-sub-enter-line
-sub-enter-line c = search needs
-
 enter-line-requires : tie.Need-enter-line-requires
 unfolding Bytes
 enter-line-requires c κs =
@@ -69,9 +66,6 @@ set-count-requires c κs =
     let bytes : Bytes (start .args .m .now) = λ i. omega (arith, marks .before .before .before .slice-known .given i) in
     recost-count-asked (start .pre) bytes (marks .set-marks .ensures) (listed .set-listed .ensures) (gone .withdraw-line .ensures) (costs .set-costs .ensures) (entered .enter-line .ensures)
 
-same-length : tie.Need-same-length
-same-length c = search needs
-
 returns : tie.Need-returns
 unfolding Bytes
 returns c =
@@ -93,8 +87,8 @@ make-recost-spec =
     set-listed-requires
     withdraw-line-requires
     set-costs-requires
-    sub-enter-line
+    (λ c. search needs)
     enter-line-requires
     set-count-requires
-    same-length
+    (λ c. search needs)
     returns)

@@ -22,9 +22,6 @@ withdraw-line-requires c κs =
     let bytes : Bytes (start .args .m .now) = λ i. omega (arith, marks .before .before .slice-known .given i) in
     withdraw-line-asked (start .pre) bytes (marks .set-marks .ensures)
 
-sub-set-count : tie.Need-sub-set-count
-sub-set-count c = search needs
-
 set-count-requires : tie.Need-set-count-requires
 unfolding Bytes
 set-count-requires c κs =
@@ -33,9 +30,6 @@ set-count-requires c κs =
     let start = marks .before .before .before in
     let bytes : Bytes (start .args .m .now) = λ i. omega (arith, marks .before .before .slice-known .given i) in
     withdraw-count-asked (start .pre) bytes (marks .set-marks .ensures) (gone .withdraw-line .ensures)
-
-same-length : tie.Need-same-length
-same-length c = search needs
 
 returns : tie.Need-returns
 unfolding Bytes
@@ -49,4 +43,4 @@ returns c =
 
 pub make-withdraw-spec : {M : Type 1} → statement M
 make-withdraw-spec =
-    tie.close (tie.spec set-marks-requires withdraw-line-requires sub-set-count set-count-requires same-length returns)
+    tie.close (tie.spec set-marks-requires withdraw-line-requires (λ c. search needs) set-count-requires (λ c. search needs) returns)

@@ -10,12 +10,6 @@ use Rattle.board.proofs.Keys.{key-refuses, key-number}
 use Rattle.board.proofs.plan.plan_of.Statement.{statement}
 use Rattle.board.proofs.plan.plan_of.Tie as tie
 
-enum-told : tie.Need-enum-told
-enum-told c = search needs
-
-nothing-requires : tie.Need-nothing-requires
-nothing-requires c κs = search needs
-
 returns : tie.Need-returns
 unfolding Bytes
 returns c =
@@ -25,9 +19,6 @@ returns c =
 
 alike-requires : tie.Need-alike-requires
 alike-requires c κs = held-readable (c .before .before .before .pre .sound)
-
-nothing-requires-2 : tie.Need-nothing-requires-2
-nothing-requires-2 c κs = search needs
 
 returns-2 : tie.Need-returns-2
 unfolding Bytes
@@ -50,9 +41,6 @@ needed-requires c κs =
     let found = c .before .before .before .before in
     let start = found .before .before in
     upkeep-counted (start .pre .ready (key-number (start .args .v) (found .match .keys1)) .asked) (c .upkeep-of .ensures)
-
-nothing-requires-3 : tie.Need-nothing-requires-3
-nothing-requires-3 c κs = search needs
 
 returns-3 : tie.Need-returns-3
 unfolding Bytes
@@ -85,15 +73,15 @@ pub plan-of-spec : {M : Type 1} → statement M
 plan-of-spec =
     tie.close
     (tie.spec
-    enum-told
-    nothing-requires
+    (λ c. search needs)
+    (λ c κs. search needs)
     returns
     alike-requires
-    nothing-requires-2
+    (λ c κs. search needs)
     returns-2
     upkeep-of-requires
     needed-requires
-    nothing-requires-3
+    (λ c κs. search needs)
     returns-3
     coming-place-requires
     returns-4)

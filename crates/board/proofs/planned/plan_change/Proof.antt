@@ -48,18 +48,6 @@ bytes : (c : tie.After-known-told) → Bytes (c .before .before .before .before 
 unfolding Bytes
 bytes c i = omega (arith, c .before .before .before .before .shared-slice-known .given i)
 
-sound-head-requires : tie.Need-sound-head-requires
-sound-head-requires c κs = search needs
-
-enum-known-h : tie.Need-enum-known-h
-enum-known-h c = search needs
-
-enum-told : tie.Need-enum-told
-enum-told c = search needs
-
-nothing-requires : tie.Need-nothing-requires
-nothing-requires c κs = search needs
-
 returns : tie.Need-returns
 returns c = plan-unsound (unsound-held (c .before .before .before .sound-head .ensures) (c .before .enum-told .given .1)) (c .nothing .ensures)
 
@@ -68,9 +56,6 @@ place-of-requires c κs = let s = sound-at c in record { room = held-room _ _ _ 
 
 judge-requires : tie.Need-judge-requires
 judge-requires c κs = held-dimension _ _ _ _ (sound-at (c .before .before))
-
-comes-requires : tie.Need-comes-requires
-comes-requires c κs = search needs
 
 plan-of-requires : tie.Need-plan-of-requires
 plan-of-requires c κs =
@@ -92,13 +77,13 @@ pub plan-change-spec : {M : Type 1} → statement M
 plan-change-spec =
     tie.close
     (tie.spec
-    sound-head-requires
-    enum-known-h
-    enum-told
-    nothing-requires
+    (λ c κs. search needs)
+    (λ c. search needs)
+    (λ c. search needs)
+    (λ c κs. search needs)
     returns
     place-of-requires
     judge-requires
-    comes-requires
+    (λ c κs. search needs)
     plan-of-requires
     returns-2)

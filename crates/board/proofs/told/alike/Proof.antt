@@ -30,17 +30,11 @@ returns-2 c =
     let a = c .before .before .before .before .args in
     alike-by (a .h .size) (a .h .dimension) (a .h .count) (a .k) (a .m .now) true false (not-false _ (c .before .if1 .left)) (le-ltb _ _ (c .if2 .taken))
 
-number-at-requires : tie.Need-number-at-requires
-number-at-requires c κs = search needs
-
 costs-of-requires : tie.Need-costs-of-requires
 costs-of-requires c κs =
     let start = c .before .before .before .before .before .before .before in
     let below = start .pre .numbers (start .args .k .goes) (c .before .before .before .if2 .left) in
     (start .pre .room, omega (arith, c .number-at .ensures, below), start .pre .dimension)
-
-same-requires : tie.Need-same-requires
-same-requires c κs = search needs
 
 returns-3 : tie.Need-returns-3
 returns-3 c =
@@ -52,4 +46,4 @@ returns-3 c =
     ∙ alike-by (a .h .size) (a .h .dimension) (a .h .count) (a .k) (a .m .now) true true (not-false _ (comes .if1 .left)) (lt-ltb _ _ (inside .if2 .left))
 
 pub alike-spec : {M : Type 1} → statement M
-alike-spec = tie.close (tie.spec returns returns-2 number-at-requires costs-of-requires same-requires returns-3)
+alike-spec = tie.close (tie.spec returns returns-2 (λ c κs. search needs) costs-of-requires (λ c κs. search needs) returns-3)

@@ -9,11 +9,5 @@ use Rattle.board.proofs.told.coming_place.Tie as tie
 returns : tie.Need-returns
 returns c = record { within = omega arith; is = λ e. both-ways e (not-true _ (c .if1 .taken)) }
 
-place-for-requires : tie.Need-place-for-requires
-place-for-requires c κs = search needs
-
-returns-2 : tie.Need-returns-2
-returns-2 c = search needs
-
 pub coming-place-spec : {M : Type 1} → statement M
-coming-place-spec = tie.close (tie.spec returns place-for-requires returns-2)
+coming-place-spec = tie.close (tie.spec returns (λ c κs. search needs) (λ c. search needs))

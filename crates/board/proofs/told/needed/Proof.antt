@@ -8,20 +8,11 @@ use Rattle.board.specs.Change.{neededRows}
 use Rattle.board.proofs.told.needed.Statement.{statement}
 use Rattle.board.proofs.told.needed.Tie as tie
 
-add-result : tie.Need-add-result
-add-result c = search needs
-
-add-result-2 : tie.Need-add-result-2
-add-result-2 c = search needs
-
 returns : tie.Need-returns
 unfolding neededRows
 returns c =
     let u = c .before .before .args .u in
     ap (λ (b : Bool). u .left + u .entered + cond b 1 0) (sym (c .before .if1 .taken))
-
-add-result-3 : tie.Need-add-result-3
-add-result-3 c = search needs
 
 returns-2 : tie.Need-returns-2
 unfolding neededRows
@@ -31,4 +22,4 @@ returns-2 c =
     omega arith
 
 pub needed-spec : {M : Type 1} → statement M
-needed-spec = tie.close (tie.spec add-result add-result-2 returns add-result-3 returns-2)
+needed-spec = tie.close (tie.spec (λ c. search needs) (λ c. search needs) returns (λ c. search needs) returns-2)

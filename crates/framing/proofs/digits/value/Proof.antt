@@ -26,9 +26,6 @@ returns-3 c =
     let b : ℕ = c .before .before .before .args .b in
     (simp (le-leb 48 b (omega arith), lt-leb b 57 (c .before .if2 .left), lt-leb 65 b (c .if3 .taken)), omega arith)
 
-sub-result : tie.Need-sub-result
-sub-result c = search needs
-
 returns-4 : tie.Need-returns-4
 unfolding valueOf within
 returns-4 c =
@@ -46,4 +43,4 @@ returns-5 c =
     )
 
 pub value-spec : {M : Type 1} → statement M
-value-spec = tie.close (tie.spec returns returns-2 returns-3 sub-result returns-4 returns-5)
+value-spec = tie.close (tie.spec returns returns-2 returns-3 (λ c. search needs) returns-4 returns-5)

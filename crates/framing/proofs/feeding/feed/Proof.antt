@@ -6,30 +6,15 @@ use Rattle.framing.specs.Laws.Feeding.{feeds-none, feeds-line}
 use Rattle.framing.proofs.feeding.feed.Statement.{statement}
 use Rattle.framing.proofs.feeding.feed.Tie as tie
 
-read-on-requires : tie.Need-read-on-requires
-read-on-requires c κs = search needs
-
 returns : tie.Need-returns
 returns c =
     let start = c .before .before .before .before .before .before .before .before in
     let read = c .before .before .before .read-on in
     feeds-none (start .args .p) _ _ (read .result) (read .ensures) _ (not-true _ (c .if1 .taken)) (start .pre .0)
 
-answer-requires : tie.Need-answer-requires
-answer-requires c κs = search needs
-
-new-requires : tie.Need-new-requires
-new-requires c κs = search needs
-
 add-t18 : tie.Need-add-t18
 add-t18 c =
     omega (arith, c .before .before .before .before .before .before .before .before .before .before .before .before .before .before .before .before .good, c .before .before .before .before .before .before .before .before .before .before .before .read-on .ensures .ended (not-false _ (c .before .before .before .before .before .before .before .before .if1 .left)) .0)
-
-same-length : tie.Need-same-length
-same-length c = search needs
-
-same-length-2 : tie.Need-same-length-2
-same-length-2 c = search needs
 
 returns-2 : tie.Need-returns-2
 returns-2 c =
@@ -42,11 +27,11 @@ pub feed-spec : {M : Type 1} → statement M
 feed-spec =
     tie.close
     (tie.spec
-    read-on-requires
+    (λ c κs. search needs)
     returns
-    answer-requires
-    new-requires
+    (λ c κs. search needs)
+    (λ c κs. search needs)
     add-t18
-    same-length
-    same-length-2
+    (λ c. search needs)
+    (λ c. search needs)
     returns-2)

@@ -5,15 +5,6 @@ use Rattle.framing.specs.Reading.{costAt}
 use Rattle.framing.proofs.frame.cost_at.Statement.{statement}
 use Rattle.framing.proofs.frame.cost_at.Tie as tie
 
-mul-word-at : tie.Need-mul-word-at
-mul-word-at c = search needs
-
-add-word-at : tie.Need-add-word-at
-add-word-at c = search needs
-
-word-at-requires : tie.Need-word-at-requires
-word-at-requires c κs = search needs
-
 returns : tie.Need-returns
 unfolding costAt
 returns c = simp (lt-ltb _ _ (c .before .if1 .taken)) (c .word-at .ensures)
@@ -23,4 +14,4 @@ unfolding costAt
 returns-2 c = simp (le-ltb _ _ (c .if1 .left))
 
 pub cost-at-spec : {M : Type 1} → statement M
-cost-at-spec = tie.close (tie.spec mul-word-at add-word-at word-at-requires returns returns-2)
+cost-at-spec = tie.close (tie.spec (λ c. search needs) (λ c. search needs) (λ c κs. search needs) returns returns-2)

@@ -9,21 +9,6 @@ use Rattle.framing.specs.declared.frame.Kind.{Kind}
 use Rattle.framing.proofs.frame.frame_of.Statement.{statement}
 use Rattle.framing.proofs.frame.frame_of.Tie as tie
 
-line-kind-requires : tie.Need-line-kind-requires
-line-kind-requires c κs = search needs
-
-byte-at-requires : tie.Need-byte-at-requires
-byte-at-requires c κs = search needs
-
-cast-t6 : tie.Need-cast-t6
-cast-t6 c = search needs
-
-word-at-requires : tie.Need-word-at-requires
-word-at-requires c κs = search needs
-
-costs-at-requires : tie.Need-costs-at-requires
-costs-at-requires c κs = search needs
-
 returns : tie.Need-returns
 unfolding asFrame
 returns c =
@@ -44,9 +29,9 @@ pub frame-of-spec : {M : Type 1} → statement M
 frame-of-spec =
     tie.close
     (tie.spec
-    line-kind-requires
-    byte-at-requires
-    cast-t6
-    word-at-requires
-    costs-at-requires
+    (λ c κs. search needs)
+    (λ c κs. search needs)
+    (λ c. search needs)
+    (λ c κs. search needs)
+    (λ c κs. search needs)
     returns)

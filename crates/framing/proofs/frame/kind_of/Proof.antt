@@ -6,15 +6,9 @@ use mathlib.Core.Path.{sym, _∙_}
 use Rattle.framing.proofs.frame.kind_of.Statement.{statement}
 use Rattle.framing.proofs.frame.kind_of.Tie as tie
 
-sized-requires : tie.Need-sized-requires
-sized-requires c κs = search needs
-
 returns : tie.Need-returns
 unfolding kindOf
 returns c = simp (eq-eqb _ _ (c .before .if1 .taken)) (c .sized .ensures)
-
-is-call-requires : tie.Need-is-call-requires
-is-call-requires c κs = search needs
 
 returns-2 : tie.Need-returns-2
 unfolding kindOf
@@ -27,9 +21,6 @@ returns-3 c =
     let call = sym (c .before .before .is-call .ensures) ∙ not-false _ (c .before .if2 .left) in
     simp (ne-eqb _ _ (c .before .before .before .if1 .left), call, eq-eqb _ _ (c .if3 .taken))
 
-kind-on-requires : tie.Need-kind-on-requires
-kind-on-requires c κs = search needs
-
 returns-4 : tie.Need-returns-4
 unfolding kindOf
 returns-4 c =
@@ -40,10 +31,10 @@ pub kind-of-spec : {M : Type 1} → statement M
 kind-of-spec =
     tie.close
     (tie.spec
-    sized-requires
+    (λ c κs. search needs)
     returns
-    is-call-requires
+    (λ c κs. search needs)
     returns-2
     returns-3
-    kind-on-requires
+    (λ c κs. search needs)
     returns-4)

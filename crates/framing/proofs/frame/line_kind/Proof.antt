@@ -10,12 +10,6 @@ returns : tie.Need-returns
 unfolding lineKind
 returns c = simp (c .if1 .taken)
 
-byte-at-requires : tie.Need-byte-at-requires
-byte-at-requires c κs = search needs
-
-kind-of-requires : tie.Need-kind-of-requires
-kind-of-requires c κs = search needs
-
 returns-2 : tie.Need-returns-2
 unfolding lineKind
 returns-2 c =
@@ -28,4 +22,4 @@ unfolding lineKind
 returns-3 c = simp (c .before .if1 .left, c .if2 .left)
 
 pub line-kind-spec : {M : Type 1} → statement M
-line-kind-spec = tie.close (tie.spec returns byte-at-requires kind-of-requires returns-2 returns-3)
+line-kind-spec = tie.close (tie.spec returns (λ c κs. search needs) (λ c κs. search needs) returns-2 returns-3)

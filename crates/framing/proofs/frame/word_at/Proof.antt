@@ -6,27 +6,6 @@ use Rattle.framing.specs.Reading.{wordAt}
 use Rattle.framing.proofs.frame.word_at.Statement.{statement}
 use Rattle.framing.proofs.frame.word_at.Tie as tie
 
-byte-at-requires : tie.Need-byte-at-requires
-byte-at-requires c κs = search needs
-
-cast-result : tie.Need-cast-result
-cast-result c = search needs
-
-mul-result : tie.Need-mul-result
-mul-result c = search needs
-
-add-byte-at : tie.Need-add-byte-at
-add-byte-at c = search needs
-
-byte-at-requires-2 : tie.Need-byte-at-requires-2
-byte-at-requires-2 c κs = search needs
-
-cast-result-2 : tie.Need-cast-result-2
-cast-result-2 c = search needs
-
-add-result : tie.Need-add-result
-add-result c = search needs
-
 returns : tie.Need-returns
 unfolding wordAt
 returns c = ap₂ (λ (h l : ℕ). h * 256 + l) (c .before .byte-at .ensures) (c .byte-at2 .ensures)
@@ -35,11 +14,11 @@ pub word-at-spec : {M : Type 1} → statement M
 word-at-spec =
     tie.close
     (tie.spec
-    byte-at-requires
-    cast-result
-    mul-result
-    add-byte-at
-    byte-at-requires-2
-    cast-result-2
-    add-result
+    (λ c κs. search needs)
+    (λ c. search needs)
+    (λ c. search needs)
+    (λ c. search needs)
+    (λ c κs. search needs)
+    (λ c. search needs)
+    (λ c. search needs)
     returns)

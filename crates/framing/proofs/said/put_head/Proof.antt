@@ -11,17 +11,8 @@ use native.Mathlib.Omega.{arith}
 use Rattle.framing.proofs.said.put_head.Statement.{statement}
 use Rattle.framing.proofs.said.put_head.Tie as tie
 
-put-byte-requires : tie.Need-put-byte-requires
-put-byte-requires c κs = search needs
-
-two-bytes-requires : tie.Need-two-bytes-requires
-two-bytes-requires c κs = search needs
-
 put-word-requires : tie.Need-put-word-requires
 put-word-requires c κs = omega (arith, byteText-length 0)
-
-same-length : tie.Need-same-length
-same-length c = search needs
 
 returns : tie.Need-returns
 unfolding headText
@@ -33,4 +24,4 @@ returns c =
 
 pub put-head-spec : {M : Type 1} → statement M
 put-head-spec =
-    tie.close (tie.spec put-byte-requires two-bytes-requires put-word-requires same-length returns)
+    tie.close (tie.spec (λ c κs. search needs) (λ c κs. search needs) put-word-requires (λ c. search needs) returns)

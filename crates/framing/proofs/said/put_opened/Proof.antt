@@ -16,15 +16,6 @@ returns c =
     let opened = c .before .before .args .opened in
     put-as (ap (λ (b : Bool). openedText b opened) (sym (not-true (c .before .before .args .lists) (c .if1 .taken)))) (put-none (c .before .before .args .out .now) (c .before .before .args .at))
 
-two-bytes-requires : tie.Need-two-bytes-requires
-two-bytes-requires c κs = search needs
-
-put-word-requires : tie.Need-put-word-requires
-put-word-requires c κs = search needs
-
-same-length : tie.Need-same-length
-same-length c = search needs
-
 returns-2 : tie.Need-returns-2
 unfolding openedText
 returns-2 c =
@@ -37,4 +28,4 @@ returns-2 c =
 
 pub put-opened-spec : {M : Type 1} → statement M
 put-opened-spec =
-    tie.close (tie.spec returns two-bytes-requires put-word-requires same-length returns-2)
+    tie.close (tie.spec returns (λ c κs. search needs) (λ c κs. search needs) (λ c. search needs) returns-2)

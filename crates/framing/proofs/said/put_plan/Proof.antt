@@ -13,18 +13,6 @@ use Rattle.framing.specs.Laws.Said.{refused-text, accepted-text, head-le
 use Rattle.framing.proofs.said.put_plan.Statement.{statement}
 use Rattle.framing.proofs.said.put_plan.Tie as tie
 
-number-of-requires : tie.Need-number-of-requires
-number-of-requires c κs = search needs
-
-detail-of-requires : tie.Need-detail-of-requires
-detail-of-requires c κs = search needs
-
-put-refusal-requires : tie.Need-put-refusal-requires
-put-refusal-requires c κs = search needs
-
-same-length : tie.Need-same-length
-same-length c = search needs
-
 returns : tie.Need-returns
 unfolding planSaid
 returns c =
@@ -32,9 +20,6 @@ returns c =
     put-as
     (refused-text (a .d) (a .p .verdict) _ (c .before .before .before .before .before .before .number-of .ensures) (c .before .before .before .detail-of .ensures) (c .before .before .before .before .before .if1 .taken))
     (c .before .before .put-refusal .ensures)
-
-put-head-requires : tie.Need-put-head-requires
-put-head-requires c κs = search needs
 
 put-opened-requires : tie.Need-put-opened-requires
 put-opened-requires c κs = omega (arith, c .before .before .before .before .before .before .before .before .before .before .pre .room, head-length (c .before .before .before .before .before .before .before .before .before .before .args .p .count))
@@ -65,9 +50,6 @@ put-end-requires c κs =
       length-map told resultRow,
     )
 
-same-length-2 : tie.Need-same-length-2
-same-length-2 c = search needs
-
 returns-2 : tie.Need-returns-2
 unfolding planSaid
 returns-2 c =
@@ -83,14 +65,14 @@ pub put-plan-spec : {M : Type 1} → statement M
 put-plan-spec =
     tie.close
     (tie.spec
-    number-of-requires
-    detail-of-requires
-    put-refusal-requires
-    same-length
+    (λ c κs. search needs)
+    (λ c κs. search needs)
+    (λ c κs. search needs)
+    (λ c. search needs)
     returns
-    put-head-requires
+    (λ c κs. search needs)
     put-opened-requires
     put-told-requires
     put-end-requires
-    same-length-2
+    (λ c. search needs)
     returns-2)

@@ -10,12 +10,6 @@ use Rattle.framing.specs.Text.{byteText, wordText, saidText, answerText,
 use Rattle.framing.proofs.said.put_refusal.Statement.{statement}
 use Rattle.framing.proofs.said.put_refusal.Tie as tie
 
-put-byte-requires : tie.Need-put-byte-requires
-put-byte-requires c κs = search needs
-
-two-bytes-requires : tie.Need-two-bytes-requires
-two-bytes-requires c κs = search needs
-
 put-word-requires : tie.Need-put-word-requires
 put-word-requires c κs =
     omega (arith, byteText-length (c .before .before .before .before .before .before .before .args .number))
@@ -24,9 +18,6 @@ put-end-requires : tie.Need-put-end-requires
 put-end-requires c κs =
     let a = c .before .before .before .before .before .before .before .before .before .before .before .args in
     omega (arith, byteText-length (a .number), wordText-length (c .before .before .before .before .two-bytes .result))
-
-same-length : tie.Need-same-length
-same-length c = search needs
 
 returns : tie.Need-returns
 unfolding saidText answerText
@@ -44,9 +35,9 @@ pub put-refusal-spec : {M : Type 1} → statement M
 put-refusal-spec =
     tie.close
     (tie.spec
-    put-byte-requires
-    two-bytes-requires
+    (λ c κs. search needs)
+    (λ c κs. search needs)
     put-word-requires
     put-end-requires
-    same-length
+    (λ c. search needs)
     returns)

@@ -7,15 +7,6 @@ use Rattle.framing.proofs.serving.answer.Tie as tie
 frame-of-requires : tie.Need-frame-of-requires
 frame-of-requires c κs = ready-most _ _ (c .before .before .before .pre .0)
 
-respond-requires : tie.Need-respond-requires
-respond-requires c κs = search needs
-
-same-length : tie.Need-same-length
-same-length c = search needs
-
-same-length-2 : tie.Need-same-length-2
-same-length-2 c = search needs
-
 returns : tie.Need-returns
 returns c =
     let start = c .before .before .before .before .before .before .before .before .before .before in
@@ -26,4 +17,4 @@ returns c =
 
 pub answer-spec : {M : Type 1} → statement M
 answer-spec =
-    tie.close (tie.spec frame-of-requires respond-requires same-length same-length-2 returns)
+    tie.close (tie.spec frame-of-requires (λ c κs. search needs) (λ c. search needs) (λ c. search needs) returns)

@@ -4,18 +4,12 @@ use Rattle.framing.specs.Laws.Serving.{room-plan, served-list}
 use Rattle.framing.proofs.serving.listed.Statement.{statement}
 use Rattle.framing.proofs.serving.listed.Tie as tie
 
-plan-list-requires : tie.Need-plan-list-requires
-plan-list-requires c κs = search needs
-
 put-plan-requires : tie.Need-put-plan-requires
 put-plan-requires c κs = room-plan (c .plan-list .ensures) _ _ (c .before .before .before .before .pre)
-
-same-length : tie.Need-same-length
-same-length c = search needs
 
 returns : tie.Need-returns
 returns c =
     served-list (c .before .before .before .plan-list .ensures) _ _ _ _ (c .before .before .before .before .before .before .before .pre .loaded) (c .before .before .put-plan .ensures)
 
 pub listed-spec : {M : Type 1} → statement M
-listed-spec = tie.close (tie.spec plan-list-requires put-plan-requires same-length returns)
+listed-spec = tie.close (tie.spec (λ c κs. search needs) put-plan-requires (λ c. search needs) returns)

@@ -5,27 +5,9 @@ use Rattle.framing.specs.Laws.Serving.{room-load, served-load, served-re
 use Rattle.framing.proofs.serving.loaded.Statement.{statement}
 use Rattle.framing.proofs.serving.loaded.Tie as tie
 
-slice-aggregate-load : tie.Need-slice-aggregate-load
-slice-aggregate-load c = search needs
-
-load-requires : tie.Need-load-requires
-load-requires c κs = search needs
-
-nothing-requires : tie.Need-nothing-requires
-nothing-requires c κs = search needs
-
 put-plan-requires : tie.Need-put-plan-requires
 put-plan-requires c κs =
     room-load (c .nothing .ensures) _ _ _ _ (c .before .before .before .before .before .before .before .before .before .before .pre .0) (c .before .before .before .before .before .before .before .before .before .before .pre .1)
-
-number-of-requires : tie.Need-number-of-requires
-number-of-requires c κs = search needs
-
-same-length : tie.Need-same-length
-same-length c = search needs
-
-same-length-2 : tie.Need-same-length-2
-same-length-2 c = search needs
 
 returns : tie.Need-returns
 returns c =
@@ -35,12 +17,6 @@ returns c =
     served-load (start .args .asked) _ _ (made .result) (none .result) (made .ensures) (start .pre .1 .memory) (none .ensures)
     (start .args .d) _ _ _ (c .before .before .before .before .put-plan .ensures)
     (sym (c .before .number-of .ensures) ∙ c .if1 .taken)
-
-same-length-3 : tie.Need-same-length-3
-same-length-3 c = search needs
-
-same-length-4 : tie.Need-same-length-4
-same-length-4 c = search needs
 
 returns-2 : tie.Need-returns-2
 returns-2 c =
@@ -55,14 +31,14 @@ pub loaded-spec : {M : Type 1} → statement M
 loaded-spec =
     tie.close
     (tie.spec
-    slice-aggregate-load
-    load-requires
-    nothing-requires
+    (λ c. search needs)
+    (λ c κs. search needs)
+    (λ c κs. search needs)
     put-plan-requires
-    number-of-requires
-    same-length
-    same-length-2
+    (λ c κs. search needs)
+    (λ c. search needs)
+    (λ c. search needs)
     returns
-    same-length-3
-    same-length-4
+    (λ c. search needs)
+    (λ c. search needs)
     returns-2)

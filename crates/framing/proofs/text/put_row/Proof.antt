@@ -18,27 +18,9 @@ Inv-loop out₀ at d row next₀ j₀ out next j =
 abbrev μ-loop : tie.MeasureT-loop
 μ-loop out₀ at d row next₀ j₀ out next j = d + 1 - j
 
-array-read-put-byte : tie.Need-array-read-put-byte Inv-loop μ-loop
-array-read-put-byte c = omega arith
-
-cast-put-byte : tie.Need-cast-put-byte Inv-loop μ-loop
-cast-put-byte c = omega arith
-
-put-byte-requires : tie.Need-put-byte-requires Inv-loop μ-loop
-put-byte-requires c κs = omega arith
-
 loop-holds : tie.Need-loop-holds Inv-loop μ-loop
 unfolding flatMap
 loop-holds c = (omega arith, put-none _ _)
-
-add-put-word : tie.Need-add-put-word Inv-loop μ-loop
-add-put-word c = omega arith
-
-mul-put-word : tie.Need-mul-put-word Inv-loop μ-loop
-mul-put-word c = omega arith
-
-array-read-put-word : tie.Need-array-read-put-word Inv-loop μ-loop
-array-read-put-word c = omega arith
 
 put-word-requires : tie.Need-put-word-requires Inv-loop μ-loop
 put-word-requires c κs =
@@ -50,20 +32,11 @@ put-word-requires c κs =
       byteText-length (getD (a .t4) 0 0 % 256),
     )
 
-add-j : tie.Need-add-j Inv-loop μ-loop
-add-j c = omega arith
-
-loop-less : tie.Need-loop-less Inv-loop μ-loop
-loop-less c = omega arith
-
 loop-again : tie.Need-loop-again Inv-loop μ-loop
 loop-again c =
     let a = c .before .before .before .before .before .before .before .before .before .before .before .args in
     let own = c .before .before .before .before .before .loop in
     (omega arith, put-as (numbers-more (a .t4) (omega arith) (own .j) (omega arith)) (put-both (own .inv .1) (c .before .before .put-word .ensures)))
-
-same-length : tie.Need-same-length Inv-loop μ-loop
-same-length c = omega arith
 
 returns : tie.Need-returns Inv-loop μ-loop
 returns c =
@@ -81,16 +54,16 @@ put-row-spec =
     (tie.spec
     Inv-loop
     μ-loop
-    array-read-put-byte
-    cast-put-byte
-    put-byte-requires
+    (λ c. omega arith)
+    (λ c. omega arith)
+    (λ c κs. omega arith)
     loop-holds
-    add-put-word
-    mul-put-word
-    array-read-put-word
+    (λ c. omega arith)
+    (λ c. omega arith)
+    (λ c. omega arith)
     put-word-requires
-    add-j
-    loop-less
+    (λ c. omega arith)
+    (λ c. omega arith)
     loop-again
-    same-length
+    (λ c. omega arith)
     returns)

@@ -32,15 +32,6 @@ loop-holds c = (omega arith, omega arith, refl, put-none _ _)
 told-next-requires : tie.Need-told-next-requires Inv-loop μ-loop
 told-next-requires c κs = c .before .before .before .before .pre .asked (omega arith)
 
-put-row-requires : tie.Need-put-row-requires Inv-loop μ-loop
-put-row-requires c κs = omega arith
-
-add-k : tie.Need-add-k Inv-loop μ-loop
-add-k c = omega arith
-
-loop-less : tie.Need-loop-less Inv-loop μ-loop
-loop-less c = omega arith
-
 loop-again : tie.Need-loop-again Inv-loop μ-loop
 loop-again c =
     let start = c .before .before .before .before .before .before .before .before .before .before in
@@ -54,9 +45,6 @@ loop-again c =
           (told-more (a .t) (a .m .now) (a .count) (start .pre .rows) (start .pre .asked) (a .d) (own .k) (omega arith) (own .inv .2) (told .ensures .0))
           (put-both (own .inv .3) (c .before .before .put-row .ensures)),
     )
-
-same-length : tie.Need-same-length Inv-loop μ-loop
-same-length c = omega arith
 
 returns : tie.Need-returns Inv-loop μ-loop
 returns c =
@@ -73,9 +61,9 @@ put-told-spec =
     μ-loop
     loop-holds
     told-next-requires
-    put-row-requires
-    add-k
-    loop-less
+    (λ c κs. omega arith)
+    (λ c. omega arith)
+    (λ c. omega arith)
     loop-again
-    same-length
+    (λ c. omega arith)
     returns)

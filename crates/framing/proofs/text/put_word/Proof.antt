@@ -10,21 +10,9 @@ use Rattle.framing.specs.Text.{byteText, wordText}
 use Rattle.framing.proofs.text.put_word.Statement.{statement}
 use Rattle.framing.proofs.text.put_word.Tie as tie
 
-cast-put-byte : tie.Need-cast-put-byte
-cast-put-byte c = search needs
-
-put-byte-requires : tie.Need-put-byte-requires
-put-byte-requires c κs = search needs
-
-cast-put-byte-2 : tie.Need-cast-put-byte-2
-cast-put-byte-2 c = search needs
-
 put-byte-requires-2 : tie.Need-put-byte-requires-2
 put-byte-requires-2 c κs =
     omega (arith, byteText-length (c .before .before .before .before .before .before .args .n / 256))
-
-same-length : tie.Need-same-length
-same-length c = search needs
 
 returns : tie.Need-returns
 unfolding wordText
@@ -38,9 +26,9 @@ pub put-word-spec : {M : Type 1} → statement M
 put-word-spec =
     tie.close
     (tie.spec
-    cast-put-byte
-    put-byte-requires
-    cast-put-byte-2
+    (λ c. search needs)
+    (λ c κs. search needs)
+    (λ c. search needs)
     put-byte-requires-2
-    same-length
+    (λ c. search needs)
     returns)

@@ -5,9 +5,6 @@ use Rattle.promises.specs.Layout.{dimensionIn}
 use Rattle.memory.proofs.fields.dimension.Statement.{statement}
 use Rattle.memory.proofs.fields.dimension.Tie as tie
 
-shared-slice-read-result : tie.Need-shared-slice-read-result
-shared-slice-read-result c = search needs
-
 cast-result : tie.Need-cast-result
 cast-result c = omega (arith, c .shared-slice-known .given 2)
 
@@ -16,4 +13,4 @@ unfolding dimensionIn
 returns c = omega (arith, c .shared-slice-known .given 2)
 
 pub dimension-spec : {M : Type 1} → statement M
-dimension-spec = tie.close (tie.spec shared-slice-read-result cast-result returns)
+dimension-spec = tie.close (tie.spec (λ c. search needs) cast-result returns)

@@ -8,12 +8,6 @@ use Rattle.promises.specs.Layout.{costsIn, moveIn}
 use Rattle.memory.proofs.fields.move_at.Statement.{statement}
 use Rattle.memory.proofs.fields.move_at.Tie as tie
 
-number-at-requires : tie.Need-number-at-requires
-number-at-requires c κs = search needs
-
-costs-of-requires : tie.Need-costs-of-requires
-costs-of-requires c κs = search needs
-
 returns : tie.Need-returns
 unfolding moveIn
 returns c =
@@ -23,4 +17,4 @@ returns c =
     ap₂ made number (c .costs-of .ensures ∙ ap (costsIn (a .c) (a .d) (a .m .now)) number)
 
 pub move-at-spec : {M : Type 1} → statement M
-move-at-spec = tie.close (tie.spec number-at-requires costs-of-requires returns)
+move-at-spec = tie.close (tie.spec (λ c κs. search needs) (λ c κs. search needs) returns)

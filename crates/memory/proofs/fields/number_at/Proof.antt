@@ -4,18 +4,9 @@ use Rattle.promises.specs.Layout.{numberPlace, numberIn}
 use Rattle.memory.proofs.fields.number_at.Statement.{statement}
 use Rattle.memory.proofs.fields.number_at.Tie as tie
 
-mul-word : tie.Need-mul-word
-mul-word c = search needs
-
-add-word : tie.Need-add-word
-add-word c = search needs
-
-word-requires : tie.Need-word-requires
-word-requires c κs = search needs
-
 returns : tie.Need-returns
 unfolding numberIn numberPlace
 returns c = search needs
 
 pub number-at-spec : {M : Type 1} → statement M
-number-at-spec = tie.close (tie.spec mul-word add-word word-requires returns)
+number-at-spec = tie.close (tie.spec (λ c. search needs) (λ c. search needs) (λ c κs. search needs) returns)

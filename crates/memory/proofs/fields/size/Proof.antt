@@ -4,15 +4,9 @@ use Rattle.promises.specs.Layout.{sizeIn}
 use Rattle.memory.proofs.fields.size.Statement.{statement}
 use Rattle.memory.proofs.fields.size.Tie as tie
 
-word-requires : tie.Need-word-requires
-word-requires c κs = search needs
-
-cast-result : tie.Need-cast-result
-cast-result c = search needs
-
 returns : tie.Need-returns
 unfolding sizeIn
 returns c = search needs
 
 pub size-spec : {M : Type 1} → statement M
-size-spec = tie.close (tie.spec word-requires cast-result returns)
+size-spec = tie.close (tie.spec (λ c κs. search needs) (λ c. search needs) returns)

@@ -36,9 +36,6 @@ loop-holds c =
     let a = c .before .args in
     (omega arith, omega arith, omega arith, counts-first (a .c) (a .m .now) (a .l) (a .lo) (a .n) (omega arith))
 
-height-at-requires : tie.Need-height-at-requires Inv-loop μ-loop
-height-at-requires c κs = omega arith
-
 returns : tie.Need-returns Inv-loop μ-loop
 returns c =
     let a = c .before .before .before .before .before .before .args in
@@ -50,15 +47,6 @@ returns c =
 
 add-if4 : tie.Need-add-if4 Inv-loop μ-loop
 add-if4 c = omega (arith, leb-false)
-
-add-entries : tie.Need-add-entries Inv-loop μ-loop
-add-entries c = omega arith
-
-add-i : tie.Need-add-i Inv-loop μ-loop
-add-i c = omega arith
-
-loop-less : tie.Need-loop-less Inv-loop μ-loop
-loop-less c = omega arith
 
 loop-again : tie.Need-loop-again Inv-loop μ-loop
 loop-again c =
@@ -101,12 +89,12 @@ counts-right-spec =
     Inv-loop
     μ-loop
     loop-holds
-    height-at-requires
+    (λ c κs. omega arith)
     returns
     add-if4
-    add-entries
-    add-i
-    loop-less
+    (λ c. omega arith)
+    (λ c. omega arith)
+    (λ c. omega arith)
     loop-again
     returns-2
     returns-3)

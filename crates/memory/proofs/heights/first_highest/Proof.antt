@@ -32,20 +32,11 @@ loop-holds : tie.Need-loop-holds Inv-loop μ-loop
 unfolding allTo
 loop-holds c = (omega arith, omega (arith, eqb-false), refl)
 
-height-at-requires-2 : tie.Need-height-at-requires-2 Inv-loop μ-loop
-height-at-requires-2 c κs = omega arith
-
 returns-3 : tie.Need-returns-3 Inv-loop μ-loop
 returns-3 c =
     let a = c .before .before .before .before .before .before .before .before .args in
     let i = c .before .before .before .loop .i in
     sym (highest-lost (a .c) (a .m .now) (a .n) (omega arith) i (omega arith) (omega arith) (omega (arith, leb-true)))
-
-add-i : tie.Need-add-i Inv-loop μ-loop
-add-i c = omega arith
-
-loop-less : tie.Need-loop-less Inv-loop μ-loop
-loop-less c = omega arith
 
 loop-again : tie.Need-loop-again Inv-loop μ-loop
 loop-again c =
@@ -70,9 +61,9 @@ first-highest-spec =
     height-at-requires
     returns-2
     loop-holds
-    height-at-requires-2
+    (λ c κs. omega arith)
     returns-3
-    add-i
-    loop-less
+    (λ c. omega arith)
+    (λ c. omega arith)
     loop-again
     returns-4)

@@ -22,9 +22,6 @@ returns c =
     let a = c .before .before .args in
     sym (heights-none (a .c) (a .m .now) (a .n) (omega (arith, eqb-true)))
 
-first-highest-requires : tie.Need-first-highest-requires Inv-loop μ-loop
-first-highest-requires c κs = omega arith
-
 returns-2 : tie.Need-returns-2 Inv-loop μ-loop
 returns-2 c =
     let a = c .before .before .before .before .args in
@@ -42,9 +39,6 @@ loop-holds c =
     ap (λ (top : ℕ). levelsRight top top line) (c .height-at .ensures)
     ∙ sym (heights-by (a .c) (a .m .now) (a .n) (omega (arith, eqb-false)) true found)
 
-least-entries-requires : tie.Need-least-entries-requires Inv-loop μ-loop
-least-entries-requires c κs = omega arith
-
 counts-right-requires : tie.Need-counts-right-requires Inv-loop μ-loop
 counts-right-requires c κs = omega (arith, eqb-false)
 
@@ -58,12 +52,6 @@ returns-3 c =
     (level-wrong top (own .l) line (omega arith)
     (ap (λ (lo : ℕ). countsAt (own .l) lo line) (sym (c .before .before .least-entries .ensures)) ∙ sym (c .before .counts-right .ensures) ∙ not-true (c .before .counts-right .result) (c .if3 .taken)))
     ∙ own .inv
-
-sub-l : tie.Need-sub-l Inv-loop μ-loop
-sub-l c = omega arith
-
-loop-less : tie.Need-loop-less Inv-loop μ-loop
-loop-less c = omega arith
 
 loop-again : tie.Need-loop-again Inv-loop μ-loop
 loop-again c =
@@ -91,14 +79,14 @@ heights-right-spec =
     Inv-loop
     μ-loop
     returns
-    first-highest-requires
+    (λ c κs. omega arith)
     returns-2
     height-at-requires
     loop-holds
-    least-entries-requires
+    (λ c κs. omega arith)
     counts-right-requires
     returns-3
-    sub-l
-    loop-less
+    (λ c. omega arith)
+    (λ c. omega arith)
     loop-again
     returns-4)

@@ -30,9 +30,6 @@ is-listed-requires c κs =
     let j = c .before .before .loop .j in
     omega (arith, c .before .before .before .before .pre .0 .numbers j (omega arith), number-of (a .h .size) (a .h .dimension) (a .m .now) j (asMove (c .move-at .result)) (c .move-at .ensures))
 
-hides-requires : tie.Need-hides-requires Inv-loop μ-loop
-hides-requires c κs = omega arith
-
 returns : tie.Need-returns Inv-loop μ-loop
 returns c =
     let a = c .before .before .before .before .before .before .before .before .args in
@@ -42,12 +39,6 @@ returns c =
     (hidden-found (a .h .size) (a .h .dimension) (a .m .now) (asMove (a .x)) (a .i) j (omega arith)
     (listed-at (a .h .size) (a .h .dimension) (a .m .now) j (at .result .number) (number-of (a .h .size) (a .h .dimension) (a .m .now) j (asMove (at .result)) (at .ensures)) ∙ sym (c .before .before .before .is-listed .ensures) ∙ c .before .before .if1 .taken)
     (ap (λ (p : Move). hides (a .h .dimension) p (asMove (a .x))) (sym (at .ensures)) ∙ sym (c .before .hides .ensures) ∙ c .if2 .taken))
-
-add-j : tie.Need-add-j Inv-loop μ-loop
-add-j c = omega arith
-
-loop-less : tie.Need-loop-less Inv-loop μ-loop
-loop-less c = omega arith
 
 loop-again : tie.Need-loop-again Inv-loop μ-loop
 loop-again c =
@@ -79,9 +70,9 @@ hidden-before-spec =
     loop-holds
     move-at-requires
     is-listed-requires
-    hides-requires
+    (λ c κs. omega arith)
     returns
-    add-j
-    loop-less
+    (λ c. omega arith)
+    (λ c. omega arith)
     loop-again
     returns-2)

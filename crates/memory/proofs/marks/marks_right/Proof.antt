@@ -20,9 +20,6 @@ loop-holds c = let a = c .before .args in (omega arith, marks-none (a .h .size) 
 move-at-requires : tie.Need-move-at-requires Inv-loop μ-loop
 move-at-requires c κs = omega (arith, c .before .before .before .pre .numbers (c .before .loop .i) (omega arith))
 
-number-at-requires : tie.Need-number-at-requires Inv-loop μ-loop
-number-at-requires c κs = omega arith
-
 is-listed-requires : tie.Need-is-listed-requires Inv-loop μ-loop
 is-listed-requires c κs =
     omega (arith, c .before .before .before .before .before .pre .numbers (c .before .before .before .loop .i) (omega arith))
@@ -41,12 +38,6 @@ returns c =
     sym
     (marks-fail (a .h .size) (a .h .dimension) (a .m .now) (a .h .count) (own .i) (omega arith) (c .before .before .is-listed .result) (c .before .hidden-before .result) listed hidden
     (c .if1 .taken))
-
-add-i : tie.Need-add-i Inv-loop μ-loop
-add-i c = omega arith
-
-loop-less : tie.Need-loop-less Inv-loop μ-loop
-loop-less c = omega arith
 
 loop-again : tie.Need-loop-again Inv-loop μ-loop
 loop-again c =
@@ -75,11 +66,11 @@ marks-right-spec =
     μ-loop
     loop-holds
     move-at-requires
-    number-at-requires
+    (λ c κs. omega arith)
     is-listed-requires
     hidden-before-requires
     returns
-    add-i
-    loop-less
+    (λ c. omega arith)
+    (λ c. omega arith)
     loop-again
     returns-2)

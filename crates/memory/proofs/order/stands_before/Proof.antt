@@ -31,18 +31,6 @@ module _ (d n m : ℕ) (p q : List ℕ) (o : Order) (is : o ≡ orderOf d p q) w
   stands : (o' : Order) → o ≡ o' → decided o' (ltb n m) ≡ zBefore d n p m q
   stands o' e = ap (λ (x : Order). decided x (ltb n m)) (sym e ∙ is) ∙ decided-before d n m p q
 
-compare-requires : tie.Need-compare-requires
-compare-requires c κs = search needs
-
-enum-told : tie.Need-enum-told
-enum-told c = search needs
-
-enum-told-2 : tie.Need-enum-told-2
-enum-told-2 c = search needs
-
-enum-told-3 : tie.Need-enum-told-3
-enum-told-3 c = search needs
-
 returns : tie.Need-returns
 unfolding moveBefore
 returns c =
@@ -67,4 +55,4 @@ returns-3 c =
 pub stands-before-spec : {M : Type 1} → statement M
 stands-before-spec =
     tie.close
-    (tie.spec compare-requires enum-told enum-told-2 enum-told-3 returns returns-2 returns-3)
+    (tie.spec (λ c κs. search needs) (λ c. search needs) (λ c. search needs) (λ c. search needs) returns returns-2 returns-3)

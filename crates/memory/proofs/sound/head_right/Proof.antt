@@ -12,29 +12,14 @@ use Rattle.memory.proofs.sound.head_right.Tie as tie
 returns : tie.Need-returns
 returns c = sym (head-wrong (c .before .before .args .m .now) (λ h. omega arith))
 
-size-requires : tie.Need-size-requires
-size-requires c κs = search needs
-
-dimension-requires : tie.Need-dimension-requires
-dimension-requires c κs = search needs
-
 returns-2 : tie.Need-returns-2
 returns-2 c = sym (head-wrong (c .before .before .before .before .before .args .m .now) (λ h. ⊎-elim (λ w. omega (arith, w .taken)) (λ w. omega (arith, ltb-true, w .1 .taken)) (c .if2 .came)))
 
 returns-3 : tie.Need-returns-3
 returns-3 c = sym (head-wrong (c .before .before .before .before .before .before .before .args .m .now) (λ h. ⊎-elim (λ w. omega (arith, w .taken)) (λ w. omega (arith, ltb-true, w .1 .taken)) (c .if4 .came)))
 
-mul-if6 : tie.Need-mul-if6
-mul-if6 c = search needs
-
-add-if6 : tie.Need-add-if6
-add-if6 c = search needs
-
 returns-4 : tie.Need-returns-4
 returns-4 c = sym (head-wrong (c .before .before .before .before .before .before .before .before .before .args .m .now) (λ h. omega arith))
-
-count-requires : tie.Need-count-requires
-count-requires c κs = search needs
 
 returns-5 : tie.Need-returns-5
 returns-5 c =
@@ -48,12 +33,12 @@ head-right-spec =
     tie.close
     (tie.spec
     returns
-    size-requires
-    dimension-requires
+    (λ c κs. search needs)
+    (λ c κs. search needs)
     returns-2
     returns-3
-    mul-if6
-    add-if6
+    (λ c. search needs)
+    (λ c. search needs)
     returns-4
-    count-requires
+    (λ c κs. search needs)
     returns-5)

@@ -12,9 +12,6 @@ use Rattle.memory.specs.Laws.Decide.{head-decides, numbers-decides, orde
 use Rattle.memory.proofs.sound.is_sound.Statement.{statement}
 use Rattle.memory.proofs.sound.is_sound.Tie as tie
 
-head-right-requires : tie.Need-head-right-requires
-head-right-requires c κs = search needs
-
 returns : tie.Need-returns
 returns c =
     head-decides (c .before .before .before .args .m .now)
@@ -128,7 +125,7 @@ pub is-sound-spec : {M : Type 1} → statement M
 is-sound-spec =
     tie.close
     (tie.spec
-    head-right-requires
+    (λ c κs. search needs)
     returns
     size-requires
     dimension-requires

@@ -19,17 +19,11 @@ abbrev μ-loop : tie.MeasureT-loop
 loop-holds : tie.Need-loop-holds Inv-loop μ-loop
 loop-holds c = let a = c .before .args in (omega arith, omega arith, order-none (a .h .size) (a .h .dimension) (a .m .now))
 
-sub-move-at : tie.Need-sub-move-at Inv-loop μ-loop
-sub-move-at c = omega arith
-
 move-at-requires : tie.Need-move-at-requires Inv-loop μ-loop
 move-at-requires c κs = omega (arith, c .before .before .before .pre .numbers (c .before .loop .i - 1) (omega arith))
 
 move-at-requires-2 : tie.Need-move-at-requires-2 Inv-loop μ-loop
 move-at-requires-2 c κs = omega (arith, c .before .before .before .before .pre .numbers (c .before .before .loop .i) (omega arith))
-
-stands-before-requires : tie.Need-stands-before-requires Inv-loop μ-loop
-stands-before-requires c κs = omega arith
 
 returns : tie.Need-returns Inv-loop μ-loop
 returns c =
@@ -40,12 +34,6 @@ returns c =
     (ap₂ (moveBefore (a .h .dimension)) (sym (c .before .before .before .move-at .ensures)) (sym (c .before .before .move-at2 .ensures))
     ∙ sym (c .before .stands-before .ensures)
     ∙ not-true (c .before .stands-before .result) (c .if1 .taken)))
-
-add-i : tie.Need-add-i Inv-loop μ-loop
-add-i c = omega arith
-
-loop-less : tie.Need-loop-less Inv-loop μ-loop
-loop-less c = omega arith
 
 loop-again : tie.Need-loop-again Inv-loop μ-loop
 loop-again c =
@@ -72,12 +60,12 @@ order-right-spec =
     Inv-loop
     μ-loop
     loop-holds
-    sub-move-at
+    (λ c. omega arith)
     move-at-requires
     move-at-requires-2
-    stands-before-requires
+    (λ c κs. omega arith)
     returns
-    add-i
-    loop-less
+    (λ c. omega arith)
+    (λ c. omega arith)
     loop-again
     returns-2)

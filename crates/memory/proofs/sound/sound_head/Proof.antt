@@ -21,9 +21,6 @@ decided {r} t e = t .sound (not-false r e)
 long : {r : Bool} (m : List ℕ) → Decides r m → not r ≡ false → 16 ≤ length m
 long m t e = let h = head-numbers m (sound-head m (decided t e)) in omega arith
 
-is-sound-requires : tie.Need-is-sound-requires
-is-sound-requires c κs = search needs
-
 returns : tie.Need-returns
 unfolding HeldIn
 returns c = let s = c .before .is-sound in s .ensures .unsound (not-true (s .result) (c .if1 .taken))
@@ -50,4 +47,4 @@ returns-2 c =
 pub sound-head-spec : {M : Type 1} → statement M
 sound-head-spec =
     tie.close
-    (tie.spec is-sound-requires returns size-requires dimension-requires count-requires returns-2)
+    (tie.spec (λ c κs. search needs) returns size-requires dimension-requires count-requires returns-2)

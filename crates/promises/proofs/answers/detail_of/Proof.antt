@@ -5,33 +5,6 @@ use Rattle.promises.specs.Answers.{detailOf}
 use Rattle.promises.proofs.answers.detail_of.Statement.{statement}
 use Rattle.promises.proofs.answers.detail_of.Tie as tie
 
-enum-told : tie.Need-enum-told
-enum-told c = search needs
-
-enum-told-2 : tie.Need-enum-told-2
-enum-told-2 c = search needs
-
-enum-told-3 : tie.Need-enum-told-3
-enum-told-3 c = search needs
-
-enum-told-4 : tie.Need-enum-told-4
-enum-told-4 c = search needs
-
-enum-known-verdict : tie.Need-enum-known-verdict
-enum-known-verdict c = search needs
-
-enum-known-verdict-2 : tie.Need-enum-known-verdict-2
-enum-known-verdict-2 c = search needs
-
-enum-told-5 : tie.Need-enum-told-5
-enum-told-5 c = search needs
-
-enum-known-verdict-3 : tie.Need-enum-known-verdict-3
-enum-known-verdict-3 c = search needs
-
-enum-known-verdict-4 : tie.Need-enum-known-verdict-4
-enum-known-verdict-4 c = search needs
-
 returns : tie.Need-returns
 unfolding detailOf
 returns c = sym (ap detailOf (c .enum-told .given .1))
@@ -72,15 +45,15 @@ pub detail-of-spec : {M : Type 1} → statement M
 detail-of-spec =
     tie.close
     (tie.spec
-    enum-told
-    enum-told-2
-    enum-told-3
-    enum-told-4
-    enum-known-verdict
-    enum-known-verdict-2
-    enum-told-5
-    enum-known-verdict-3
-    enum-known-verdict-4
+    (λ c. search needs)
+    (λ c. search needs)
+    (λ c. search needs)
+    (λ c. search needs)
+    (λ c. search needs)
+    (λ c. search needs)
+    (λ c. search needs)
+    (λ c. search needs)
+    (λ c. search needs)
     returns
     returns-2
     returns-3

@@ -6,9 +6,6 @@ use Rattle.promises.specs.Layout.{costsIn, moveIn}
 use Rattle.query.proofs.kept.costs_at.Statement.{statement}
 use Rattle.query.proofs.kept.costs_at.Tie as tie
 
-number-at-requires : tie.Need-number-at-requires
-number-at-requires c κs = search needs
-
 costs-of-requires : tie.Need-costs-of-requires
 costs-of-requires c κs =
     let pre = c .before .before .pre in
@@ -21,4 +18,4 @@ returns c =
     c .costs-of .ensures ∙ ap (costsIn (a .h .size) (a .h .dimension) (a .m .now)) (c .before .number-at .ensures)
 
 pub costs-at-spec : {M : Type 1} → statement M
-costs-at-spec = tie.close (tie.spec number-at-requires costs-of-requires returns)
+costs-at-spec = tie.close (tie.spec (λ c κs. search needs) costs-of-requires returns)

@@ -42,15 +42,6 @@ returns c =
     let beat = ap (λ (p : List ℕ). rules.beats (a .h .dimension) (a .rule) p (a .costs)) (sym (c .before .before .before .costs-at .ensures)) ∙ sym (c .before .before .beats .ensures) ∙ c .before .if1 .taken in
     sym (stays-over (a .h .size) (a .h .dimension) (a .h .count) (a .rule) (a .most) (a .m .now) (a .costs) (own .j) (omega arith) beat (omega (arith, own .inv .3, c .if2 .taken)))
 
-add-beaten : tie.Need-add-beaten Inv-loop μ-loop
-add-beaten c = omega arith
-
-add-j : tie.Need-add-j Inv-loop μ-loop
-add-j c = omega arith
-
-loop-less : tie.Need-loop-less Inv-loop μ-loop
-loop-less c = omega arith
-
 loop-again : tie.Need-loop-again Inv-loop μ-loop
 loop-again c =
     let a = c .before .before .before .before .before .before .args in
@@ -80,8 +71,8 @@ stays-spec =
     costs-at-requires
     beats-requires
     returns
-    add-beaten
-    add-j
-    loop-less
+    (λ c. omega arith)
+    (λ c. omega arith)
+    (λ c. omega arith)
     loop-again
     returns-2)

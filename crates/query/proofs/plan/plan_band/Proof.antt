@@ -16,25 +16,10 @@ use Rattle.query.proofs.plan.plan_band.Tie as tie
 sound-at : (c : tie.After-known-told) → SoundAt (c .before .h .given .0 .0 .size) (c .before .h .given .0 .0 .dimension) (c .before .h .given .0 .0 .count) (c .before .before .before .before .before .args .m .now)
 sound-at c = sound-held (c .before .before .before .sound-head .ensures) (c .before .h .given .1)
 
-sound-head-requires : tie.Need-sound-head-requires
-sound-head-requires c κs = search needs
-
-enum-known-h : tie.Need-enum-known-h
-enum-known-h c = search needs
-
-enum-told : tie.Need-enum-told
-enum-told c = search needs
-
-nothing-requires : tie.Need-nothing-requires
-nothing-requires c κs = search needs
-
 returns : tie.Need-returns
 returns c =
     let a = c .before .before .before .before .before .args in
     query-unsound (bandQuery (a .b)) (a .m .now) (a .lent) (c .nothing .ensures) (unsound-held (c .before .before .before .sound-head .ensures) (c .before .enum-told .given .1))
-
-nothing-requires-2 : tie.Need-nothing-requires-2
-nothing-requires-2 c κs = search needs
 
 returns-2 : tie.Need-returns-2
 returns-2 c =
@@ -59,12 +44,12 @@ pub plan-band-spec : {M : Type 1} → statement M
 plan-band-spec =
     tie.close
     (tie.spec
-    sound-head-requires
-    enum-known-h
-    enum-told
-    nothing-requires
+    (λ c κs. search needs)
+    (λ c. search needs)
+    (λ c. search needs)
+    (λ c κs. search needs)
     returns
-    nothing-requires-2
+    (λ c κs. search needs)
     returns-2
     plan-kept-requires
     returns-3)

@@ -7,24 +7,9 @@ use Rattle.query.specs.declared.rule.Rule.{Rule}
 use Rattle.query.proofs.rule.beats.Statement.{statement}
 use Rattle.query.proofs.rule.beats.Tie as tie
 
-enum-told : tie.Need-enum-told
-enum-told c = search needs
-
-dominates-requires : tie.Need-dominates-requires
-dominates-requires c κs = search needs
-
-enum-known-rule : tie.Need-enum-known-rule
-enum-known-rule c = search needs
-
 dominates-on-requires : tie.Need-dominates-on-requires
 unfolding spec.Fair
 dominates-on-requires c κs = (omega arith, subst spec.Fair (c .before .rule .given .1) (c .before .before .before .pre .1))
-
-enum-known-rule-2 : tie.Need-enum-known-rule-2
-enum-known-rule-2 c = search needs
-
-dominates-at-requires : tie.Need-dominates-at-requires
-dominates-at-requires c κs = search needs
 
 returns : tie.Need-returns
 unfolding spec.beats
@@ -48,12 +33,12 @@ pub beats-spec : {M : Type 1} → statement M
 beats-spec =
     tie.close
     (tie.spec
-    enum-told
-    dominates-requires
-    enum-known-rule
+    (λ c. search needs)
+    (λ c κs. search needs)
+    (λ c. search needs)
     dominates-on-requires
-    enum-known-rule-2
-    dominates-at-requires
+    (λ c. search needs)
+    (λ c κs. search needs)
     returns
     returns-2
     returns-3)

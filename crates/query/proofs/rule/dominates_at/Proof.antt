@@ -28,21 +28,6 @@ abbrev μ-loop : tie.MeasureT-loop
 loop-holds : tie.Need-loop-holds Inv-loop μ-loop
 loop-holds c = let a = c .args in (omega arith, decided-none (a .d) (a .set) (a .t3) (a .t4))
 
-shr-if1 : tie.Need-shr-if1 Inv-loop μ-loop
-shr-if1 c = omega arith
-
-mul-less : tie.Need-mul-less Inv-loop μ-loop
-mul-less c = omega arith
-
-array-read-less : tie.Need-array-read-less Inv-loop μ-loop
-array-read-less c = omega arith
-
-mul-less-2 : tie.Need-mul-less-2 Inv-loop μ-loop
-mul-less-2 c = omega arith
-
-array-read-less-2 : tie.Need-array-read-less-2 Inv-loop μ-loop
-array-read-less-2 c = omega arith
-
 less-requires : tie.Need-less-requires Inv-loop μ-loop
 less-requires c κs = tt
 
@@ -52,26 +37,8 @@ returns c =
     let own = c .before .before .before .before .loop in
     sym (decided-more (a .d) (a .set) (a .t3) (a .t4) (own .somewhere) (own .i) (omega arith) (in-set (a .set) (own .i) (c .before .before .if1 .taken)) true _ (sym (c .before .less .ensures) ∙ c .if2 .taken) refl) ∙ own .inv .1
 
-mul-less-3 : tie.Need-mul-less-3 Inv-loop μ-loop
-mul-less-3 c = omega arith
-
-array-read-less-3 : tie.Need-array-read-less-3 Inv-loop μ-loop
-array-read-less-3 c = omega arith
-
-mul-less-4 : tie.Need-mul-less-4 Inv-loop μ-loop
-mul-less-4 c = omega arith
-
-array-read-less-4 : tie.Need-array-read-less-4 Inv-loop μ-loop
-array-read-less-4 c = omega arith
-
 less-requires-2 : tie.Need-less-requires-2 Inv-loop μ-loop
 less-requires-2 c κs = tt
-
-add-i : tie.Need-add-i Inv-loop μ-loop
-add-i c = omega arith
-
-loop-less : tie.Need-loop-less Inv-loop μ-loop
-loop-less c = omega arith
 
 loop-again : tie.Need-loop-again Inv-loop μ-loop
 loop-again c =
@@ -102,19 +69,19 @@ dominates-at-spec =
     Inv-loop
     μ-loop
     loop-holds
-    shr-if1
-    mul-less
-    array-read-less
-    mul-less-2
-    array-read-less-2
+    (λ c. omega arith)
+    (λ c. omega arith)
+    (λ c. omega arith)
+    (λ c. omega arith)
+    (λ c. omega arith)
     less-requires
     returns
-    mul-less-3
-    array-read-less-3
-    mul-less-4
-    array-read-less-4
+    (λ c. omega arith)
+    (λ c. omega arith)
+    (λ c. omega arith)
+    (λ c. omega arith)
     less-requires-2
-    add-i
-    loop-less
+    (λ c. omega arith)
+    (λ c. omega arith)
     loop-again
     returns-2)

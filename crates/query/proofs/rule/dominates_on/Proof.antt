@@ -19,44 +19,11 @@ abbrev μ-loop : tie.MeasureT-loop
 loop-holds : tie.Need-loop-holds Inv-loop μ-loop
 loop-holds c = let a = c .args in (omega arith, counted-none (a .d) (a .t3) (a .t4))
 
-mul-less : tie.Need-mul-less Inv-loop μ-loop
-mul-less c = omega arith
-
-array-read-less : tie.Need-array-read-less Inv-loop μ-loop
-array-read-less c = omega arith
-
-mul-less-2 : tie.Need-mul-less-2 Inv-loop μ-loop
-mul-less-2 c = omega arith
-
-array-read-less-2 : tie.Need-array-read-less-2 Inv-loop μ-loop
-array-read-less-2 c = omega arith
-
 less-requires : tie.Need-less-requires Inv-loop μ-loop
 less-requires c κs = tt
 
-add-fit : tie.Need-add-fit Inv-loop μ-loop
-add-fit c = omega arith
-
-mul-less-3 : tie.Need-mul-less-3 Inv-loop μ-loop
-mul-less-3 c = omega arith
-
-array-read-less-3 : tie.Need-array-read-less-3 Inv-loop μ-loop
-array-read-less-3 c = omega arith
-
-mul-less-4 : tie.Need-mul-less-4 Inv-loop μ-loop
-mul-less-4 c = omega arith
-
-array-read-less-4 : tie.Need-array-read-less-4 Inv-loop μ-loop
-array-read-less-4 c = omega arith
-
 less-requires-2 : tie.Need-less-requires-2 Inv-loop μ-loop
 less-requires-2 c κs = tt
-
-add-i : tie.Need-add-i Inv-loop μ-loop
-add-i c = omega arith
-
-loop-less : tie.Need-loop-less Inv-loop μ-loop
-loop-less c = omega arith
 
 loop-again : tie.Need-loop-again Inv-loop μ-loop
 loop-again c =
@@ -98,19 +65,19 @@ dominates-on-spec =
     Inv-loop
     μ-loop
     loop-holds
-    mul-less
-    array-read-less
-    mul-less-2
-    array-read-less-2
+    (λ c. omega arith)
+    (λ c. omega arith)
+    (λ c. omega arith)
+    (λ c. omega arith)
     less-requires
-    add-fit
-    mul-less-3
-    array-read-less-3
-    mul-less-4
-    array-read-less-4
+    (λ c. omega arith)
+    (λ c. omega arith)
+    (λ c. omega arith)
+    (λ c. omega arith)
+    (λ c. omega arith)
     less-requires-2
-    add-i
-    loop-less
+    (λ c. omega arith)
+    (λ c. omega arith)
     loop-again
     returns
     returns-2)

@@ -55,9 +55,6 @@ returns-2 c =
     (listed-read (a .h .size) (a .h .dimension) (a .m .now) (a .k .goes) (c .before .before .move-at .ensures) (c .before .is-listed .ensures) ∙ not-true _ (c .if2 .taken))
     refl refl refl
 
-hides-requires : tie.Need-hides-requires
-hides-requires c κs = search needs
-
 returns-3 : tie.Need-returns-3
 returns-3 c =
     let a = c .before .before .before .before .before .before .before .before .args in
@@ -67,9 +64,6 @@ returns-3 c =
     (listed-read (a .h .size) (a .h .dimension) (a .m .now) (a .k .goes) same (c .before .before .before .is-listed .ensures) ∙ not-false _ (c .before .before .if2 .left))
     (ap (λ (y : Move). hides (a .h .dimension) y (asMove (a .x))) (sym same) ∙ sym (c .before .hides .ensures) ∙ not-true _ (c .if3 .taken))
     refl refl
-
-hidden-by-coming-requires : tie.Need-hidden-by-coming-requires
-hidden-by-coming-requires c κs = search needs
 
 returns-4 : tie.Need-returns-4
 returns-4 c =
@@ -81,9 +75,6 @@ returns-4 c =
     (ap (λ (y : Move). hides (a .h .dimension) y (asMove (a .x))) (sym same) ∙ sym (c .before .before .before .hides .ensures) ∙ not-false _ (c .before .before .if3 .left))
     (sym (c .before .hidden-by-coming .ensures) ∙ c .if4 .taken)
     refl
-
-hidden-by-others-requires : tie.Need-hidden-by-others-requires
-hidden-by-others-requires c κs = search needs
 
 returns-5 : tie.Need-returns-5
 returns-5 c =
@@ -104,9 +95,9 @@ comes-up-spec =
     move-at-requires
     is-listed-requires
     returns-2
-    hides-requires
+    (λ c κs. search needs)
     returns-3
-    hidden-by-coming-requires
+    (λ c κs. search needs)
     returns-4
-    hidden-by-others-requires
+    (λ c κs. search needs)
     returns-5)

@@ -47,9 +47,6 @@ move-at-requires c κs =
     let pre = c .before .before .before .before .before .before .pre in
     (pre .0 .room, omega (arith, pre .0 .rows), pre .0 .numbers (c .before .before .before .before .before .before .args .i) (pre .1), pre .0 .dimension)
 
-comes-up-requires : tie.Need-comes-up-requires
-comes-up-requires c κs = search needs
-
 returns-3 : tie.Need-returns-3
 returns-3 c =
     let a = c .before .before .before .before .before .before .before .before .args in
@@ -65,5 +62,5 @@ enters-spec =
     returns
     returns-2
     move-at-requires
-    comes-up-requires
+    (λ c κs. search needs)
     returns-3)

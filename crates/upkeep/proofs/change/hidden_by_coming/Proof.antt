@@ -8,9 +8,6 @@ use Rattle.upkeep.specs.Change.{hiddenByComing}
 use Rattle.upkeep.proofs.change.hidden_by_coming.Statement.{statement}
 use Rattle.upkeep.proofs.change.hidden_by_coming.Tie as tie
 
-hides-requires : tie.Need-hides-requires
-hides-requires c κs = search needs
-
 returns : tie.Need-returns
 unfolding hiddenByComing
 returns c =
@@ -24,4 +21,4 @@ returns-2 c =
     ap (λ (b : Bool). b && hides (a .d) (asMove (a .k .coming)) (asMove (a .x))) (sym (c .if1 .left))
 
 pub hidden-by-coming-spec : {M : Type 1} → statement M
-hidden-by-coming-spec = tie.close (tie.spec hides-requires returns returns-2)
+hidden-by-coming-spec = tie.close (tie.spec (λ c κs. search needs) returns returns-2)

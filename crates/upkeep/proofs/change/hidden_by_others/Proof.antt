@@ -48,12 +48,6 @@ returns c =
     sym (anyTo-found (hider (a .h .size) (a .h .dimension) (a .goes) (asMove (a .x)) (a .m .now)) (a .h .count) j (omega arith)
     (and-both (not (eqb j (a .goes))) (hides (a .h .dimension) (moveIn (a .h .size) (a .h .dimension) (a .m .now) j) (asMove (a .x))) (ap not (ne-eqb j (a .goes) (c .before .before .before .if1 .taken))) hidden))
 
-add-j : tie.Need-add-j Inv-loop μ-loop
-add-j c = omega arith
-
-loop-less : tie.Need-loop-less Inv-loop μ-loop
-loop-less c = omega arith
-
 loop-again : tie.Need-loop-again Inv-loop μ-loop
 loop-again c =
     let a = c .before .before .before .before .args in
@@ -85,7 +79,7 @@ hidden-by-others-spec =
     move-at-requires
     hides-requires
     returns
-    add-j
-    loop-less
+    (λ c. omega arith)
+    (λ c. omega arith)
     loop-again
     returns-2)

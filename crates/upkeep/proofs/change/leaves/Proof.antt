@@ -46,9 +46,6 @@ move-at-requires c κs =
     let pre = c .before .before .before .before .before .before .pre in
     (pre .0 .room, omega (arith, pre .0 .rows), pre .0 .numbers (c .before .before .before .before .before .before .args .i) (pre .1), pre .0 .dimension)
 
-hidden-by-coming-requires : tie.Need-hidden-by-coming-requires
-hidden-by-coming-requires c κs = search needs
-
 returns-3 : tie.Need-returns-3
 returns-3 c =
     let a = c .before .before .before .before .before .before .before .before .args in
@@ -64,5 +61,5 @@ leaves-spec =
     returns
     returns-2
     move-at-requires
-    hidden-by-coming-requires
+    (λ c κs. search needs)
     returns-3)

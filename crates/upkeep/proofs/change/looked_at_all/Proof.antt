@@ -61,12 +61,6 @@ add-entered c =
     let a = c .before .before .before .before .before .before .before .before .before .before .before .before .args in
     omega (arith, passing-few (a .h .size) (a .m .now) (entersAt (a .h .size) (a .h .dimension) (a .h .count) (a .k) (a .m .now)) (c .before .before .before .before .before .before .before .before .loop .inv .2))
 
-add-i : tie.Need-add-i Inv-loop μ-loop
-add-i c = omega arith
-
-loop-less : tie.Need-loop-less Inv-loop μ-loop
-loop-less c = omega arith
-
 loop-again : tie.Need-loop-again Inv-loop μ-loop
 loop-again c =
     let a = c .before .before .before .before .before .before .before .before .before .before .args in
@@ -114,7 +108,7 @@ looked-at-all-spec =
     enters-requires
     add-requires-2
     add-entered
-    add-i
-    loop-less
+    (λ c. omega arith)
+    (λ c. omega arith)
     loop-again
     returns)

@@ -31,9 +31,6 @@ loop-holds c =
     let a = c .before .before .args in
     (omega arith, passing-none (a .h .size) (a .m .now) (listedAt (a .h .size) (a .m .now)) (c .empty .result) (c .empty .ensures))
 
-number-at-requires : tie.Need-number-at-requires Inv-loop μ-loop
-number-at-requires c κs = omega arith
-
 is-listed-requires : tie.Need-is-listed-requires Inv-loop μ-loop
 is-listed-requires c κs = omega (arith, c .before .before .before .before .before .pre .numbers (c .before .before .loop .i) (omega arith))
 
@@ -46,12 +43,6 @@ add-count : tie.Need-add-count Inv-loop μ-loop
 add-count c =
     let a = c .before .before .before .before .before .before .before .before .before .args in
     omega (arith, passing-few (a .h .size) (a .m .now) (listedAt (a .h .size) (a .m .now)) (c .before .before .before .before .before .before .loop .inv .1))
-
-add-i : tie.Need-add-i Inv-loop μ-loop
-add-i c = omega arith
-
-loop-less : tie.Need-loop-less Inv-loop μ-loop
-loop-less c = omega arith
 
 loop-again : tie.Need-loop-again Inv-loop μ-loop
 loop-again c =
@@ -81,11 +72,11 @@ find-listed-spec =
     μ-loop
     empty-requires
     loop-holds
-    number-at-requires
+    (λ c κs. omega arith)
     is-listed-requires
     add-requires
     add-count
-    add-i
-    loop-less
+    (λ c. omega arith)
+    (λ c. omega arith)
     loop-again
     returns)

@@ -4,14 +4,8 @@ use Rattle.upkeep.specs.Laws.Found.{nothing-told}
 use Rattle.upkeep.proofs.found.telling_none.Statement.{statement}
 use Rattle.upkeep.proofs.found.telling_none.Tie as tie
 
-empty-requires : tie.Need-empty-requires
-empty-requires c κs = search needs
-
-telling-of-requires : tie.Need-telling-of-requires
-telling-of-requires c κs = search needs
-
 returns : tie.Need-returns
 returns c = record { rows = nothing-told (c .telling-of .ensures) }
 
 pub telling-none-spec : {M : Type 1} → statement M
-telling-none-spec = tie.close (tie.spec empty-requires telling-of-requires returns)
+telling-none-spec = tie.close (tie.spec (λ c κs. search needs) (λ c κs. search needs) returns)

@@ -54,12 +54,6 @@ set-listed-requires c κs =
     let below = numbers-kept (a .h .size) (a .h .count) (a .m .now) (own .m) frame (pre .0 .rows) (pre .0 .numbers) (own .i) (omega arith) in
     (room-over (a .h .size) frame (pre .0 .room), omega (arith, number, below))
 
-add-i : tie.Need-add-i Inv-loop μ-loop
-add-i c = omega arith
-
-loop-less : tie.Need-loop-less Inv-loop μ-loop
-loop-less c = omega arith
-
 loop-again : tie.Need-loop-again Inv-loop μ-loop
 loop-again c =
     let looped = c .before .before .before .before .before .before .before .before .before in
@@ -96,8 +90,8 @@ mark-all-spec =
     move-at-requires
     hidden-before-requires
     set-listed-requires
-    add-i
-    loop-less
+    (λ c. omega arith)
+    (λ c. omega arith)
     loop-again
     same-length
     returns)

@@ -7,18 +7,6 @@ use Rattle.upkeep.specs.Laws.Marks.{mark-left, mark-leaves, mark-enters}
 use Rattle.upkeep.proofs.notice.set_mark.Statement.{statement}
 use Rattle.upkeep.proofs.notice.set_mark.Tie as tie
 
-number-at-requires : tie.Need-number-at-requires
-number-at-requires c κs = search needs
-
-has-requires : tie.Need-has-requires
-has-requires c κs = search needs
-
-set-listed-requires : tie.Need-set-listed-requires
-set-listed-requires c κs = search needs
-
-same-length : tie.Need-same-length
-same-length c = search needs
-
 returns : tie.Need-returns
 returns c =
     let a = c .before .before .before .before .before .before .before .before .before .args in
@@ -27,15 +15,6 @@ returns c =
     mark-leaves (a .c) (a .i) (a .leaving .now) (a .entering .now) (a .m .now) (pre .0) (c .before .before .before .before .before .before .number-at .result) read (omega (arith, pre .2)) (c .before .before .set-listed .last .0)
     (sym (c .before .before .before .before .before .has .ensures) ∙ c .before .before .before .before .if1 .taken) (c .before .before .set-listed .ensures)
 
-has-requires-2 : tie.Need-has-requires-2
-has-requires-2 c κs = search needs
-
-set-listed-requires-2 : tie.Need-set-listed-requires-2
-set-listed-requires-2 c κs = search needs
-
-same-length-2 : tie.Need-same-length-2
-same-length-2 c = search needs
-
 returns-2 : tie.Need-returns-2
 returns-2 c =
     let a = c .before .before .before .before .before .before .before .before .before .before .before .args in
@@ -43,9 +22,6 @@ returns-2 c =
     let read = c .before .before .before .before .before .before .before .before .number-at .ensures in
     mark-enters (a .c) (a .i) (a .leaving .now) (a .entering .now) (a .m .now) (pre .0) (c .before .before .before .before .before .before .before .before .number-at .result) read (omega (arith, pre .2)) (c .before .before .set-listed2 .last .0)
     (sym (c .before .before .before .before .before .before .before .has .ensures) ∙ c .before .before .before .before .before .before .if1 .left) (sym (c .before .before .before .before .before .has2 .ensures) ∙ c .before .before .before .before .if2 .taken) (c .before .before .set-listed2 .ensures)
-
-same-length-3 : tie.Need-same-length-3
-same-length-3 c = search needs
 
 returns-3 : tie.Need-returns-3
 returns-3 c =
@@ -59,14 +35,14 @@ pub set-mark-spec : {M : Type 1} → statement M
 set-mark-spec =
     tie.close
     (tie.spec
-    number-at-requires
-    has-requires
-    set-listed-requires
-    same-length
+    (λ c κs. search needs)
+    (λ c κs. search needs)
+    (λ c κs. search needs)
+    (λ c. search needs)
     returns
-    has-requires-2
-    set-listed-requires-2
-    same-length-2
+    (λ c κs. search needs)
+    (λ c κs. search needs)
+    (λ c. search needs)
     returns-2
-    same-length-3
+    (λ c. search needs)
     returns-3)

@@ -28,12 +28,6 @@ set-mark-requires c κs =
     let small = pre .numbers (own .i) (omega arith) in
     (room-over (a .h .size) (own .inv .1 .frame) (pre .room), omega (arith, pre .rows), omega (arith, number-over-marks (a .h .size) (own .inv .1 .frame) (own .i) (omega (arith, pre .rows))))
 
-add-i : tie.Need-add-i Inv-loop μ-loop
-add-i c = omega arith
-
-loop-less : tie.Need-loop-less Inv-loop μ-loop
-loop-less c = omega arith
-
 loop-again : tie.Need-loop-again Inv-loop μ-loop
 loop-again c =
     let a = c .before .before .before .before .before .before .before .before .before .before .args in
@@ -63,8 +57,8 @@ set-marks-spec =
     μ-loop
     loop-holds
     set-mark-requires
-    add-i
-    loop-less
+    (λ c. omega arith)
+    (λ c. omega arith)
     loop-again
     same-length
     returns)

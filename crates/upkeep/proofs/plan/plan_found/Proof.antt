@@ -4,16 +4,10 @@ use Rattle.upkeep.specs.Laws.Planned.{found-few, found-all}
 use Rattle.upkeep.proofs.plan.plan_found.Statement.{statement}
 use Rattle.upkeep.proofs.plan.plan_found.Tie as tie
 
-nothing-requires : tie.Need-nothing-requires
-nothing-requires c κs = search needs
-
 returns : tie.Need-returns
 returns c =
     let a = c .before .before .args in
     found-few (a .h) (a .found) (a .opened) (a .lent) (c .nothing .ensures) (c .before .if1 .taken)
-
-telling-of-requires : tie.Need-telling-of-requires
-telling-of-requires c κs = search needs
 
 returns-2 : tie.Need-returns-2
 returns-2 c =
@@ -21,4 +15,4 @@ returns-2 c =
     found-all (a .h) (a .found) (a .opened) (a .lent) (c .telling-of .result) (c .telling-of .ensures) (c .before .before .if1 .left)
 
 pub plan-found-spec : {M : Type 1} → statement M
-plan-found-spec = tie.close (tie.spec nothing-requires returns telling-of-requires returns-2)
+plan-found-spec = tie.close (tie.spec (λ c κs. search needs) returns (λ c κs. search needs) returns-2)

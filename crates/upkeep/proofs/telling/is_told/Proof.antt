@@ -24,9 +24,6 @@ returns c =
     let a = c .before .before .args in
     sym (coming-told (a .h) (a .place) (a .listed) (a .leaving .now) (a .entering .now) (a .m .now) (a .i) (c .if1 .taken))
 
-place-at-requires : tie.Need-place-at-requires
-place-at-requires c κs = search needs
-
 number-at-requires : tie.Need-number-at-requires
 number-at-requires c κs = let pre = c .before .before .before .pre .0 in (pre .room, omega (arith, on-board c, pre .rows))
 
@@ -64,7 +61,7 @@ is-told-spec =
     (tie.spec
     add-if1
     returns
-    place-at-requires
+    (λ c κs. search needs)
     number-at-requires
     has-requires
     returns-2

@@ -9,9 +9,6 @@ use Rattle.upkeep.proofs.telling.place_at.Tie as tie
 returns : tie.Need-returns
 returns c = let a = c .before .args in sym (place-left (a .n) (a .place) (a .i) (c .if1 .taken))
 
-sub-result : tie.Need-sub-result
-sub-result c = search needs
-
 returns-2 : tie.Need-returns-2
 returns-2 c = let a = c .before .before .args in sym (place-before (a .n) (a .place) (a .i) (omega arith) (omega arith))
 
@@ -19,4 +16,4 @@ returns-3 : tie.Need-returns-3
 returns-3 c = let a = c .before .before .args in sym (place-after (a .n) (a .place) (a .i) (omega arith) (omega arith))
 
 pub place-at-spec : {M : Type 1} → statement M
-place-at-spec = tie.close (tie.spec returns sub-result returns-2 returns-3)
+place-at-spec = tie.close (tie.spec returns (λ c. search needs) returns-2 returns-3)

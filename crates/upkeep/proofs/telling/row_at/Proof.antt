@@ -13,16 +13,10 @@ use Rattle.upkeep.proofs.telling.row_at.Tie as tie
 add-if1 : tie.Need-add-if1
 add-if1 c = let asked = c .before .before .before .pre .0 in omega (arith, asked .readable .rows, asked .readable .room .1, asked .place)
 
-row-of-requires : tie.Need-row-of-requires
-row-of-requires c κs = search needs
-
 returns : tie.Need-returns
 returns c =
     let a = c .before .before .before .before .before .before .args in
     c .row-of .ensures ∙ sym (coming-row (a .t) (a .m .now) (a .i) (c .before .before .if1 .taken))
-
-place-at-requires : tie.Need-place-at-requires
-place-at-requires c κs = search needs
 
 move-at-requires : tie.Need-move-at-requires
 move-at-requires c κs =
@@ -32,9 +26,6 @@ move-at-requires c κs =
     let on-board : c .place-at .result < a .t .head .count = omega (arith, place-below (a .t .head .count) (a .t .place) (a .i) (pre .0 .place) (pre .1) (c .before .if1 .left), c .place-at .ensures) in
     (asked .room, omega (arith, asked .rows), asked .numbers (c .place-at .result) on-board, asked .dimension)
 
-row-of-requires-2 : tie.Need-row-of-requires-2
-row-of-requires-2 c κs = search needs
-
 returns-2 : tie.Need-returns-2
 returns-2 c =
     let read = c .before .before .before in
@@ -42,9 +33,6 @@ returns-2 c =
     c .row-of2 .ensures
     ∙ ap (moveNumbers (a .t .mark)) (c .before .before .move-at .ensures)
     ∙ sym (place-row (a .t) (a .m .now) (a .i) (read .before .if1 .left) (read .place-at .result) (sym (read .place-at .ensures)) (lt-ltb (a .i) (a .t .head .count) (c .before .if2 .taken)))
-
-row-of-requires-3 : tie.Need-row-of-requires-3
-row-of-requires-3 c κs = search needs
 
 returns-3 : tie.Need-returns-3
 returns-3 c =
@@ -59,11 +47,11 @@ row-at-spec =
     tie.close
     (tie.spec
     add-if1
-    row-of-requires
+    (λ c κs. search needs)
     returns
-    place-at-requires
+    (λ c κs. search needs)
     move-at-requires
-    row-of-requires-2
+    (λ c κs. search needs)
     returns-2
-    row-of-requires-3
+    (λ c κs. search needs)
     returns-3)

@@ -30,9 +30,6 @@ is-told-requires c κs = let asked = c .before .before .before .before .before .
 row-at-requires : tie.Need-row-at-requires Inv-loop μ-loop
 row-at-requires c κs = (c .before .before .before .before .before .before .before .before .before .before .pre, omega arith)
 
-add-t16 : tie.Need-add-t16 Inv-loop μ-loop
-add-t16 c = omega arith
-
 returns : tie.Need-returns Inv-loop μ-loop
 returns c =
     let a = c .before .before .before .before .before .before .before .before .before .before .before .args in
@@ -40,12 +37,6 @@ returns c =
     let here = sym (own .inv .1) ∙ from-told (a .t2) (a .m .now) (own .j) (omega arith) (sym (c .before .before .is-told .ensures) ∙ c .before .if1 .taken) in
     let next = next-told (a .t2) (a .m .now) (a .i) here in
     (c .row-at .ensures ∙ sym (next .0), add-one (own .j) ∙ sym (next .1))
-
-add-j : tie.Need-add-j Inv-loop μ-loop
-add-j c = omega arith
-
-loop-less : tie.Need-loop-less Inv-loop μ-loop
-loop-less c = omega arith
 
 loop-again : tie.Need-loop-again Inv-loop μ-loop
 loop-again c =
@@ -75,9 +66,9 @@ told-next-spec =
     loop-holds
     is-told-requires
     row-at-requires
-    add-t16
+    (λ c. omega arith)
     returns
-    add-j
-    loop-less
+    (λ c. omega arith)
+    (λ c. omega arith)
     loop-again
     returns-2)

@@ -7,15 +7,6 @@ use Rattle.framing.specs.Laws.Judged.{stepped}
 use Rattle.framing.proofs.reading.Line.step.Statement.{statement}
 use Rattle.framing.proofs.reading.Line.step.Tie as tie
 
-placed-requires : tie.Need-placed-requires
-placed-requires c κs = search needs
-
-counted-requires : tie.Need-counted-requires
-counted-requires c κs = search needs
-
-is-digit-requires : tie.Need-is-digit-requires
-is-digit-requires c κs = search needs
-
 returns : tie.Need-returns
 unfolding Stepped
 returns c =
@@ -39,4 +30,4 @@ returns-2 c =
     (c .if1 .left ∙ ap (λ (x : Bool). x && a .self .spelled) digit)
 
 pub step-spec : {M : Type 1} → statement M
-step-spec = tie.close (tie.spec placed-requires counted-requires is-digit-requires returns returns-2)
+step-spec = tie.close (tie.spec (λ c κs. search needs) (λ c κs. search needs) (λ c κs. search needs) returns returns-2)
