@@ -22,7 +22,7 @@ fn make_enter(m: &mut [u8], h: Head, x: Move, u: Upkeep)
     set_marks(m, h, u);
     set_listed(m, h.size, x.number, u.listed);
     set_costs(m, h.size, x.number, costs);
-    enter_line(m, h.size, h.dimension, n, x);
+    enter_line(m, h, x);
     set_count(m, n + 1);
 }
 
@@ -32,7 +32,7 @@ fn make_withdraw(m: &mut [u8], h: Head, p: usize, u: Upkeep)
 {
     let n = h.count;
     set_marks(m, h, u);
-    withdraw_line(m, h.size, h.dimension, n, p);
+    withdraw_line(m, h, p);
     set_count(m, n - 1);
 }
 
@@ -44,9 +44,14 @@ fn make_recost(m: &mut [u8], h: Head, p: usize, x: Move, u: Upkeep)
     let costs = x.costs;
     set_marks(m, h, u);
     set_listed(m, h.size, x.number, u.listed);
-    withdraw_line(m, h.size, h.dimension, n, p);
+    withdraw_line(m, h, p);
     set_costs(m, h.size, x.number, costs);
-    enter_line(m, h.size, h.dimension, n - 1, x);
+    let fewer = Head {
+        size: h.size,
+        dimension: h.dimension,
+        count: n - 1,
+    };
+    enter_line(m, fewer, x);
     set_count(m, n);
 }
 

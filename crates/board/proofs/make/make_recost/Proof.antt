@@ -43,9 +43,6 @@ set-costs-requires c κs =
     coming-asked (start .pre .asked) refl
     (recost-written (start .pre) bytes (marks .set-marks .ensures) (listed .set-listed .ensures) (gone .withdraw-line .ensures))
 
-sub-enter-line : tie.Need-sub-enter-line
-sub-enter-line c = search needs
-
 enter-line-requires : tie.Need-enter-line-requires
 unfolding Bytes
 enter-line-requires c κs =
@@ -93,7 +90,7 @@ make-recost-spec =
     set-listed-requires
     withdraw-line-requires
     set-costs-requires
-    sub-enter-line
+    (λ c. search needs)
     enter-line-requires
     set-count-requires
     same-length

@@ -8,10 +8,10 @@ use Rattle.tree.proofs.withdraw.enter_saved.Statement.{statement}
 use Rattle.tree.proofs.withdraw.enter_saved.Tie as tie
 
 abbrev Inv-loop : tie.InvT-loop
-Inv-loop m₀ c d n k j₀ m j = Entering c d n k j m₀ m
+Inv-loop m₀ h k n j₀ m j = Entering (h .size) (h .dimension) (h .count) k j m₀ m
 
 abbrev μ-loop : tie.MeasureT-loop
-μ-loop m₀ c d n k j₀ m j = k - j
+μ-loop m₀ h k n j₀ m j = k - j
 
 loop-holds : tie.Need-loop-holds Inv-loop μ-loop
 loop-holds c = entering-none (c .before .pre)
@@ -28,7 +28,7 @@ enter-line-requires c κs =
     let own = c .before .before .before .before .before .before .loop in
     let number = c .before .before .before .work-at in
     let costs = c .before .costs-of in
-    subst (λ x. EnterAsked (a .c) (a .d) (a .n + own .j) x (own .m))
+    subst (λ x. EnterAsked (a .h .size) (a .h .dimension) (a .h .count + own .j) x (own .m))
     (entering-read (start .pre) (own .inv) (omega arith) (record { number = number .result; costs = costs .result }) (number .ensures) (costs .ensures))
     (entering-asked (start .pre) (own .inv) (omega arith))
 
@@ -41,7 +41,7 @@ loop-again c =
     let costs = c .before .before .before .before .costs-of in
     let after = c .before .before .enter-line in
     entering-more (start .pre) (own .inv) (omega arith) (after .last .0)
-    (subst (λ x. Entered (a .c) (a .d) (a .n + own .j) x (own .m) (after .last .0))
+    (subst (λ x. Entered (a .h .size) (a .h .dimension) (a .h .count + own .j) x (own .m) (after .last .0))
     (sym (entering-read (start .pre) (own .inv) (omega arith) (record { number = number .result; costs = costs .result }) (number .ensures) (costs .ensures)))
     (after .ensures))
 
@@ -50,7 +50,7 @@ returns c =
     let a = c .before .before .before .args in
     let own = c .before .loop in
     let end : own .j ≡ a .k = omega arith in
-    entering-all (c .before .before .before .pre) (own .m) (subst (λ j. Entering (a .c) (a .d) (a .n) (a .k) j (a .m .now) (own .m)) end (own .inv))
+    entering-all (c .before .before .before .pre) (own .m) (subst (λ j. Entering (a .h .size) (a .h .dimension) (a .h .count) (a .k) j (a .m .now) (own .m)) end (own .inv))
 
 pub enter-saved-spec : {M : Type 1} → statement M
 enter-saved-spec =

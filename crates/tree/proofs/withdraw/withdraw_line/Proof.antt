@@ -18,7 +18,7 @@ enter-saved-requires c κs =
     let a = start .args in
     let r = wide .widened .result in
     saved-asked (start .pre .place) (wide .widened .ensures)
-    (subst (λ (v : ℕ). Saved (a .c) (r .from) (r .to) v (a .m .now) (save .save .last .0) (save .save .result)) (read .number-at .ensures) (save .save .ensures))
+    (subst (λ (v : ℕ). Saved (a .h .size) (r .from) (r .to) v (a .m .now) (save .save .last .0) (save .save .result)) (read .number-at .ensures) (save .save .ensures))
     (cut .cut-out .ensures) (lower .lower-root .ensures) (start .pre .tree)
 
 returns : tie.Need-returns
@@ -33,7 +33,7 @@ returns c =
     let a = start .args in
     let r = wide .widened .result in
     withdrawn (start .pre .place) (wide .widened .ensures)
-    (subst (λ (v : ℕ). Saved (a .c) (r .from) (r .to) v (a .m .now) (save .save .last .0) (save .save .result)) (read .number-at .ensures) (save .save .ensures))
+    (subst (λ (v : ℕ). Saved (a .h .size) (r .from) (r .to) v (a .m .now) (save .save .last .0) (save .save .result)) (read .number-at .ensures) (save .save .ensures))
     (cut .cut-out .ensures) (lower .lower-root .ensures) (entered .enter-saved .ensures)
 
 pub withdraw-line-spec : {M : Type 1} → statement M
