@@ -5,6 +5,7 @@ use memory::set_costs;
 use memory::set_count;
 use memory::set_listed;
 use tree::enter_line;
+use tree::with_rows;
 use tree::withdraw_line;
 use upkeep::Plan;
 use upkeep::Upkeep;
@@ -46,12 +47,7 @@ fn make_recost(m: &mut [u8], h: Head, p: usize, x: Move, u: Upkeep)
     set_listed(m, h.size, x.number, u.listed);
     withdraw_line(m, h, p);
     set_costs(m, h.size, x.number, costs);
-    let fewer = Head {
-        size: h.size,
-        dimension: h.dimension,
-        count: n - 1,
-    };
-    enter_line(m, fewer, x);
+    enter_line(m, with_rows(h, n - 1), x);
     set_count(m, n);
 }
 

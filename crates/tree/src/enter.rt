@@ -64,6 +64,17 @@ fn put_row(m: &mut [u8], h: Head, p: usize, x: Move)
     }
 }
 
+// The same board with n rows.
+pub fn with_rows(h: Head, n: usize) -> Head
+    ensures { λ r. ⌜ r ≡ enter.withRows h n ⌝ }
+{
+    Head {
+        size: h.size,
+        dimension: h.dimension,
+        count: n,
+    }
+}
+
 // x entered among the rows. Its costs stand in the memory already.
 pub fn enter_line(m: &mut [u8], h: Head, x: Move)
     requires { ⌜ enter.EnterAsked (h .size) (h .dimension) (h .count) (asMove x) (now m) ⌝ }
@@ -76,10 +87,5 @@ pub fn enter_line(m: &mut [u8], h: Head, x: Move)
     }
     let p = place_for(m, h, x);
     put_row(m, h, p, x);
-    let more = Head {
-        size: h.size,
-        dimension: h.dimension,
-        count: n + 1,
-    };
-    cascade(m, more, p);
+    cascade(m, with_rows(h, n + 1), p);
 }

@@ -1,5 +1,6 @@
 // A move taken out of the line; the moves under removed nodes are entered again.
 use crate::enter::enter_line;
+use crate::enter::with_rows;
 use crate::places::entries;
 use crate::places::node_end;
 use crate::places::node_start;
@@ -146,12 +147,7 @@ fn enter_saved(m: &mut [u8], h: Head, k: usize)
             number,
             costs: costs_of(m, h.size, h.dimension, number),
         };
-        let more = Head {
-            size: h.size,
-            dimension: h.dimension,
-            count: n + j,
-        };
-        enter_line(m, more, x);
+        enter_line(m, with_rows(h, n + j), x);
         j += 1;
     }
 }
@@ -170,10 +166,5 @@ pub fn withdraw_line(m: &mut [u8], h: Head, p: usize)
     cut_out(m, h.size, n, from, to);
     let left = n - (to - from);
     lower_root(m, h.size, left);
-    let rest = Head {
-        size: h.size,
-        dimension: h.dimension,
-        count: left,
-    };
-    enter_saved(m, rest, k);
+    enter_saved(m, with_rows(h, left), k);
 }
