@@ -5,6 +5,7 @@ use memory::set_costs;
 use memory::set_count;
 use memory::set_listed;
 use tree::enter_line;
+use tree::with_rows;
 use tree::withdraw_line;
 use upkeep::Plan;
 use upkeep::Upkeep;
@@ -22,7 +23,7 @@ fn make_enter(m: &mut [u8], h: Head, x: Move, u: Upkeep)
     set_marks(m, h, u);
     set_listed(m, h.size, x.number, u.listed);
     set_costs(m, h.size, x.number, costs);
-    enter_line(m, h.size, h.dimension, n, x);
+    enter_line(m, h, x);
     set_count(m, n + 1);
 }
 
@@ -32,7 +33,7 @@ fn make_withdraw(m: &mut [u8], h: Head, p: usize, u: Upkeep)
 {
     let n = h.count;
     set_marks(m, h, u);
-    withdraw_line(m, h.size, h.dimension, n, p);
+    withdraw_line(m, h, p);
     set_count(m, n - 1);
 }
 
@@ -44,9 +45,9 @@ fn make_recost(m: &mut [u8], h: Head, p: usize, x: Move, u: Upkeep)
     let costs = x.costs;
     set_marks(m, h, u);
     set_listed(m, h.size, x.number, u.listed);
-    withdraw_line(m, h.size, h.dimension, n, p);
+    withdraw_line(m, h, p);
     set_costs(m, h.size, x.number, costs);
-    enter_line(m, h.size, h.dimension, n - 1, x);
+    enter_line(m, with_rows(h, n - 1), x);
     set_count(m, n);
 }
 

@@ -17,6 +17,6 @@ pub fn plan_list(m: &[u8], lent: usize) -> Plan
         return nothing(Verdict::Unsound);
     };
     let found = find_listed(m, h);
-    let opened = nodes_opened(m, h.size, h.dimension, h.count);
+    let opened = nodes_opened(m, h);
     plan_found(h, found, opened, lent)
 }

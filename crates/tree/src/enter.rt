@@ -5,6 +5,7 @@ use crate::places::node_end;
 use crate::places::node_start;
 use crate::split::cascade;
 use dominance::Move;
+use memory::Head;
 use memory::costs_of;
 use memory::height_at;
 use memory::number_at;
@@ -17,51 +18,74 @@ ghost use Rattle.tree.specs.Enter as enter;
 
 // Whether x becomes the first of the nodes that start at place p: before the first move always, in a gap if the later
 // neighbour gets the lesser side.
-fn takes_over(m: &[u8], c: usize, d: usize, n: usize, p: usize, x: Move) -> bool
-    requires { ⌜ enter.PlaceAsked c d n p (now m) ⌝ }
-    ensures { λ r. ⌜ enter.TakesOver c d n p (asMove x) (now (m .entry)) r ⌝ }
+fn takes_over(m: &[u8], h: Head, p: usize, x: Move) -> bool
+    requires { ⌜ enter.PlaceAsked (h .size) (h .dimension) (h .count) p (now m) ⌝ }
+    ensures { λ r. ⌜ enter.TakesOver (h .size) (h .dimension) (h .count) p (asMove x) (now (m .entry)) r ⌝ }
 {
+    let n = h.count;
     if p == 0 {
         return true;
     }
     if n <= p {
         return false;
     }
-    let k = height_at(m, c, p);
+    let k = height_at(m, h.size, p);
     if k == 0 {
         return false;
     }
-    let first = costs_of(m, c, d, number_at(m, c, node_start(m, c, k, p - 1)));
-    let last = costs_of(m, c, d, number_at(m, c, node_end(m, c, n, k, p) - 1));
+    let first = costs_of(
+        m,
+        h.size,
+        h.dimension,
+        number_at(m, h.size, node_start(m, h.size, k, p - 1)),
+    );
+    let last = costs_of(
+        m,
+        h.size,
+        h.dimension,
+        number_at(m, h.size, node_end(m, h.size, n, k, p) - 1),
+    );
     let a = x.costs;
     let b = x.costs;
-    side_of(d, a, last) < side_of(d, first, b)
+    side_of(h.dimension, a, last) < side_of(h.dimension, first, b)
 }
 
 // The row of x put at place p.
-fn put_row(m: &mut [u8], c: usize, d: usize, n: usize, p: usize, x: Move)
-    requires { ⌜ enter.PutAsked c d n p (asMove x) (now m) ⌝ }
-    ensures { λ _. ⌜ enter.Put c d n p (asMove x) (now (m .entry)) (now (m .exit)) ⌝ }
+fn put_row(m: &mut [u8], h: Head, p: usize, x: Move)
+    requires { ⌜ enter.PutAsked (h .size) (h .dimension) (h .count) p (asMove x) (now m) ⌝ }
+    ensures { λ _. ⌜ enter.Put (h .size) (h .dimension) (h .count) p (asMove x) (now (m .entry)) (now (m .exit)) ⌝ }
 {
-    if takes_over(m, c, d, n, p, x) {
-        let h = height_at(m, c, p);
-        set_height(m, c, p, 0);
-        insert_row(m, c, n, p, x.number, h);
+    if takes_over(m, h, p, x) {
+        let k = height_at(m, h.size, p);
+        set_height(m, h.size, p, 0);
+        insert_row(m, h.size, h.count, p, x.number, k);
     } else {
-        insert_row(m, c, n, p, x.number, 0);
+        insert_row(m, h.size, h.count, p, x.number, 0);
     }
 }
 
-// x entered among the first n rows. Its costs stand in the memory already.
-pub fn enter_line(m: &mut [u8], c: usize, d: usize, n: usize, x: Move)
-    requires { ⌜ enter.EnterAsked c d n (asMove x) (now m) ⌝ }
-    ensures { λ _. ⌜ enter.Entered c d n (asMove x) (now (m .entry)) (now (m .exit)) ⌝ }
+// The same board with n rows.
+pub fn with_rows(h: Head, n: usize) -> Head
+    ensures { λ r. ⌜ r ≡ enter.withRows h n ⌝ }
 {
+    Head {
+        size: h.size,
+        dimension: h.dimension,
+        count: n,
+    }
+}
+
+// x entered among the rows. Its costs stand in the memory already.
+pub fn enter_line(m: &mut [u8], h: Head, x: Move)
+    requires { ⌜ enter.EnterAsked (h .size) (h .dimension) (h .count) (asMove x) (now m) ⌝ }
+    ensures { λ _. ⌜ enter.Entered (h .size) (h .dimension) (h .count) (asMove x) (now (m .entry)) (now (m .exit)) ⌝ }
+{
+    let n = h.count;
     if n == 0 {
-        insert_row(m, c, 0, 0, x.number, 1);
+        insert_row(m, h.size, 0, 0, x.number, 1);
         return;
     }
-    let p = place_for(m, c, d, n, x);
-    put_row(m, c, d, n, p, x);
-    cascade(m, c, d, n + 1, p);
+    let p = place_for(m, h, x);
+    put_row(m, h, p, x);
+    cascade(m, with_rows(h, n + 1), p);
 }

@@ -8,6 +8,7 @@ mod split;
 mod withdraw;
 
 pub use enter::enter_line;
+pub use enter::with_rows;
 pub use insert::insert_row;
 pub use insert::place_for;
 pub use nodes::corner_dominated;

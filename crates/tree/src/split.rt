@@ -4,6 +4,7 @@ use crate::places::entry_at;
 use crate::places::node_end;
 use crate::places::node_start;
 use crate::places::side_between;
+use memory::Head;
 use memory::height_at;
 use memory::set_height;
 ghost use mathlib.Core.Path.{_≡_};
@@ -19,17 +20,17 @@ fn cut_sides(m: &[u8], c: usize, d: usize, s: usize, q: usize, e: usize) -> u32
 }
 
 // Where the node of nine at level l, from s to e, is cut: before its entry 3, 4, 5 or 6.
-fn cut_place(m: &[u8], c: usize, d: usize, n: usize, l: u8, s: usize, e: usize) -> usize
-    requires { ⌜ split.NodeOfNine c d n l s e (now m) ⌝ }
-    ensures { λ r. ⌜ split.CutPlace c d n l s e (now (m .entry)) r ⌝ }
+fn cut_place(m: &[u8], h: Head, l: u8, s: usize, e: usize) -> usize
+    requires { ⌜ split.NodeOfNine (h .size) (h .dimension) (h .count) l s e (now m) ⌝ }
+    ensures { λ r. ⌜ split.CutPlace (h .size) (h .dimension) (h .count) l s e (now (m .entry)) r ⌝ }
 {
-    let mut q = entry_at(m, c, n, l - 1, s, 3);
+    let mut q = entry_at(m, h.size, h.count, l - 1, s, 3);
     let mut best = q;
-    let mut least = cut_sides(m, c, d, s, q, e);
+    let mut least = cut_sides(m, h.size, h.dimension, s, q, e);
     let mut j: usize = 3;
     while j < 6 {
-        q = node_end(m, c, n, l - 1, q);
-        let sides = cut_sides(m, c, d, s, q, e);
+        q = node_end(m, h.size, h.count, l - 1, q);
+        let sides = cut_sides(m, h.size, h.dimension, s, q, e);
         if sides < least {
             least = sides;
             best = q;
@@ -40,32 +41,32 @@ fn cut_place(m: &[u8], c: usize, d: usize, n: usize, l: u8, s: usize, e: usize) 
 }
 
 // The cut made; a root gets a new root.
-fn cut(m: &mut [u8], c: usize, d: usize, n: usize, l: u8, s: usize, e: usize)
-    requires { ⌜ split.NodeOfNine c d n l s e (now m) ⌝ }
-    ensures { λ _. ⌜ split.Cut c d n l s e (now (m .entry)) (now (m .exit)) ⌝ }
+fn cut(m: &mut [u8], h: Head, l: u8, s: usize, e: usize)
+    requires { ⌜ split.NodeOfNine (h .size) (h .dimension) (h .count) l s e (now m) ⌝ }
+    ensures { λ _. ⌜ split.Cut (h .size) (h .dimension) (h .count) l s e (now (m .entry)) (now (m .exit)) ⌝ }
 {
-    let q = cut_place(m, c, d, n, l, s, e);
-    let top = height_at(m, c, 0);
-    set_height(m, c, q, l);
+    let q = cut_place(m, h, l, s, e);
+    let top = height_at(m, h.size, 0);
+    set_height(m, h.size, q, l);
     if top == l {
-        set_height(m, c, 0, l + 1);
+        set_height(m, h.size, 0, l + 1);
     }
 }
 
 // From the leaf that holds place p up, while the node has nine entries.
-pub fn cascade(m: &mut [u8], c: usize, d: usize, n: usize, p: usize)
-    requires { ⌜ split.CascadeAsked c d n p (now m) ⌝ }
-    ensures { λ _. ⌜ split.Cascaded c d n p (now (m .entry)) (now (m .exit)) ⌝ }
+pub fn cascade(m: &mut [u8], h: Head, p: usize)
+    requires { ⌜ split.CascadeAsked (h .size) (h .dimension) (h .count) p (now m) ⌝ }
+    ensures { λ _. ⌜ split.Cascaded (h .size) (h .dimension) (h .count) p (now (m .entry)) (now (m .exit)) ⌝ }
 {
-    let mut left = height_at(m, c, 0) + 1;
+    let mut left = height_at(m, h.size, 0) + 1;
     let mut l: u8 = 1;
     while 0 < left {
-        let s = node_start(m, c, l, p);
-        let e = node_end(m, c, n, l, p);
-        if entries(m, c, l - 1, s, e) <= 8 {
+        let s = node_start(m, h.size, l, p);
+        let e = node_end(m, h.size, h.count, l, p);
+        if entries(m, h.size, l - 1, s, e) <= 8 {
             return;
         }
-        cut(m, c, d, n, l, s, e);
+        cut(m, h, l, s, e);
         l += 1;
         left -= 1;
     }

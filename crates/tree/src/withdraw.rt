@@ -1,9 +1,11 @@
 // A move taken out of the line; the moves under removed nodes are entered again.
 use crate::enter::enter_line;
+use crate::enter::with_rows;
 use crate::places::entries;
 use crate::places::node_end;
 use crate::places::node_start;
 use dominance::Move;
+use memory::Head;
 use memory::costs_of;
 use memory::height_at;
 use memory::number_at;
@@ -132,35 +134,37 @@ fn lower_root(m: &mut [u8], c: usize, n: usize)
     }
 }
 
-// The k moves of the work area entered again, in order, among the first n rows.
-fn enter_saved(m: &mut [u8], c: usize, d: usize, n: usize, k: usize)
-    requires { ⌜ withdraw.SavedAsked c d n k (now m) ⌝ }
-    ensures { λ _. ⌜ withdraw.SavedEntered c d n k (now (m .entry)) (now (m .exit)) ⌝ }
+// The k moves of the work area entered again, in order, among the rows.
+fn enter_saved(m: &mut [u8], h: Head, k: usize)
+    requires { ⌜ withdraw.SavedAsked (h .size) (h .dimension) (h .count) k (now m) ⌝ }
+    ensures { λ _. ⌜ withdraw.SavedEntered (h .size) (h .dimension) (h .count) k (now (m .entry)) (now (m .exit)) ⌝ }
 {
+    let n = h.count;
     let mut j = 0;
     while j < k {
-        let number = work_at(m, c, j);
+        let number = work_at(m, h.size, j);
         let x = Move {
             number,
-            costs: costs_of(m, c, d, number),
+            costs: costs_of(m, h.size, h.dimension, number),
         };
-        enter_line(m, c, d, n + j, x);
+        enter_line(m, with_rows(h, n + j), x);
         j += 1;
     }
 }
 
-// The move at place p taken out of the first n rows.
-pub fn withdraw_line(m: &mut [u8], c: usize, d: usize, n: usize, p: usize)
-    requires { ⌜ withdraw.WithdrawAsked c d n p (now m) ⌝ }
-    ensures { λ _. ⌜ withdraw.Withdrawn c d n p (now (m .entry)) (now (m .exit)) ⌝ }
+// The move at place p taken out of the rows.
+pub fn withdraw_line(m: &mut [u8], h: Head, p: usize)
+    requires { ⌜ withdraw.WithdrawAsked (h .size) (h .dimension) (h .count) p (now m) ⌝ }
+    ensures { λ _. ⌜ withdraw.Withdrawn (h .size) (h .dimension) (h .count) p (now (m .entry)) (now (m .exit)) ⌝ }
 {
-    let number = number_at(m, c, p);
-    let g = widened(m, c, n, p);
+    let n = h.count;
+    let number = number_at(m, h.size, p);
+    let g = widened(m, h.size, n, p);
     let from = g.from;
     let to = g.to;
-    let k = save(m, c, from, to, number);
-    cut_out(m, c, n, from, to);
+    let k = save(m, h.size, from, to, number);
+    cut_out(m, h.size, n, from, to);
     let left = n - (to - from);
-    lower_root(m, c, left);
-    enter_saved(m, c, d, left, k);
+    lower_root(m, h.size, left);
+    enter_saved(m, with_rows(h, left), k);
 }

@@ -1,9 +1,12 @@
 -- `make::make_recost` meets its contract. Assumes nothing.
-use mathlib.Core.Path.{refl}
+use mathlib.Core.Path.{refl, sym, subst}
 use native.Mathlib.Omega.{arith}
 use borrow.Author.Needs.{needs}
 use Rattle.promises.specs.Run.{Bytes}
+use Rattle.dominance.specs.Move.{asMove}
+use Rattle.memory.specs.declared.sound.Head.{Head}
 use Rattle.memory.specs.Laws.Written.{marks-written}
+use Rattle.tree.specs.Enter.{EnterAsked, Entered}
 use Rattle.board.specs.Laws.Rows.{marks-asked}
 use Rattle.board.specs.Laws.Steps.{coming-asked}
 use Rattle.board.specs.Laws.Recost.{recost-withdraw-asked, recost-written, recost-enter-asked, recost-count-asked, recost-made}
@@ -46,38 +49,42 @@ set-costs-requires c κs =
 enter-line-requires : tie.Need-enter-line-requires
 unfolding Bytes
 enter-line-requires c κs =
-    let costs = c .before .before .before in
+    let costs = c .before .before .before .before in
     let gone = costs .before .before .before .before in
     let listed = gone .before .before .before .before in
     let marks = listed .before .before .before .before in
     let start = marks .before .before .before .before in
     let bytes : Bytes (start .args .m .now) = λ i. omega (arith, marks .before .before .before .slice-known .given i) in
-    recost-enter-asked (start .pre) bytes (marks .set-marks .ensures) (listed .set-listed .ensures) (gone .withdraw-line .ensures) (costs .set-costs .ensures)
+    subst (λ (g : Head). EnterAsked (g .size) (g .dimension) (g .count) (asMove (start .args .x)) (costs .set-costs .last .0)) (sym (c .with-rows .ensures))
+    (recost-enter-asked (start .pre) bytes (marks .set-marks .ensures) (listed .set-listed .ensures) (gone .withdraw-line .ensures) (costs .set-costs .ensures))
 
 set-count-requires : tie.Need-set-count-requires
 unfolding Bytes
 set-count-requires c κs =
     let entered = c .before .before .before in
-    let costs = entered .before .before .before .before in
+    let costs = entered .before .before .before .before .before in
     let gone = costs .before .before .before .before in
     let listed = gone .before .before .before .before in
     let marks = listed .before .before .before .before in
     let start = marks .before .before .before .before in
     let bytes : Bytes (start .args .m .now) = λ i. omega (arith, marks .before .before .before .slice-known .given i) in
-    recost-count-asked (start .pre) bytes (marks .set-marks .ensures) (listed .set-listed .ensures) (gone .withdraw-line .ensures) (costs .set-costs .ensures) (entered .enter-line .ensures)
+    recost-count-asked (start .pre) bytes (marks .set-marks .ensures) (listed .set-listed .ensures) (gone .withdraw-line .ensures) (costs .set-costs .ensures)
+    (subst (λ (g : Head). Entered (g .size) (g .dimension) (g .count) (asMove (start .args .x)) (costs .set-costs .last .0) (entered .enter-line .last .0)) (entered .before .with-rows .ensures) (entered .enter-line .ensures))
 
 returns : tie.Need-returns
 unfolding Bytes
 returns c =
     let counted = c .before .before in
     let entered = counted .before .before .before .before in
-    let costs = entered .before .before .before .before in
+    let costs = entered .before .before .before .before .before in
     let gone = costs .before .before .before .before in
     let listed = gone .before .before .before .before in
     let marks = listed .before .before .before .before in
     let start = marks .before .before .before .before in
     let bytes : Bytes (start .args .m .now) = λ i. omega (arith, marks .before .before .before .slice-known .given i) in
-    recost-made (start .pre) bytes (marks .set-marks .ensures) (listed .set-listed .ensures) (gone .withdraw-line .ensures) (costs .set-costs .ensures) (entered .enter-line .ensures) (counted .set-count .ensures)
+    recost-made (start .pre) bytes (marks .set-marks .ensures) (listed .set-listed .ensures) (gone .withdraw-line .ensures) (costs .set-costs .ensures)
+    (subst (λ (g : Head). Entered (g .size) (g .dimension) (g .count) (asMove (start .args .x)) (costs .set-costs .last .0) (entered .enter-line .last .0)) (entered .before .with-rows .ensures) (entered .enter-line .ensures))
+    (counted .set-count .ensures)
 
 pub make-recost-spec : {M : Type 1} → statement M
 make-recost-spec =
@@ -88,6 +95,7 @@ make-recost-spec =
     withdraw-line-requires
     set-costs-requires
     (λ c. search needs)
+    (λ c κs. search needs)
     enter-line-requires
     set-count-requires
     (λ c. search needs)

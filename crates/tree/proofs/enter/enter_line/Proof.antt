@@ -1,6 +1,9 @@
 -- `enter::enter_line` meets its contract. Assumes nothing.
+use mathlib.Core.Path.{sym, subst}
 use native.Mathlib.Omega.{arith}
 use borrow.Author.Needs.{needs}
+use Rattle.memory.specs.declared.sound.Head.{Head}
+use Rattle.tree.specs.Split.{CascadeAsked, Cascaded}
 use Rattle.tree.specs.Laws.Entered.{entered-first, put-asked, cascade-asked, entered-more}
 use Rattle.tree.proofs.enter.enter_line.Statement.{statement}
 use Rattle.tree.proofs.enter.enter_line.Tie as tie
@@ -13,12 +16,23 @@ put-row-requires c κs = put-asked (c .before .before .before .before .before .p
 
 cascade-requires : tie.Need-cascade-requires
 cascade-requires c κs =
-    cascade-asked (c .before .before .before .before .before .before .before .before .before .pre) (omega (arith, c .before .before .before .before .before .before .before .if1 .left)) (c .before .before .before .before .before .place-for .ensures .1) (c .before .before .before .put-row .ensures)
+    let put = c .before .before .before .before in
+    let placed = put .before .before in
+    let tested = placed .before .before in
+    let start = tested .before .before in
+    subst (λ (g : Head). CascadeAsked (g .size) (g .dimension) (g .count) (placed .place-for .result) (put .put-row .last .0)) (sym (c .with-rows .ensures))
+    (cascade-asked (start .pre) (omega (arith, tested .if1 .left)) (placed .place-for .ensures .1) (put .put-row .ensures))
 
 returns-2 : tie.Need-returns-2
 returns-2 c =
-    let place = c .before .before .before .before .before .before .before .before .place-for .ensures in
-    entered-more (c .before .before .before .before .before .before .before .before .before .before .before .before .pre) (omega (arith, c .before .before .before .before .before .before .before .before .before .before .if1 .left)) (place .1) (c .before .before .before .before .before .before .put-row .ensures) (place .0) (c .before .before .cascade .ensures)
+    let done = c .before .before in
+    let put = done .before .before .before .before .before in
+    let placed = put .before .before in
+    let tested = placed .before .before in
+    let start = tested .before .before in
+    let place = placed .place-for in
+    entered-more (start .pre) (omega (arith, tested .if1 .left)) (place .ensures .1) (put .put-row .ensures) (place .ensures .0)
+    (subst (λ (g : Head). Cascaded (g .size) (g .dimension) (g .count) (place .result) (put .put-row .last .0) (done .cascade .last .0)) (done .before .with-rows .ensures) (done .cascade .ensures))
 
 pub enter-line-spec : {M : Type 1} → statement M
 enter-line-spec =
@@ -30,6 +44,7 @@ enter-line-spec =
     (λ c κs. search needs)
     put-row-requires
     (λ c. search needs)
+    (λ c κs. search needs)
     cascade-requires
     (λ c. search needs)
     returns-2)

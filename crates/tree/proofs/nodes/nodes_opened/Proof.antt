@@ -13,23 +13,23 @@ use Rattle.tree.proofs.nodes.nodes_opened.Statement.{statement}
 use Rattle.tree.proofs.nodes.nodes_opened.Tie as tie
 
 abbrev Inv-loop : tie.InvT-loop
-Inv-loop m c d n opened₀ i₀ l₀ opened i l = Searchable c d n m × Searching c d n m opened i l
+Inv-loop m h n opened₀ i₀ l₀ opened i l = Searchable (h .size) (h .dimension) n m × Searching (h .size) (h .dimension) n m opened i l
 
 abbrev μ-loop : tie.MeasureT-loop
-μ-loop m c d n opened₀ i₀ l₀ opened i l = (n - i) * 256 + l
+μ-loop m h n opened₀ i₀ l₀ opened i l = (n - i) * 256 + l
 
 level-at-requires : tie.Need-level-at-requires Inv-loop μ-loop
 unfolding Bytes
 level-at-requires c κs =
     let a = c .before .args in
-    let s = sound-searchable (a .c) (a .d) (a .n) (a .m .now) (c .before .pre) (λ j. omega (arith, c .shared-slice-known .given j)) in
+    let s = sound-searchable (a .h .size) (a .h .dimension) (a .h .count) (a .m .now) (c .before .pre) (λ j. omega (arith, c .shared-slice-known .given j)) in
     (s .room, s .rows)
 
 loop-holds : tie.Need-loop-holds Inv-loop μ-loop
 unfolding Bytes
 loop-holds c =
     let a = c .before .before .args in
-    let s = sound-searchable (a .c) (a .d) (a .n) (a .m .now) (c .before .before .pre) (λ j. omega (arith, c .before .shared-slice-known .given j)) in
+    let s = sound-searchable (a .h .size) (a .h .dimension) (a .h .count) (a .m .now) (c .before .before .pre) (λ j. omega (arith, c .before .shared-slice-known .given j)) in
     (s, search-start s (c .level-at .result) (c .level-at .ensures) (omega arith))
 
 node-end-requires : tie.Need-node-end-requires Inv-loop μ-loop
@@ -42,7 +42,7 @@ near-corner-requires c κs =
     (s .room, f .after, omega arith, λ j h. s .numbers j (omega arith), s .dimension)
 
 corner-dominated-requires : tie.Need-corner-dominated-requires Inv-loop μ-loop
-corner-dominated-requires c κs = let s = c .before .before .before .loop .inv .0 in (s .room, s .rows, s .numbers, s .dimension)
+corner-dominated-requires c κs = let s = c .before .before .before .loop .inv .0 in record { room = s .room; rows = s .rows; numbers = s .numbers; dimension = s .dimension }
 
 level-at-requires-2 : tie.Need-level-at-requires-2 Inv-loop μ-loop
 level-at-requires-2 c κs = let s = c .before .before .before .before .before .before .before .loop .inv .0 in (s .room, s .rows)
@@ -59,7 +59,7 @@ loop-again c =
     let why : (passed ≡ true) ⊎ (own .l ≡ 1) =
     ⊎-elim (λ x. inl (x .0 .taken)) (λ x. inr (eqb-true (own .l) 1 (sym (x .1) ∙ c .before .if3 .taken))) (c .before .before .if2 .came) in (
       own .inv .0,
-      subst (λ (k : ℕ). Searching (a .c) (a .d) (a .n) (a .m .now) k (end .result) (c .level-at2 .result)) (sym counted)
+      subst (λ (k : ℕ). Searching (a .h .size) (a .h .dimension) (a .h .count) (a .m .now) k (end .result) (c .level-at2 .result)) (sym counted)
           (search-on (own .inv .0) (own .opened) (own .i) (own .l) (end .result) (own .inv .1) (omega arith) (end .ensures) (c .before .before .before .before .before .near-corner .result)
           (c .before .before .before .before .before .near-corner .ensures) passed (test .ensures) why (c .level-at2 .result) (c .level-at2 .ensures) (omega arith)),
     )
@@ -82,7 +82,7 @@ loop-again-2 c =
     let why : (passed ≡ false) × (own .l ≡ 1 → ⊥) =
     ⊎-elim (λ x. both-ways (x .1 ∙ x .0 .taken) (c .if3 .left)) (λ x. (x .0 .left, eqb-false (own .l) 1 (sym (x .1) ∙ c .if3 .left))) (c .before .if2 .came) in (
       own .inv .0,
-      subst (λ (k : ℕ). Searching (a .c) (a .d) (a .n) (a .m .now) k (own .i) (own .l - 1)) (sym counted)
+      subst (λ (k : ℕ). Searching (a .h .size) (a .h .dimension) (a .h .count) (a .m .now) k (own .i) (own .l - 1)) (sym counted)
           (search-down (own .inv .0) (own .opened) (own .i) (own .l) (end .result) (own .inv .1) (omega arith) (end .ensures) (c .before .before .before .before .near-corner .result)
           (c .before .before .before .before .near-corner .ensures) passed (test .ensures) (why .0) (why .1)),
     )

@@ -9,10 +9,10 @@ use Rattle.tree.proofs.split.cascade.Statement.{statement}
 use Rattle.tree.proofs.split.cascade.Tie as tie
 
 abbrev Inv-loop : tie.InvT-loop
-Inv-loop m₀ c d n p left₀ l₀ m left l = Climbed c d n p m₀ m left l
+Inv-loop m₀ h p left₀ l₀ m left l = Climbed (h .size) (h .dimension) (h .count) p m₀ m left l
 
 abbrev μ-loop : tie.MeasureT-loop
-μ-loop m₀ c d n p left₀ l₀ m left l = left
+μ-loop m₀ h p left₀ l₀ m left l = left
 
 loop-holds : tie.Need-loop-holds Inv-loop μ-loop
 loop-holds c =

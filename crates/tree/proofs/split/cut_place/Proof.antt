@@ -10,10 +10,10 @@ use Rattle.tree.proofs.split.cut_place.Statement.{statement}
 use Rattle.tree.proofs.split.cut_place.Tie as tie
 
 abbrev Inv-loop : tie.InvT-loop
-Inv-loop m c d n l s e q₀ best₀ least₀ j₀ q best least j = Tried d l s e (lineFrom c d n m) j q best least
+Inv-loop m h l s e q₀ best₀ least₀ j₀ q best least j = Tried (h .dimension) l s e (lineFrom (h .size) (h .dimension) (h .count) m) j q best least
 
 abbrev μ-loop : tie.MeasureT-loop
-μ-loop m c d n l s e q₀ best₀ least₀ j₀ q best least j = 6 - j
+μ-loop m h l s e q₀ best₀ least₀ j₀ q best least j = 6 - j
 
 entry-at-requires : tie.Need-entry-at-requires Inv-loop μ-loop
 entry-at-requires c κs = nine-entry (c .before .pre)
@@ -21,12 +21,12 @@ entry-at-requires c κs = nine-entry (c .before .pre)
 cut-sides-requires : tie.Need-cut-sides-requires Inv-loop μ-loop
 cut-sides-requires c κs =
     let a = c .before .before .args in
-    nine-cut (c .before .before .pre) 3 (omega arith) (omega arith) (c .entry-at .ensures .is (a .d))
+    nine-cut (c .before .before .pre) 3 (omega arith) (omega arith) (c .entry-at .ensures .is (a .h .dimension))
 
 loop-holds : tie.Need-loop-holds Inv-loop μ-loop
 loop-holds c =
     let a = c .before .before .before .args in
-    tried-first (c .before .before .before .pre) (c .before .entry-at .ensures .is (a .d)) (c .cut-sides .ensures)
+    tried-first (c .before .before .before .pre) (c .before .entry-at .ensures .is (a .h .dimension)) (c .cut-sides .ensures)
 
 node-end-requires : tie.Need-node-end-requires Inv-loop μ-loop
 node-end-requires c κs =
@@ -41,15 +41,15 @@ cut-sides-requires-2 c κs =
     let p = c .before .before .before .before .before .before .pre in
     let own = c .before .before .loop in
     nine-cut p (own .j + 1) (omega arith) (omega arith)
-    (entry-turn (a .l - 1) (a .s) (own .j) (own .q) (c .node-end .result) (lineFrom (a .c) (a .d) (a .n) (a .m .now)) (own .inv .at)
-    (c .node-end .ensures .is (a .d)))
+    (entry-turn (a .l - 1) (a .s) (own .j) (own .q) (c .node-end .result) (lineFrom (a .h .size) (a .h .dimension) (a .h .count) (a .m .now)) (own .inv .at)
+    (c .node-end .ensures .is (a .h .dimension)))
 
 loop-again : tie.Need-loop-again Inv-loop μ-loop
 loop-again c =
     let a = c .before .before .before .before .before .before .before .before .args in
     let p = c .before .before .before .before .before .before .before .before .pre in
     let own = c .before .before .before .before .loop in
-    let next = c .before .before .node-end .ensures .is (a .d) in
+    let next = c .before .before .node-end .ensures .is (a .h .dimension) in
     let sides = c .before .cut-sides2 .ensures in
     ⊎-elim
     (λ w. tried-less p (own .inv) (omega arith) next sides (omega arith) (w .1) (w .2))
