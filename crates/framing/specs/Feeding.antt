@@ -32,7 +32,7 @@ pub record At (s : State) (line : List ℕ) (p : Point) (m : List ℕ) : Type 0 
   pub read : Judged line (p .line)
 
 -- Before the first byte.
-pub record Starts (p : Point) : Type 0 where
+pub record AtStart (p : Point) : Type 0 where
   pub dimension : p .dimension ≡ 0
   pub line : Judged [] (p .line)
 
@@ -60,10 +60,10 @@ pub record Finishes (p : Point) (m : List ℕ) (answered : ℕ) (out' : List ℕ
 
 -- An input that comes in parts: the bytes at hand, those still to come, and all that is put, one after the other. The bytes at
 -- hand are fed, each time with what the last call left; when all are taken a read brings the next ones, as many as it likes.
-pub data Run : Point → List ℕ → List ℕ → List ℕ → List ℕ → Type 0 where
+pub data ProgramRun : Point → List ℕ → List ℕ → List ℕ → List ℕ → Type 0 where
   feed : {p : Point} {m bytes more text m' out' : List ℕ} {r : Fed}
       → Feeds p bytes m r m' out'
-      → Run (r .point) m' (drop (r .taken) bytes) more text
-      → Run p m bytes more (take (r .answered) out' ++ text)
-  read : {p : Point} {m bytes more text : List ℕ} → Run p m bytes more text → Run p m [] (bytes ++ more) text
-  finish : {p : Point} {m out' : List ℕ} {n : ℕ} → Finishes p m n out' → Run p m [] [] (take n out')
+      → ProgramRun (r .point) m' (drop (r .taken) bytes) more text
+      → ProgramRun p m bytes more (take (r .answered) out' ++ text)
+  read : {p : Point} {m bytes more text : List ℕ} → ProgramRun p m bytes more text → ProgramRun p m [] (bytes ++ more) text
+  finish : {p : Point} {m out' : List ℕ} {n : ℕ} → Finishes p m n out' → ProgramRun p m [] [] (take n out')

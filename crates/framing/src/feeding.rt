@@ -2,7 +2,7 @@
 use crate::reading::Line;
 use crate::serving::answer;
 ghost use Rattle.framing.specs.Serving.{Ready, Lent};
-ghost use Rattle.framing.specs.Feeding.{LineRead, Starts, Feeds, Finishes};
+ghost use Rattle.framing.specs.Feeding.{LineRead, AtStart, Feeds, Finishes};
 
 // What was read of a line, and the board's number of costs, 0 before the first accepted load.
 pub struct Point {
@@ -49,7 +49,7 @@ fn read_on(line: Line, bytes: &[u8]) -> Read
 }
 
 pub fn start() -> Point
-    ensures { λ r. ⌜ Starts r ⌝ }
+    ensures { λ r. ⌜ AtStart r ⌝ }
 {
     Point {
         line: Line::new(),

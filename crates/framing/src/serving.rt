@@ -22,13 +22,13 @@ ghost use Rattle.framing.specs.Reading.{asFrame, Timely};
 ghost use Rattle.framing.specs.Serving.{Ready, Lent, Asked, Served, PlanAsked, PlanServed, Answers};
 
 // How many bytes the answer has, and the number of costs from now on: 0 before the first accepted load.
-pub struct Answered {
+pub struct Response {
     pub count: usize,
     pub dimension: usize,
 }
 
 // A load of nothing.
-fn loaded(m: &mut [u8], d: usize, asked: usize, out: &mut [u8]) -> Answered
+fn loaded(m: &mut [u8], d: usize, asked: usize, out: &mut [u8]) -> Response
     requires { ⌜ Ready d (now m) ⌝ }
     requires { ⌜ Lent (now m) (now out) ⌝ }
     ensures { λ r. ⌜ Served d (frames.load asked) (now (m .entry)) (now (out .entry)) (r .count) (r .dimension) (now (m .exit)) (now (out .exit)) ⌝ }
@@ -37,12 +37,12 @@ fn loaded(m: &mut [u8], d: usize, asked: usize, out: &mut [u8]) -> Answered
     let verdict = load(m, SIZE, asked, &none);
     let count = put_plan(out, m, d, false, nothing(verdict));
     if number_of(verdict) == 0 {
-        return Answered {
+        return Response {
             count,
             dimension: asked,
         };
     }
-    Answered {
+    Response {
         count,
         dimension: d,
     }
@@ -66,7 +66,7 @@ fn listed(m: &[u8], d: usize, out: &mut [u8]) -> usize
 }
 
 // The answer to a frame, put at the start of `out`.
-fn respond(m: &mut [u8], d: usize, f: Frame, out: &mut [u8]) -> Answered
+fn respond(m: &mut [u8], d: usize, f: Frame, out: &mut [u8]) -> Response
     requires { ⌜ Ready d (now m) × Timely d (f .kind) ⌝ }
     requires { ⌜ Lent (now m) (now out) ⌝ }
     ensures { λ r. ⌜ Served d (asFrame f) (now (m .entry)) (now (out .entry)) (r .count) (r .dimension) (now (m .exit)) (now (out .exit)) ⌝ }
@@ -93,14 +93,14 @@ fn respond(m: &mut [u8], d: usize, f: Frame, out: &mut [u8]) -> Answered
         Kind::Early => put_refusal(out, 3, 0),
         Kind::Wrong => put_refusal(out, 9, 0),
     };
-    Answered {
+    Response {
         count,
         dimension: d,
     }
 }
 
 // The answer to a line, put at the start of `out`.
-pub fn answer(m: &mut [u8], d: usize, line: Line, out: &mut [u8]) -> Answered
+pub fn answer(m: &mut [u8], d: usize, line: Line, out: &mut [u8]) -> Response
     requires { ⌜ Ready d (now m) ⌝ }
     requires { ⌜ Lent (now m) (now out) ⌝ }
     ensures { λ r. ⌜ Answers d line (now (m .entry)) r (now (m .exit)) (now (out .exit)) ⌝ }

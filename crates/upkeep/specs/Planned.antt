@@ -61,7 +61,7 @@ answerIn p = record { verdict = p .verdict; count = p .count; opened = p .opened
 
 -- The verdict of a call that answers so and tells these rows where the memory is sound, with so many lent rows, and how many
 -- it tells. Of memory that is not sound it is 3.
-pub record Answered (answer : calls.Answer) (rows : List Row) (m : List ℕ) (lent : ℕ) (v : Verdict) (count : ℕ) : Type 0 where
+pub record VerdictFor (answer : calls.Answer) (rows : List Row) (m : List ℕ) (lent : ℕ) (v : Verdict) (count : ℕ) : Type 0 where
   pub sound : Sound m → answerOf v ≡ answer
   pub unsound : (Sound m → ⊥) → v ≡ Unsound
   pub counts : count ≡ counted (numberOf v) (length rows)
@@ -69,7 +69,7 @@ pub record Answered (answer : calls.Answer) (rows : List Row) (m : List ℕ) (le
 
 -- The plan of such a call: the nodes opened, and the rows as its telling has them; where none is told the memory may be any.
 pub record Plans (answer : calls.Answer) (rows : List Row) (nodes : Tree → ℕ) (m : List ℕ) (lent : ℕ) (p : Plan) : Type 0 where
-  pub answered : Answered answer rows m lent (p .verdict) (p .count)
+  pub answered : VerdictFor answer rows m lent (p .verdict) (p .count)
   pub opens : numberOf (p .verdict) ≡ 0 → (t : Tree) → Stands m t → p .opened ≡ nodes t
   pub closed : 0 < numberOf (p .verdict) → p .opened ≡ 0
   pub told : length (toldRows (p .telling) m) ≡ p .count

@@ -25,7 +25,7 @@ use Rattle.memory.specs.Laws.Held.{held-readable}
 use Rattle.upkeep.specs.Change.{Upkept}
 use Rattle.upkeep.specs.Notice.{noticeRows}
 use Rattle.upkeep.specs.Telling.{toldRows}
-use Rattle.upkeep.specs.Planned.{Nothing, Answered, Plans}
+use Rattle.upkeep.specs.Planned.{Nothing, VerdictFor, Plans}
 use Rattle.upkeep.specs.Laws.Planned.{answered-unsound, answered-refused, answered-few, answered-all, nothing-plans}
 use Rattle.upkeep.specs.declared.change.Change.{Change}
 use Rattle.upkeep.specs.declared.change.Upkeep.{Upkeep}
@@ -41,7 +41,7 @@ use Rattle.upkeep.specs.declared.plan.Plan.{Plan}
 
 -- ---- nothing told and nothing made
 
-module _ {x : calls.Change} {m : List ℕ} {lent : ℕ} {v : Verdict} {p : Plan} (e : Nothing v p) (a : Answered (changeAnswer (boardIn m) x lent) (changeNotice (boardIn m) x) m lent v 0) where
+module _ {x : calls.Change} {m : List ℕ} {lent : ℕ} {v : Verdict} {p : Plan} (e : Nothing v p) (a : VerdictFor (changeAnswer (boardIn m) x lent) (changeNotice (boardIn m) x) m lent v 0) where
   nothing-planned : (numberOf v ≡ 0 → [] ≡ changeNotice (boardIn m) x) → (numberOf v ≡ 0 → Made x m m) → Planned x m lent p
   unfolding changeOpens
   nothing-planned notice idle =

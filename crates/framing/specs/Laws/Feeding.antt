@@ -15,9 +15,9 @@ use Rattle.framing.specs.Text.{lineEnd}
 use Rattle.framing.specs.Session.{answerTo, after, answersTo, linesFrom, printed, output}
 use Rattle.framing.specs.Reading.{Judged, Stepped}
 use Rattle.framing.specs.Serving.{StateIn, Ready, Answers}
-use Rattle.framing.specs.Feeding.{ReadOn, LineRead, At, Starts, Feeds, Finishes, Run, feed, read, finish}
+use Rattle.framing.specs.Feeding.{ReadOn, LineRead, At, AtStart, Feeds, Finishes, ProgramRun, feed, read, finish}
 use Rattle.framing.specs.declared.reading.Line.{Line}
-use Rattle.framing.specs.declared.serving.Answered.{Answered}
+use Rattle.framing.specs.declared.serving.Response.{Response}
 use Rattle.framing.specs.declared.feeding.Read.{Read}
 use Rattle.framing.specs.declared.feeding.Point.{Point}
 
@@ -94,7 +94,7 @@ module _ (p : Point) (bytes m : List ℕ) (x : Read) (reads : LineRead (p .line)
       }
 
   -- A line ended, and was answered.
-  module _ (l : Line) (a : Answered) (m' out' : List ℕ) (e : x .ended ≡ true) (fresh : Judged [] l) (answers : Answers (p .dimension) (x .line) m a m' out') where
+  module _ (l : Line) (a : Response) (m' out' : List ℕ) (e : x .ended ≡ true) (fresh : Judged [] l) (answers : Answers (p .dimension) (x .line) m a m' out') where
     ended-lines : (line more : List ℕ) → linesFrom line (bytes ++ more) ≡ (line ++ take (x .count) bytes) ∷ linesFrom [] (drop (x .count + 1) bytes ++ more)
     ended-lines line more =
         reads .read .lines line more
@@ -140,7 +140,7 @@ module _ (p : Point) (m : List ℕ) where
         within = omega arith;
       }
 
-  pub finishes-line : (a : Answered) (m' out' : List ℕ) → (p .line .count ≡ 0 → ⊥) → Answers (p .dimension) (p .line) m a m' out' → Finishes p m (a .count) out'
+  pub finishes-line : (a : Response) (m' out' : List ℕ) → (p .line .count ≡ 0 → ⊥) → Answers (p .dimension) (p .line) m a m' out' → Finishes p m (a .count) out'
   unfolding printed answersTo
   finishes-line a m' out' some answers =
       record {
@@ -154,13 +154,13 @@ module _ (p : Point) (m : List ℕ) where
 -- ---- a whole input
 
 -- Whatever is held and was read at first: all that is put is what is printed, however the input comes.
-pub run-prints : {s : State} {line : List ℕ} {p : Point} {m bytes more text : List ℕ} → At s line p m → Run p m bytes more text → text ≡ printed s line (bytes ++ more)
+pub run-prints : {s : State} {line : List ℕ} {p : Point} {m bytes more text : List ℕ} → At s line p m → ProgramRun p m bytes more text → text ≡ printed s line (bytes ++ more)
 run-prints {s} {line} {p} {m} {bytes} {more} at (feed {m' = m'} {out' = out'} {r = r} fed run) =
     let on = fed .onward s line at in
     ap (λ (y : List ℕ). take (r .answered) out' ++ y) (run-prints (on .at) run) ∙ sym (on .prints more)
 run-prints at (read run) = run-prints at run
 run-prints {s} {line} at (finish ends) = ends .prints s line at
 
-pub run-output : {p : Point} {m input text : List ℕ} → Starts p → Run p m [] input text → text ≡ output input
+pub run-output : {p : Point} {m input text : List ℕ} → AtStart p → ProgramRun p m [] input text → text ≡ output input
 unfolding output StateIn
 run-output starts run = run-prints (record { held = starts .dimension; read = starts .line }) run

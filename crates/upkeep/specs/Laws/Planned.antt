@@ -19,7 +19,7 @@ use Rattle.promises.specs.Promise.{Said, UnsoundSaid, QueryPromise}
 use Rattle.promises.specs.declared.Verdict.{Verdict}
 use Rattle.promises.specs.declared.Verdict.the-variants.{Accepted, Unsound, BadArgument, FewRows}
 use Rattle.upkeep.specs.Telling.{toldRows}
-use Rattle.upkeep.specs.Planned.{Finds, TellsNumbers, Nothing, answerIn, Answered, Plans, QueryPlanned, foundMoves, PlansFound}
+use Rattle.upkeep.specs.Planned.{Finds, TellsNumbers, Nothing, answerIn, VerdictFor, Plans, QueryPlanned, foundMoves, PlansFound}
 use Rattle.upkeep.specs.Laws.Telling.{length-none}
 use Rattle.upkeep.specs.Laws.Found.{found-count, found-rows, numbers-asked}
 use Rattle.upkeep.specs.declared.found.Found.{Found}
@@ -42,12 +42,12 @@ unfolding orElse
 first-refuses a b h = ap (λ (t : Bool). cond t b a) (sym (ne-eqb (a .number) 0 (λ e. omega arith)))
 
 module _ (refusal : ℕ) (rows : List Row) (m : List ℕ) (lent : ℕ) where
-  pub answered-unsound : (Sound m → ⊥) → Answered (answerBy refusal rows lent) rows m lent Unsound 0
+  pub answered-unsound : (Sound m → ⊥) → VerdictFor (answerBy refusal rows lent) rows m lent Unsound 0
   unfolding numberOf counted
   answered-unsound h = record { sound = λ s. absurd (h s); unsound = λ _. refl; counts = refl; enough = omega arith }
 
   module _ (s : Sound m) where
-    pub answered-refused : (v : Verdict) → answerOf v ≡ refusedWith refusal → 0 < numberOf v → Answered (answerBy refusal rows lent) rows m lent v 0
+    pub answered-refused : (v : Verdict) → answerOf v ≡ refusedWith refusal → 0 < numberOf v → VerdictFor (answerBy refusal rows lent) rows m lent v 0
     unfolding answerOf
     answered-refused v e h =
         record {
@@ -66,7 +66,7 @@ module _ (refusal : ℕ) (rows : List Row) (m : List ℕ) (lent : ℕ) where
       unfolding orElse refusedWith
       rows-answer = ap₂ (λ (k i : ℕ). orElse (refusedWith k) (rowsAnswer i lent)) (sym f) e
 
-      pub answered-few : lent < need → Answered (answerBy refusal rows lent) rows m lent (FewRows need) 0
+      pub answered-few : lent < need → VerdictFor (answerBy refusal rows lent) rows m lent (FewRows need) 0
       unfolding answerOf numberOf detailOf counted rowsAnswer by-rows
       answered-few h =
           record {
@@ -76,7 +76,7 @@ module _ (refusal : ℕ) (rows : List Row) (m : List ℕ) (lent : ℕ) where
             enough = omega arith;
           }
 
-      pub answered-all : need ≤ lent → Answered (answerBy refusal rows lent) rows m lent Accepted need
+      pub answered-all : need ≤ lent → VerdictFor (answerBy refusal rows lent) rows m lent Accepted need
       unfolding answerOf numberOf detailOf counted rowsAnswer accepted by-rows
       answered-all h =
           record {
@@ -88,11 +88,11 @@ module _ (refusal : ℕ) (rows : List Row) (m : List ℕ) (lent : ℕ) where
 
 -- ---- plans that tell nothing
 
-module _ {answer : calls.Answer} {rows : List Row} {m : List ℕ} {lent : ℕ} {v : Verdict} {p : Plan} (e : Nothing v p) (a : Answered answer rows m lent v 0) where
-  nothing-answered : Answered answer rows m lent (p .verdict) (p .count)
+module _ {answer : calls.Answer} {rows : List Row} {m : List ℕ} {lent : ℕ} {v : Verdict} {p : Plan} (e : Nothing v p) (a : VerdictFor answer rows m lent v 0) where
+  nothing-answered : VerdictFor answer rows m lent (p .verdict) (p .count)
   nothing-answered =
-      subst (λ (n : ℕ). Answered answer rows m lent (p .verdict) n) (sym (e .count))
-      (subst (λ (w : Verdict). Answered answer rows m lent w 0) (sym (e .verdict)) a)
+      subst (λ (n : ℕ). VerdictFor answer rows m lent (p .verdict) n) (sym (e .count))
+      (subst (λ (w : Verdict). VerdictFor answer rows m lent w 0) (sym (e .verdict)) a)
 
   -- Of an accepted call that has no rows and opens nothing, or of a refused one.
   pub nothing-plans : {nodes : Tree → ℕ} → (numberOf v ≡ 0 → [] ≡ rows) → (numberOf v ≡ 0 → (t : Tree) → Stands m t → 0 ≡ nodes t) → Plans answer rows nodes m lent p
@@ -167,7 +167,7 @@ opens-at zero opened nodes all none = all refl
 opens-at (suc k) opened nodes all none = none (omega arith)
 
 -- Where the call is accepted its rows are put first; where none is counted the lent rows are as they were.
-module _ {answer : calls.Answer} {rows : List Row} {m : List ℕ} {lent : ℕ} {v : Verdict} {count opened : ℕ} (a : Answered answer rows m lent v count) (before after : List Row)
+module _ {answer : calls.Answer} {rows : List Row} {m : List ℕ} {lent : ℕ} {v : Verdict} {count opened : ℕ} (a : VerdictFor answer rows m lent v count) (before after : List Row)
     (all : numberOf v ≡ 0 → after ≡ rows ++ drop count before) (none : count ≡ 0 → after ≡ before) (shut : 0 < numberOf v → opened ≡ 0) where
   pub answered-said : Sound m → (nodes : ℕ) → (numberOf v ≡ 0 → opened ≡ nodes) → Said answer rows nodes before (record { verdict = v; count = count; opened = opened }) after
   answered-said s nodes e =
