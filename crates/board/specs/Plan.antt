@@ -7,7 +7,7 @@ use lib.Dec.{ltb}
 use Rattle.model.specs.Basics.{equal}
 use Rattle.model.specs.Calls as calls
 use Rattle.model.specs.Calls.{changeAnswer, changeNotice, changesNothing}
-use Rattle.model.specs.Changing.{changeOpens}
+use Rattle.model.specs.Opening.{changeOpens}
 use Rattle.promises.specs.Layout.{dimensionIn, numberIn, costsIn, boardIn}
 use Rattle.promises.specs.Sound.{Sound}
 use Rattle.promises.specs.Answers.{numberOf}

@@ -42,7 +42,7 @@ use Rattle.upkeep.proofs.telling.Telling as Y
 use Rattle.upkeep.proofs.telling.Telling.Laws as Y′
 use Rattle.rows.specs.declared.Row.{Row}
 use Rattle.rows.specs.Rows.{rowNumbers}
-use Rattle.rows.proofs.Walk.{returned}
+use Rattle.rows.proofs.Walk.{returned, returned-at}
 use Rattle.rows.proofs.Lent.{at-rows}
 use Rattle.rows.proofs.Row as T
 use Rattle.rows.proofs.fill as fill
@@ -50,7 +50,7 @@ use Rattle.dolzhev.specs.Exported.{Handed}
 use Rattle.dolzhev.specs.declared.answer.Answer.{Answer}
 use Rattle.dolzhev.proofs.answer.Answer as N
 use Rattle.dolzhev.proofs.answer.handed as handed
-use Rattle.dolzhev.proofs.Shared.{at-list, ended, last-list}
+use Rattle.dolzhev.proofs.Shared.{at-list, last-list}
 
 abbrev pub tellingVal : Telling → Val
 tellingVal t = LL.val Y.the-type Y′.the-laws t
@@ -85,7 +85,7 @@ module _ {M : Type 1} (𝓤 : URA M) (H : Heap 𝓤) (A : Atoms 𝓤) (mem : Mem
           → Seq K W (‵ (flft κr qr) ∷ ‵ (flft κ q) ∷ ‵ (ShrSlice (named 1) κ u8 .own (at-list u8 b o δ m) (sliceVal (b, o) (length m) ∷ [])) ∷ ‵ (MutSlice (named 0) κr T.the-row .own (at-rows br or γr ys) (sliceVal (br, or) (length ys) ∷ [])) ∷ Γ) (runs C Λ E (seq (call n xs d) rest) g)
       calls-fill k fm known asked enough t-is fits opds next =
           group k 4 $ use1 W (raw (FillC .pre to-fill)) (goes-fill W asked enough t-is fits) $ calls-at k fm FillC known to-fill opds (λ w.
-          ended fill.ended (fill.clauses 𝓤 H A mem run) k tt to-fill w (λ r ws. map rowNumbers (ws .0) ≡ filledRows t m count (map rowNumbers ys)) (λ r ws. id⊢ 𝓤 _) (λ r ws e is.
+          returned-at fill.ended (fill.clauses 𝓤 H A mem run) k tt to-fill w (λ r ws. map rowNumbers (ws .0) ≡ filledRows t m count (map rowNumbers ys)) (λ r ws. id⊢ 𝓤 _) (λ r ws e is.
           last-list k T.the-row γr ys (ws .0) _ (λ l. move k (1 ∷ []) $ drop k $
           -- [the rows' last list; the tokens]
           move k (1 ∷ []) $ use1 W (‵ (flft κr qr) ⊛ (‵ (flft κ q) ⊛ ‵ ftrue)) (id⊢ 𝓤 _) $ split k $ move k (1 ∷ []) $ split k $ move k (1 ∷ []) $ drop k $ move k (1 ∷ 0 ∷ []) $ next w (ws .0) e l (nothing-lawful 𝓤 H A W .typed tt _ is .0))))

@@ -37,7 +37,8 @@ use Rattle.rows.proofs.Row as T
 use Rattle.dolzhev.specs.Exported.{DoneAsked, Done}
 use Rattle.dolzhev.specs.declared.answer.Answer.{Answer}
 use Rattle.dolzhev.proofs.answer.Answer as N
-use Rattle.dolzhev.proofs.Shared.{at-list, ended, last-list}
+use Rattle.rows.proofs.Walk.{returned-at}
+use Rattle.dolzhev.proofs.Shared.{at-list, last-list}
 use Rattle.dolzhev.proofs.change.done as f
 
 abbrev pub planVal : Plan → Val
@@ -65,7 +66,7 @@ module _ {M : Type 1} (𝓤 : URA M) (H : Heap 𝓤) (A : Atoms 𝓤) (mem : Mem
         → Seq K W (‵ (flft κ q) ∷ ‵ (flft κr qr) ∷ ‵ (MutSlice (named 0) κ u8 .own (at-list u8 b o γ m) (sliceVal (b, o) (length m) ∷ [])) ∷ ‵ (MutSlice (named 1) κr T.the-row .own (at-rows br or γr ys) (sliceVal (br, or) (length ys) ∷ [])) ∷ Γ) (runs C Λ E (seq (call n xs d) rest) g)
     calls-done k fm known asked p-is opds next =
         group k 4 $ use1 W (raw (DoneC 𝓤 H A mem run .pre to-done)) (goes-done W asked p-is) $ calls-at k fm (DoneC 𝓤 H A mem run) known to-done opds (λ w.
-        ended f.ended (f.clauses 𝓤 H A mem run) k tt to-done w (λ r ws. Done p m ys r (ws .0) (ws .1 .1 .0)) (λ r ws. id⊢ 𝓤 _) (λ r ws e is.
+        returned-at f.ended (f.clauses 𝓤 H A mem run) k tt to-done w (λ r ws. Done p m ys r (ws .0) (ws .1 .1 .0)) (λ r ws. id⊢ 𝓤 _) (λ r ws e is.
         last-list k u8 γ m (ws .0) _ (λ l. move k (1 ∷ []) $ fsplit k $ drop k $ last-list k T.the-row γr ys (ws .1 .1 .0) _ (λ lr. move k (1 ∷ []) $ drop k $
         -- [the rows' last list; the memory's; the tokens]
         move k (2 ∷ []) $ use1 W (‵ (flft κ q) ⊛ (‵ (flft κr qr) ⊛ ‵ ftrue)) (id⊢ 𝓤 _) $ split k $ move k (1 ∷ []) $ split k $ move k (1 ∷ []) $ drop k $ move k (1 ∷ 0 ∷ 3 ∷ []) $ next w r (ws .0) (ws .1 .1 .0) e l lr is))))

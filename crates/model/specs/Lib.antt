@@ -12,6 +12,7 @@ pub mod Nodes
 pub mod Notice
 pub mod Calls
 pub mod Changing
+pub mod Opening
 pub mod Holder
 pub mod Sound
 pub mod Computing

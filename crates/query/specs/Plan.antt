@@ -4,7 +4,7 @@ use mathlib.Core.Path.{_≡_}
 use mathlib.Core.List.{List}
 use Rattle.model.specs.Tree.{Tree}
 use Rattle.model.specs.Calls.{Query, queryRefusal, queryRows}
-use Rattle.model.specs.Changing.{queryOpens}
+use Rattle.model.specs.Opening.{queryOpens}
 use Rattle.promises.specs.Layout.{dimensionIn, boardIn}
 use Rattle.upkeep.specs.Planned.{QueryPlanned}
 use Rattle.upkeep.specs.declared.plan.Plan.{Plan}

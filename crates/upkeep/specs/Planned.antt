@@ -11,7 +11,7 @@ use Rattle.model.specs.Lists.{listedRows}
 use Rattle.model.specs.Tree.{Tree}
 use Rattle.model.specs.Calls as calls
 use Rattle.model.specs.Calls.{Query, queryRefusal, queryAnswer, queryRows}
-use Rattle.model.specs.Changing.{queryOpens}
+use Rattle.model.specs.Opening.{queryOpens}
 use Rattle.line.specs.Line.{movesIn}
 use Rattle.promises.specs.Layout.{dimensionIn, numberIn, markIn, lineFrom, boardIn}
 use Rattle.promises.specs.Sound.{Stands, Sound}

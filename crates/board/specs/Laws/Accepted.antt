@@ -20,7 +20,8 @@ use Rattle.model.specs.Laws.Bool.{both-ways}
 use Rattle.model.specs.Laws.Basics.{each-mono}
 use Rattle.model.specs.Laws.Order.{has-numbers}
 use Rattle.model.specs.Laws.Numbers.{distinct-length}
-use Rattle.model.specs.Laws.Changes.{first-passes, rest-passes, off-without}
+use Rattle.zorder.specs.Laws.Refusal.{first-passes, rest-passes}
+use Rattle.model.specs.Laws.Changes.{off-without}
 use Rattle.line.specs.Line.{movesIn}
 use Rattle.promises.specs.Layout.{lineFrom, boardIn}
 use Rattle.promises.specs.Run.{Bytes}

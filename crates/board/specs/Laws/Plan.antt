@@ -11,7 +11,7 @@ use Rattle.model.specs.Basics.{equal}
 use Rattle.model.specs.Calls as calls
 use Rattle.model.specs.Calls.{changeRefusal, changeAnswer, changeNotice, changesNothing, onBoard}
 use Rattle.model.specs.Withdrawing.{costsOn, unchanged}
-use Rattle.model.specs.Changing.{changeOpens}
+use Rattle.model.specs.Opening.{changeOpens}
 use Rattle.model.specs.Laws.Bool.{both-ways, byCases, and-left, and-right}
 use Rattle.model.specs.Laws.Basics.{equal-refl}
 use Rattle.promises.specs.Layout.{dimensionIn, numberIn, costsIn, boardIn}

@@ -9,7 +9,8 @@ use Rattle.model.specs.Moves.{Row}
 use Rattle.model.specs.Tree.{Tree}
 use Rattle.model.specs.Calls as calls
 use Rattle.model.specs.Calls.{changeAnswer, changeNotice, changed, changesNothing}
-use Rattle.model.specs.Changing.{changeTree, changeOpens}
+use Rattle.model.specs.Changing.{changeTree}
+use Rattle.model.specs.Opening.{changeOpens}
 use Rattle.promises.specs.Layout.{sizeIn, dimensionIn, boardIn}
 use Rattle.promises.specs.Sound.{Stands, Sound}
 use Rattle.promises.specs.Answers.{numberOf, resultRow}

@@ -5,7 +5,7 @@ use mathlib.Core.Path.{_≡_, refl, ap, _∙_, subst}
 use Rattle.model.specs.Lists.{skyline, listedRows}
 use Rattle.model.specs.Nodes.{nodesOpened}
 use Rattle.model.specs.Calls.{list, listOf, queryRefusal, queryRows}
-use Rattle.model.specs.Changing.{queryOpens}
+use Rattle.model.specs.Opening.{queryOpens}
 use Rattle.promises.specs.Layout.{boardIn, keptFrom}
 use Rattle.memory.specs.Held.{SoundAt}
 use Rattle.memory.specs.Laws.Held.{held-kept}

@@ -10,7 +10,8 @@ use Rattle.model.specs.Tree.{Tree}
 use Rattle.model.specs.Loading.{loadTree}
 use Rattle.model.specs.Calls as calls
 use Rattle.model.specs.Calls.{Board, loadAnswer, loaded, Query, Change, changed}
-use Rattle.model.specs.Changing.{changeTree, queryOpens, changeOpens}
+use Rattle.model.specs.Changing.{changeTree}
+use Rattle.model.specs.Opening.{queryOpens, changeOpens}
 use Rattle.promises.specs.Layout.{sizeIn, dimensionIn, boardIn}
 use Rattle.promises.specs.Written.{changeWrites, loadWrites}
 use Rattle.promises.specs.Used.{SameInUse}

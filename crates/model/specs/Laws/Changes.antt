@@ -9,6 +9,7 @@ use lib.Dec.{leb, eqb}
 use lib.ListN.{length, length-append}
 use borrow.Author.Tests.{leb-false, lt-leb, le-ltb, eqb-true, ne-eqb, not-true}
 use Rattle.zorder.specs.Refusal.{Check, refusal, costPastBad}
+use Rattle.zorder.specs.Laws.Refusal.{first-passes, rest-passes}
 use Rattle.model.specs.Basics.{Each, distinct}
 use Rattle.model.specs.Moves.{Move, moveBefore, insert}
 use Rattle.model.specs.Lists.{hidden, skyline}
@@ -21,17 +22,6 @@ use Rattle.model.specs.Laws.Sorting.{insert-mem}
 use Rattle.model.specs.Laws.Order.{has-numbers, distinct-cons, distinct-insert, distinct-select, distinct-once, mem-number}
 use Rattle.model.specs.Laws.Numbers.{except, except-mem, except-length, distinct-except, once-append, once-distinct, distinct-length}
 use Rattle.model.specs.Laws.Notice.{among, gone, gone-mem, notice-length}
-
--- No check turns the call down.
-pub first-passes : (b : Bool) (k : ℕ) (cs : List Check) → refusal ((b, suc k) ∷ cs) ≡ 0 → b ≡ false
-unfolding refusal
-first-passes true k cs h = absurd (omega arith)
-first-passes false k cs h = refl
-
-pub rest-passes : (b : Bool) (k : ℕ) (cs : List Check) → refusal ((b, suc k) ∷ cs) ≡ 0 → refusal cs ≡ 0
-unfolding refusal
-rest-passes true k cs h = absurd (omega arith)
-rest-passes false k cs h = h
 
 unfoldable pub changeNumber : Change → ℕ
 changeNumber (enter n costs) = n

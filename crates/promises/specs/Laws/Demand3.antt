@@ -13,7 +13,8 @@ use Rattle.model.specs.Loading.{loadTree}
 use Rattle.model.specs.Lists.{listedRows}
 use Rattle.model.specs.Calls as calls
 use Rattle.model.specs.Calls.{Board, loaded, Change, changed, listOf, list, queryRows}
-use Rattle.model.specs.Changing.{changeTree, queryOpens, changeOpens}
+use Rattle.model.specs.Changing.{changeTree}
+use Rattle.model.specs.Opening.{queryOpens, changeOpens}
 use Rattle.model.specs.Sound.{SoundBoard}
 use Rattle.model.specs.Holder.{change, isAccepted, plainNext, Answered, followed, heldAfter, Demand3}
 use Rattle.model.specs.Laws.Holder.{Reads, Keeps, EachKeeps, change-held, keeps-demand3}

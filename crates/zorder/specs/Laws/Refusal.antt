@@ -4,12 +4,13 @@ use mathlib.Core.Bool.{Bool, true, false, cond, _||_, true≢false}
 use mathlib.Core.List.{List, [], _∷_}
 use mathlib.Core.Path.{_≡_, refl, sym, ap, ap₂, _∙_}
 use native.Mathlib.Numerals.{add-one}
+use native.Mathlib.Omega.{arith}
 use lib.Dec.{ltb, eqb, eqb·suc-zero}
 use lib.ListN.{length, getD, drop, replicate, drop-of-length-le}
 use lib.Seq.{drop-cons}
 use borrow.Author.Tests.{ltb-false, leb-false}
 use Rattle.zorder.specs.Address.{rowCosts, costBits}
-use Rattle.zorder.specs.Refusal.{allZero, costCountBad, addressBad}
+use Rattle.zorder.specs.Refusal.{Check, refusal, allZero, costCountBad, addressBad}
 
 neither : (a b : Bool) → (a || b) ≡ false → (a ≡ false) × (b ≡ false)
 neither true b e = absurd (true≢false e)
@@ -24,6 +25,17 @@ count-right d e =
 pub address-right : (d a : ℕ) → addressBad d a ≡ false → a < 2 ^ (costBits * d)
 unfolding addressBad
 address-right d a e = leb-false (2 ^ (costBits * d)) a e
+
+-- No check of these turns a call down.
+pub first-passes : (b : Bool) (k : ℕ) (cs : List Check) → refusal ((b, suc k) ∷ cs) ≡ 0 → b ≡ false
+unfolding refusal
+first-passes true k cs h = absurd (omega arith)
+first-passes false k cs h = refl
+
+pub rest-passes : (b : Bool) (k : ℕ) (cs : List Check) → refusal ((b, suc k) ∷ cs) ≡ 0 → refusal cs ≡ 0
+unfolding refusal
+rest-passes true k cs h = absurd (omega arith)
+rest-passes false k cs h = h
 
 -- ---- costs that are all zero
 

@@ -19,7 +19,7 @@ use Rattle.zorder.specs.declared.CostsAnswer.{CostsAnswer}
 use Rattle.zorder.specs.Laws.Address.{address-lt'}
 use Rattle.zorder.specs.Laws.Between.{padded-row, row-costs, row-padded}
 use Rattle.zorder.specs.Laws.Inverse.{costsOf-costs, address-costs, costs-address}
-use Rattle.zorder.specs.Laws.Refusal.{count-right, address-right}
+use Rattle.zorder.specs.Laws.Refusal.{count-right, address-right, first-passes, rest-passes}
 
 -- ---- rows and addresses
 
@@ -52,10 +52,7 @@ accepted-number BadArgument e = absurd (omega arith)
 
 -- Checks that turn a call down give its number, so an accepted call passed both.
 passed : (a b : Bool) → refusal ((a, 2) ∷ (b, 7) ∷ []) ≡ 0 → (a ≡ false) × (b ≡ false)
-unfolding refusal
-passed true b e = absurd (omega arith)
-passed false true e = absurd (omega arith)
-passed false false e = (refl, refl)
+passed a b e = (first-passes a 1 _ e, first-passes b 6 _ (rest-passes a 1 _ e))
 
 accepts : {a b : Bool} → a ≡ false → b ≡ false → refusal ((a, 2) ∷ (b, 7) ∷ []) ≡ 0
 unfolding refusal

@@ -45,7 +45,7 @@ use Rattle.board.proofs.carry_out.Symbol as carry-out-def
 use Rattle.board.proofs.carry_out.Symbol.{name as #board·carry-out}
 use Rattle.board.proofs.carry_out.Met as carry-out-thm
 use Rattle.rows.specs.declared.Row.{Row}
-use Rattle.rows.proofs.Walk.{envOf, free-all}
+use Rattle.rows.proofs.Walk.{envOf, free-all, returned-at}
 use Rattle.rows.proofs.Lent.{at-rows}
 use Rattle.rows.proofs.Row as T
 use Rattle.rows.proofs.fill.Symbol as fill-def
@@ -55,7 +55,7 @@ use Rattle.dolzhev.specs.Exported.{DoneAsked, Done}
 use Rattle.dolzhev.specs.declared.answer.Answer.{Answer}
 use Rattle.dolzhev.proofs.answer.Answer as N
 use Rattle.dolzhev.proofs.answer.Answer.Laws as N′
-use Rattle.dolzhev.proofs.Shared.{at-list, shares-out, shares-back, ended, last-list}
+use Rattle.dolzhev.proofs.Shared.{at-list, shares-out, shares-back, last-list}
 use Rattle.dolzhev.proofs.Filled.{FillC, HandC, calls-fill, calls-handed}
 use Rattle.dolzhev.proofs.answer.handed.Symbol as handed-def
 use Rattle.dolzhev.proofs.answer.handed.Symbol.{name as #dolzhev·answer·handed}
@@ -140,7 +140,7 @@ module _ {M : Type 1} (𝓤 : URA M) (H : Heap 𝓤) (A : Atoms 𝓤) (W : Given
         -- `carry_out`
         move ! (1 ∷ 0 ∷ []) $ use2 W (raw (CarryOut 𝓤 H A mem run .pre to-carry)) (goes-carry asked p-is) $
         calls-at ! fm (CarryOut 𝓤 H A mem run) known-carry to-carry (and-then ! (load ! (from ! (stop !)) (look ! 3 refl)) (and-then ! (load ! (from ! (stop !)) (look ! 19 refl)) (no-more !))) (λ w₁.
-        ended carry-out.ended (carry-out.clauses 𝓤 H A mem run) ! tt to-carry w₁ (λ r ws. CarriedOut p m (ws .0)) (λ r ws. id⊢ 𝓤 _) (λ r₁ ws e₁ is₁.
+        returned-at carry-out.ended (carry-out.clauses 𝓤 H A mem run) ! tt to-carry w₁ (λ r ws. CarriedOut p m (ws .0)) (λ r ws. id⊢ 𝓤 _) (λ r₁ ws e₁ is₁.
         last-list ! u8 γ m (ws .0) _ (λ l. land ! (from ! (stop !)) (store ! 17 refl (nothing-lawful 𝓤 H A W .typed tt _ is₁ .0)) $ move ! (1 ∷ []) $ drop ! $
         -- [the memory's last list; its token; the rows' token; their last list; _10; …]: `handed`
         calls-handed 𝓤 H A mem run (p .verdict) (p .count) (p .opened) ! fm known-handed (LL.owed P.the-type P′.the-laws p _ p-is .0) (LL.owed P.the-type P′.the-laws p _ p-is .1 .0 .1) (LL.owed P.the-type P′.the-laws p _ p-is .1 .1 .0 .1)

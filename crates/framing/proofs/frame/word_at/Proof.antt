@@ -2,12 +2,12 @@
 use borrow.Author.Needs.{needs}
 use Prim.Native.Nat.{ℕ, _+_, _*_}
 use mathlib.Core.Path.{ap₂}
-use Rattle.framing.specs.Reading.{wordAt}
+use Rattle.framing.specs.Reading.{wordSpelled}
 use Rattle.framing.proofs.frame.word_at.Statement.{statement}
 use Rattle.framing.proofs.frame.word_at.Tie as tie
 
 returns : tie.Need-returns
-unfolding wordAt
+unfolding wordSpelled
 returns c = ap₂ (λ (h l : ℕ). h * 256 + l) (c .before .byte-at .ensures) (c .byte-at2 .ensures)
 
 pub word-at-spec : {M : Type 1} → statement M

@@ -5,7 +5,7 @@ use borrow.Author.Tests.{ltb-true, ltb-false}
 use borrow.Author.Needs.{needs}
 use native.Mathlib.Omega.{arith}
 use Rattle.model.specs.Calls.{onKQuery}
-use Rattle.model.specs.Changing.{queryOpens}
+use Rattle.model.specs.Opening.{queryOpens}
 use Rattle.memory.specs.Held.{SoundAt}
 use Rattle.memory.specs.Laws.Held.{sound-held, unsound-held}
 use Rattle.upkeep.specs.Laws.Planned.{query-unsound, query-bad}
