@@ -19,7 +19,7 @@ use upkeep::Plan;
 use upkeep::nothing;
 ghost use Rattle.framing.specs.Frames as frames;
 ghost use Rattle.framing.specs.Reading.{asFrame, Timely};
-ghost use Rattle.framing.specs.Serving.{Ready, Lent, Asked, Served, PlanAsked, PlanServed, Answers};
+ghost use Rattle.framing.specs.Serving.{Ready, Lent, Asked, Served, PlanAsked, PlanServed, ChangePlan, Answers};
 
 // How many bytes the answer has, and the number of costs from now on: 0 before the first accepted load.
 pub struct Response {
@@ -65,6 +65,19 @@ fn listed(m: &[u8], d: usize, out: &mut [u8]) -> usize
     put_plan(out, m, d, true, plan_list(m, ROWS))
 }
 
+// The plan of a frame of a change; of any other frame a plan that is not used.
+fn change_plan(m: &[u8], f: Frame) -> Plan
+    ensures { λ r. ⌜ ChangePlan f (now (m .entry)) r ⌝ }
+{
+    let kind = f.kind;
+    let costs = f.costs;
+    match kind {
+        Kind::Enter => plan_enter(m, f.number, costs, ROWS),
+        Kind::Withdraw => plan_withdraw(m, f.number, ROWS),
+        _ => plan_recost(m, f.number, costs, ROWS),
+    }
+}
+
 // The answer to a frame, put at the start of `out`.
 fn respond(m: &mut [u8], d: usize, f: Frame, out: &mut [u8]) -> Response
     requires { ⌜ Ready d (now m) × Timely d (f .kind) ⌝ }
@@ -72,26 +85,15 @@ fn respond(m: &mut [u8], d: usize, f: Frame, out: &mut [u8]) -> Response
     ensures { λ r. ⌜ Served d (asFrame f) (now (m .entry)) (now (out .entry)) (r .count) (r .dimension) (now (m .exit)) (now (out .exit)) ⌝ }
 {
     let kind = f.kind;
-    let number = f.number;
-    let costs = f.costs;
-    let asked = f.dimension;
     let count = match kind {
-        Kind::Load => return loaded(m, d, asked, out),
-        Kind::Enter => {
-            let p = plan_enter(m, number, costs, ROWS);
-            changed(m, d, p, out)
-        }
-        Kind::Withdraw => {
-            let p = plan_withdraw(m, number, ROWS);
-            changed(m, d, p, out)
-        }
-        Kind::Recost => {
-            let p = plan_recost(m, number, costs, ROWS);
-            changed(m, d, p, out)
-        }
+        Kind::Load => return loaded(m, d, f.dimension, out),
         Kind::List => listed(m, d, out),
         Kind::Early => put_refusal(out, 3, 0),
         Kind::Wrong => put_refusal(out, 9, 0),
+        Kind::Enter | Kind::Withdraw | Kind::Recost => {
+            let p = change_plan(m, f);
+            changed(m, d, p, out)
+        }
     };
     Response {
         count,

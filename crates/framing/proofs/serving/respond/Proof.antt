@@ -1,107 +1,94 @@
 -- `serving::respond` meets its contract. Assumes nothing.
 use borrow.Author.Needs.{needs}
-use mathlib.Core.Path.{ap}
-use Rattle.model.specs.Calls as calls
+use mathlib.Core.Bool.{true}
+use mathlib.Core.List.{[], _∷_}
+use mathlib.Core.Path.{_≡_, refl, ap}
+use denote.Enum.Declared.{tagOf}
+use types.Run.{OneOf, miss}
 use Rattle.framing.specs.Laws.Serving.{asked-now, serve-as, served-early, served-wrong}
 use Rattle.framing.specs.Reading.{framed, asFrame, calling}
+use Rattle.framing.specs.Serving.{changing}
 use Rattle.framing.specs.declared.frame.Kind.{Kind}
+use Rattle.framing.specs.declared.frame.Kind.the-variants.{Load, Enter, Withdraw, Recost, List, Early, Wrong}
+use Rattle.framing.proofs.frame.Kind.{the-type}
 use Rattle.framing.proofs.serving.respond.Statement.{statement}
 use Rattle.framing.proofs.serving.respond.Tie as tie
+
+changes : (k : Kind) → OneOf (1 ∷ 2 ∷ 3 ∷ []) (tagOf the-type k) → changing k ≡ true
+unfolding changing
+changes Load h = absurd (miss (1 ∷ 2 ∷ 3 ∷ []) 0 tt h)
+changes Enter h = refl
+changes Withdraw h = refl
+changes Recost h = refl
+changes List h = absurd (miss (1 ∷ 2 ∷ 3 ∷ []) 4 tt h)
+changes Early h = absurd (miss (1 ∷ 2 ∷ 3 ∷ []) 5 tt h)
+changes Wrong h = absurd (miss (1 ∷ 2 ∷ 3 ∷ []) 6 tt h)
+
+calls : (k : Kind) → OneOf (1 ∷ 2 ∷ 3 ∷ []) (tagOf the-type k) → calling k ≡ true
+unfolding calling
+calls Load h = absurd (miss (1 ∷ 2 ∷ 3 ∷ []) 0 tt h)
+calls Enter h = refl
+calls Withdraw h = refl
+calls Recost h = refl
+calls List h = refl
+calls Early h = absurd (miss (1 ∷ 2 ∷ 3 ∷ []) 5 tt h)
+calls Wrong h = absurd (miss (1 ∷ 2 ∷ 3 ∷ []) 6 tt h)
 
 returns : tie.Need-returns
 unfolding asFrame framed
 returns c =
-    let f = c .before .before .before .before .before .before .before .before .before .before .before .before .args .f in
+    let f = c .before .before .before .before .before .before .before .before .before .before .before .args .f in
     serve-as
     (ap (λ (k : Kind). framed k (f .dimension) (f .number) (f .costs)) (c .before .before .before .before .before .before .before .enum-told .given .1))
     (c .before .before .before .before .loaded .ensures)
 
-changed-requires : tie.Need-changed-requires
-unfolding calling
-changed-requires c κs =
-    let start = c .before .before .before .before .before .before .before .before .before in
-    let f = start .args .f in
-    record {
-      asked = asked-now (start .args .f .kind) (start .pre .0 .0) (start .pre .0 .1) (start .pre .1) (ap calling (c .before .before .before .before .enum-told2 .given .1));
-      call = calls.enter (f .number) (f .costs);
-      planned = c .before .before .plan-enter .ensures;
-    }
-
-changed-requires-2 : tie.Need-changed-requires-2
-unfolding calling
-changed-requires-2 c κs =
-    let start = c .before .before .before .before .before .before .before .before .before in
-    let f = start .args .f in
-    record {
-      asked = asked-now (start .args .f .kind) (start .pre .0 .0) (start .pre .0 .1) (start .pre .1) (ap calling (c .before .before .before .before .enum-told3 .given .1));
-      call = calls.withdraw (f .number);
-      planned = c .before .before .plan-withdraw .ensures;
-    }
-
-changed-requires-3 : tie.Need-changed-requires-3
-unfolding calling
-changed-requires-3 c κs =
-    let start = c .before .before .before .before .before .before .before .before .before in
-    let f = start .args .f in
-    record {
-      asked = asked-now (start .args .f .kind) (start .pre .0 .0) (start .pre .0 .1) (start .pre .1) (ap calling (c .before .before .before .before .enum-told4 .given .1));
-      call = calls.recost (f .number) (f .costs);
-      planned = c .before .before .plan-recost .ensures;
-    }
-
 listed-requires : tie.Need-listed-requires
 unfolding calling
 listed-requires c κs =
+    let start = c .before .before .before .before .before .before in
+    asked-now (start .args .f .kind) (start .pre .0 .0) (start .pre .0 .1) (start .pre .1) (ap calling (c .before .before .enum-told2 .given .1))
+
+changed-requires : tie.Need-changed-requires
+changed-requires c κs =
     let start = c .before .before .before .before .before .before .before in
-    asked-now (start .args .f .kind) (start .pre .0 .0) (start .pre .0 .1) (start .pre .1) (ap calling (c .before .before .enum-told5 .given .1))
+    let k = start .args .f .kind in
+    record {
+      asked = asked-now k (start .pre .0 .0) (start .pre .0 .1) (start .pre .1) (calls k (c .before .before .before .before .match .keys5));
+      call = c .before .before .change-plan .ensures .call;
+      planned = c .before .before .change-plan .ensures .planned;
+    }
 
 returns-2 : tie.Need-returns-2
 unfolding asFrame framed
 returns-2 c =
-    let f = c .before .before .before .before .before .before .before .before .before .before .before .before .before .before .args .f in
+    let f = c .before .before .before .before .before .before .before .before .before .args .f in
     serve-as
-    (ap (λ (k : Kind). framed k (f .dimension) (f .number) (f .costs)) (c .before .before .before .before .before .before .before .before .before .enum-told2 .given .1))
-    (c .before .before .before .before .changed .ensures .serves _ (c .before .before .before .before .before .before .before .plan-enter .ensures))
+    (ap (λ (k : Kind). framed k (f .dimension) (f .number) (f .costs)) (c .before .before .before .before .before .enum-told2 .given .1))
+    (c .before .before .listed .ensures)
 
 returns-3 : tie.Need-returns-3
 unfolding asFrame framed
 returns-3 c =
-    let f = c .before .before .before .before .before .before .before .before .before .before .before .before .before .before .args .f in
+    let f = c .before .before .before .before .before .before .before .before .args .f in
     serve-as
-    (ap (λ (k : Kind). framed k (f .dimension) (f .number) (f .costs)) (c .before .before .before .before .before .before .before .before .before .enum-told3 .given .1))
-    (c .before .before .before .before .changed2 .ensures .serves _ (c .before .before .before .before .before .before .before .plan-withdraw .ensures))
+    (ap (λ (k : Kind). framed k (f .dimension) (f .number) (f .costs)) (c .before .before .before .before .enum-told3 .given .1))
+    (served-early _ _ _ _ _ (c .before .before .put-refusal .ensures))
 
 returns-4 : tie.Need-returns-4
 unfolding asFrame framed
 returns-4 c =
-    let f = c .before .before .before .before .before .before .before .before .before .before .before .before .before .before .args .f in
+    let f = c .before .before .before .before .before .before .before .before .args .f in
     serve-as
-    (ap (λ (k : Kind). framed k (f .dimension) (f .number) (f .costs)) (c .before .before .before .before .before .before .before .before .before .enum-told4 .given .1))
-    (c .before .before .before .before .changed3 .ensures .serves _ (c .before .before .before .before .before .before .before .plan-recost .ensures))
+    (ap (λ (k : Kind). framed k (f .dimension) (f .number) (f .costs)) (c .before .before .before .before .enum-told4 .given .1))
+    (served-wrong _ _ _ _ _ (c .before .before .put-refusal2 .ensures))
 
 returns-5 : tie.Need-returns-5
-unfolding asFrame framed
 returns-5 c =
-    let f = c .before .before .before .before .before .before .before .before .before .before .args .f in
+    let f = c .before .before .before .before .before .before .before .before .before .before .before .before .args .f in
+    let plan = c .before .before .before .before .before .before .before .change-plan .ensures in
     serve-as
-    (ap (λ (k : Kind). framed k (f .dimension) (f .number) (f .costs)) (c .before .before .before .before .before .enum-told5 .given .1))
-    (c .before .before .listed .ensures)
-
-returns-6 : tie.Need-returns-6
-unfolding asFrame framed
-returns-6 c =
-    let f = c .before .before .before .before .before .before .before .before .before .args .f in
-    serve-as
-    (ap (λ (k : Kind). framed k (f .dimension) (f .number) (f .costs)) (c .before .before .before .before .enum-told6 .given .1))
-    (served-early _ _ _ _ _ (c .before .before .put-refusal .ensures))
-
-returns-7 : tie.Need-returns-7
-unfolding asFrame framed
-returns-7 c =
-    let f = c .before .before .before .before .before .before .before .before .before .args .f in
-    serve-as
-    (ap (λ (k : Kind). framed k (f .dimension) (f .number) (f .costs)) (c .before .before .before .before .enum-told7 .given .1))
-    (served-wrong _ _ _ _ _ (c .before .before .put-refusal2 .ensures))
+    (plan .frame (changes (f .kind) (c .before .before .before .before .before .before .before .before .before .match .keys5)))
+    (c .before .before .before .before .changed .ensures .serves (plan .call) (plan .planned))
 
 pub respond-spec : {M : Type 1} → statement M
 respond-spec =
@@ -113,33 +100,20 @@ respond-spec =
     (λ c. search needs)
     returns
     (λ c. search needs)
-    (λ c κs. search needs)
-    changed-requires
-    (λ c. search needs)
-    (λ c κs. search needs)
-    changed-requires-2
-    (λ c. search needs)
-    (λ c κs. search needs)
-    changed-requires-3
-    (λ c. search needs)
     listed-requires
     (λ c. search needs)
     (λ c κs. search needs)
     (λ c. search needs)
     (λ c κs. search needs)
+    (λ c κs. search needs)
+    changed-requires
     (λ c. search needs)
     (λ c. search needs)
     returns-2
     (λ c. search needs)
-    (λ c. search needs)
     returns-3
-    (λ c. search needs)
     (λ c. search needs)
     returns-4
     (λ c. search needs)
     (λ c. search needs)
-    returns-5
-    (λ c. search needs)
-    returns-6
-    (λ c. search needs)
-    returns-7)
+    returns-5)
