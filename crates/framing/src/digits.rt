@@ -37,9 +37,13 @@ pub fn value(b: u8) -> u8
     0
 }
 
-pub fn digit(n: u8) -> u8
+pub fn digit(n: u16) -> u8
     requires { ⌜ n < 16 ⌝ }
     ensures { λ r. ⌜ r ≡ digitOf n ⌝ }
 {
-    if n < 10 { 48 + n } else { 55 + n }
+    if n < 10 {
+        (48 + n) as u8
+    } else {
+        (55 + n) as u8
+    }
 }

@@ -6,11 +6,11 @@ use promises::detail_of;
 use promises::number_of;
 use upkeep::Plan;
 ghost use mathlib.Core.Path.{_≡_};
-ghost use mathlib.Core.List.{[], _∷_};
+ghost use mathlib.Core.List.{_++_};
 ghost use Prim.Native.Nat.{_+_, _%_, _≤_};
 ghost use lib.ListN.{length};
-ghost use Rattle.framing.specs.Text.{refused, lineEnd, answerText};
-ghost use Rattle.framing.specs.Writing.{Put, Room, headText, openedText, planSaid};
+ghost use Rattle.framing.specs.Text.{byteText, wordText, refused, answerText};
+ghost use Rattle.framing.specs.Writing.{Put, Room, openedText, planSaid};
 
 // A number in two bytes.
 fn two_bytes(n: usize) -> u16
@@ -19,12 +19,13 @@ fn two_bytes(n: usize) -> u16
     (n % 65536) as u16
 }
 
-fn put_end(out: &mut [u8], at: usize) -> usize
-    requires { ⌜ at + 1 ≤ length (now out) ⌝ }
-    ensures { λ r. ⌜ Put (lineEnd ∷ []) (now (out .entry)) at (now (out .exit)) r ⌝ }
+// The number of a refusal, 0 of an accepted call, and a number of two bytes after it.
+fn put_head(out: &mut [u8], number: u8, n: usize) -> usize
+    requires { ⌜ 6 ≤ length (now out) ⌝ }
+    ensures { λ r. ⌜ Put (byteText number ++ wordText n) (now (out .entry)) 0 (now (out .exit)) r ⌝ }
 {
-    out[at] = b'\n';
-    at + 1
+    let next = put_byte(out, 0, number as u16);
+    put_word(out, next, two_bytes(n))
 }
 
 // A refusal and its detail.
@@ -32,18 +33,9 @@ pub fn put_refusal(out: &mut [u8], number: u8, detail: usize) -> usize
     requires { ⌜ 7 ≤ length (now out) ⌝ }
     ensures { λ r. ⌜ Put (answerText 0 (refused number detail)) (now (out .entry)) 0 (now (out .exit)) r ⌝ }
 {
-    let detail_at = put_byte(out, 0, number);
-    let end = put_word(out, detail_at, two_bytes(detail));
-    put_end(out, end)
-}
-
-// The 0 of an accepted call, and how many rows it told.
-fn put_head(out: &mut [u8], count: usize) -> usize
-    requires { ⌜ 6 ≤ length (now out) ⌝ }
-    ensures { λ r. ⌜ Put (headText count) (now (out .entry)) 0 (now (out .exit)) r ⌝ }
-{
-    let count_at = put_byte(out, 0, 0);
-    put_word(out, count_at, two_bytes(count))
+    let end = put_head(out, number, detail);
+    out[end] = b'\n';
+    end + 1
 }
 
 // The nodes opened, which only a list has.
@@ -51,10 +43,10 @@ fn put_opened(out: &mut [u8], at: usize, lists: bool, opened: usize) -> usize
     requires { ⌜ at + 4 ≤ length (now out) ⌝ }
     ensures { λ r. ⌜ Put (openedText lists opened) (now (out .entry)) at (now (out .exit)) r ⌝ }
 {
-    if !lists {
-        return at;
+    if lists {
+        return put_word(out, at, two_bytes(opened));
     }
-    put_word(out, at, two_bytes(opened))
+    at
 }
 
 // What a call says, of a list or of a change, with the rows that it tells.
@@ -68,8 +60,9 @@ pub fn put_plan(out: &mut [u8], m: &[u8], d: usize, lists: bool, p: Plan) -> usi
     if number != 0 {
         return put_refusal(out, number, detail_of(verdict));
     }
-    let opened_at = put_head(out, p.count);
+    let opened_at = put_head(out, 0, p.count);
     let rows_at = put_opened(out, opened_at, lists, p.opened);
     let end = put_told(out, rows_at, d, m, telling, p.count);
-    put_end(out, end)
+    out[end] = b'\n';
+    end + 1
 }

@@ -25,9 +25,9 @@ unfolding saidBy answerOf
 accepted-text d v s accepts =
     ap (λ (b : Bool). answerText d (cond b s (refused (numberOf v) (detailOf v)))) (sym (eq-eqb (numberOf v) 0 accepts))
 
-pub head-length : (count : ℕ) → length (headText count) ≡ 6
-unfolding headText byteText wordText
-head-length count = refl
+pub head-length : (number n : ℕ) → length (byteText number ++ wordText n) ≡ 6
+unfolding byteText wordText
+head-length number n = refl
 
 pub opened-most : (lists : Bool) (opened : ℕ) → length (openedText lists opened) ≤ 4
 unfolding openedText byteText wordText

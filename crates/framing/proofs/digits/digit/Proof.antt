@@ -14,4 +14,4 @@ unfolding digitOf
 returns-2 c = simp (le-ltb _ _ (c .if1 .left))
 
 pub digit-spec : {M : Type 1} → statement M
-digit-spec = tie.close (tie.spec (λ c. search needs) (λ c. search needs) returns returns-2)
+digit-spec = tie.close (tie.spec (λ c. search needs) (λ c. search needs) (λ c. search needs) (λ c. search needs) returns returns-2)

@@ -1,6 +1,5 @@
 -- `said::put_opened` meets its contract. Assumes nothing.
 use borrow.Author.Needs.{needs}
-use borrow.Author.Tests.{not-true, not-false}
 use mathlib.Core.Bool.{Bool}
 use mathlib.Core.Path.{sym, ap, _∙_}
 use Rattle.framing.specs.Laws.Put.{put-none, put-as}
@@ -13,19 +12,19 @@ use Rattle.framing.proofs.said.put_opened.Tie as tie
 returns : tie.Need-returns
 unfolding openedText
 returns c =
-    let opened = c .before .before .args .opened in
-    put-as (ap (λ (b : Bool). openedText b opened) (sym (not-true (c .before .before .args .lists) (c .if1 .taken)))) (put-none (c .before .before .args .out .now) (c .before .before .args .at))
-
-returns-2 : tie.Need-returns-2
-unfolding openedText
-returns-2 c =
     let opened = c .before .before .before .before .before .before .before .args .opened in
     put-as
     (ap wordText (c .before .before .before .two-bytes .ensures)
     ∙ wordText-low opened
-    ∙ ap (λ (b : Bool). openedText b opened) (sym (not-false (c .before .before .before .before .before .before .before .args .lists) (c .before .before .before .before .before .if1 .left))))
+    ∙ ap (λ (b : Bool). openedText b opened) (sym (c .before .before .before .before .before .if1 .taken)))
     (c .before .before .put-word .ensures)
+
+returns-2 : tie.Need-returns-2
+unfolding openedText
+returns-2 c =
+    let a = c .before .before .args in
+    put-as (ap (λ (b : Bool). openedText b (a .opened)) (sym (c .if1 .left))) (put-none (a .out .now) (a .at))
 
 pub put-opened-spec : {M : Type 1} → statement M
 put-opened-spec =
-    tie.close (tie.spec returns (λ c κs. search needs) (λ c κs. search needs) (λ c. search needs) returns-2)
+    tie.close (tie.spec (λ c κs. search needs) (λ c κs. search needs) (λ c. search needs) returns returns-2)

@@ -14,7 +14,7 @@ returns : tie.Need-returns
 returns c =
     let a = c .before .before .before .args in
     put-as
-    (byteText-digits (a .n) _ _ (omega arith) (c .before .digit .ensures) (c .digit2 .ensures))
+    (byteText-digits (a .n) _ _ (c .before .digit .ensures) (c .digit2 .ensures))
     (put-two _ _ _ _ (omega arith))
 
 pub put-byte-spec : {M : Type 1} → statement M

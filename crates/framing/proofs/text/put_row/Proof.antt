@@ -1,11 +1,11 @@
 -- `text::put_row` meets its contract. Assumes nothing.
 use native.Mathlib.Omega.{arith}
 use lib.ListN.{getD, take, drop}
-use Prim.Native.Nat.{ℕ, _+_, _-_, _%_, _≤_}
+use Prim.Native.Nat.{ℕ, _+_, _-_, _≤_}
 use mathlib.Core.Path.{_≡_, _∙_, ap}
 use mathlib.Core.List.{_++_, flatMap}
 use Rattle.framing.specs.Laws.Put.{put-none, put-both, put-as}
-use Rattle.framing.specs.Laws.Texts.{byteText-length, byteText-low, numbers-more, numbers-length, numbers-all}
+use Rattle.framing.specs.Laws.Texts.{byteText-length, numbers-more, numbers-length, numbers-all}
 use Rattle.framing.specs.Text.{byteText, wordText}
 use Rattle.framing.specs.Writing.{Put}
 use Rattle.framing.proofs.text.put_row.Statement.{statement}
@@ -29,7 +29,7 @@ put-word-requires c κs =
     omega (
       arith,
       numbers-length (a .t4) (omega arith) (own .j) (omega arith),
-      byteText-length (getD (a .t4) 0 0 % 256),
+      byteText-length (getD (a .t4) 0 0),
     )
 
 loop-again : tie.Need-loop-again Inv-loop μ-loop
@@ -44,8 +44,7 @@ returns c =
     let own = c .before .loop in
     let all : own .j ≡ a .d + 1 = omega arith in
     put-as
-    (ap (λ (n : ℕ). byteText (getD (a .t4) 0 0 % 256) ++ flatMap wordText (take n (drop 1 (a .t4)))) all
-    ∙ numbers-all (a .t4) (omega arith) (a .d) (getD (a .t4) 0 0 % 256) (byteText-low (getD (a .t4) 0 0)))
+    (ap (λ (n : ℕ). byteText (getD (a .t4) 0 0) ++ flatMap wordText (take n (drop 1 (a .t4)))) all ∙ numbers-all (a .t4) (omega arith) (a .d))
     (put-both (c .before .before .before .before .put-byte .ensures) (own .inv .1))
 
 pub put-row-spec : {M : Type 1} → statement M
@@ -54,7 +53,6 @@ put-row-spec =
     (tie.spec
     Inv-loop
     μ-loop
-    (λ c. omega arith)
     (λ c. omega arith)
     (λ c κs. omega arith)
     loop-holds
