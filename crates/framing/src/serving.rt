@@ -18,7 +18,6 @@ use promises::number_of;
 use upkeep::Plan;
 use upkeep::nothing;
 ghost use Rattle.framing.specs.Frames as frames;
-ghost use Rattle.framing.specs.Reading.{asFrame, Timely};
 ghost use Rattle.framing.specs.Serving.{Ready, Lent, Asked, Served, PlanAsked, PlanServed, ChangePlan, Answers};
 
 // How many bytes the answer has, and the number of costs from now on: 0 before the first accepted load.
@@ -78,12 +77,13 @@ fn change_plan(m: &[u8], f: Frame) -> Plan
     }
 }
 
-// The answer to a frame, put at the start of `out`.
-fn respond(m: &mut [u8], d: usize, f: Frame, out: &mut [u8]) -> Response
-    requires { ⌜ Ready d (now m) × Timely d (f .kind) ⌝ }
+// The answer to a line, put at the start of `out`.
+pub fn answer(m: &mut [u8], d: usize, line: Line, out: &mut [u8]) -> Response
+    requires { ⌜ Ready d (now m) ⌝ }
     requires { ⌜ Lent (now m) (now out) ⌝ }
-    ensures { λ r. ⌜ Served d (asFrame f) (now (m .entry)) (now (out .entry)) (r .count) (r .dimension) (now (m .exit)) (now (out .exit)) ⌝ }
+    ensures { λ r. ⌜ Answers d line (now (m .entry)) r (now (m .exit)) (now (out .exit)) ⌝ }
 {
+    let f = frame_of(d, line);
     let kind = f.kind;
     let count = match kind {
         Kind::Load => return loaded(m, d, f.dimension, out),
@@ -99,13 +99,4 @@ fn respond(m: &mut [u8], d: usize, f: Frame, out: &mut [u8]) -> Response
         count,
         dimension: d,
     }
-}
-
-// The answer to a line, put at the start of `out`.
-pub fn answer(m: &mut [u8], d: usize, line: Line, out: &mut [u8]) -> Response
-    requires { ⌜ Ready d (now m) ⌝ }
-    requires { ⌜ Lent (now m) (now out) ⌝ }
-    ensures { λ r. ⌜ Answers d line (now (m .entry)) r (now (m .exit)) (now (out .exit)) ⌝ }
-{
-    respond(m, d, frame_of(d, line), out)
 }
