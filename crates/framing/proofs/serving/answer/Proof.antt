@@ -115,20 +115,20 @@ answer-spec =
     tie.close
     (tie.spec
     frame-of-requires
-    (λ c. search needs)
-    (λ c κs. search needs)
+    (λ c. c .match .keys1)
+    (λ c κs. (c .before .before .before .before .before .before .before .pre .0, c .before .before .before .before .before .before .before .pre .1))
     (λ c. search needs)
     (λ c. search needs)
     returns
-    (λ c. search needs)
+    (λ c. c .match .keys2)
     listed-requires
-    (λ c. search needs)
+    (λ c. c .match .keys3)
     (λ c κs. search needs)
-    (λ c. search needs)
+    (λ c. c .match .keys4)
     (λ c κs. search needs)
-    (λ c κs. search needs)
+    (λ c κs. tt)
     changed-requires
-    (λ c. search needs)
+    (λ c. refl)
     (λ c. search needs)
     returns-2
     (λ c. search needs)
