@@ -22,4 +22,4 @@ returns c =
 
 pub put-head-spec : {M : Type 1} → statement M
 put-head-spec =
-    tie.close (tie.spec (λ c κs. search needs) (λ c κs. search needs) put-word-requires (λ c. search needs) returns)
+    tie.close (tie.spec (λ c κs. search needs) (λ c κs. tt) put-word-requires (λ c. c .before .before .put-word .ensures .kept ∙ c .before .before .before .before .before .before .before .put-byte .ensures .kept) returns)

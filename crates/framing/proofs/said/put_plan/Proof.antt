@@ -1,17 +1,25 @@
 -- `said::put_plan` meets its contract. Assumes nothing.
 use borrow.Author.Needs.{needs}
+use Prim.Native.Nat.{ℕ, _+_, _*_, _≤_}
 use mathlib.Core.List.{map}
 use mathlib.Core.Path.{sym, _∙_}
 use native.Mathlib.Omega.{arith}
 use lib.ListN.{length-map, length-set}
 use Rattle.promises.specs.Answers.{resultRow}
 use Rattle.upkeep.specs.Telling.{toldRows}
+use Rattle.framing.specs.Reading.{mostDigits}
 use Rattle.framing.specs.Writing.{headText, planSaid}
 use Rattle.framing.specs.Laws.Put.{put-one, put-both, put-as}
 use Rattle.framing.specs.Laws.Texts.{rowsText-most}
 use Rattle.framing.specs.Laws.Said.{refused-text, accepted-text, head-length, opened-most, plan-text}
 use Rattle.framing.proofs.said.put_plan.Statement.{statement}
 use Rattle.framing.proofs.said.put_plan.Tie as tie
+
+enough : (count long : ℕ) → 10 + mostDigits * count + 1 ≤ long → 7 ≤ long
+enough count long room = omega arith
+
+enough-head : (count long : ℕ) → 10 + mostDigits * count + 1 ≤ long → 6 ≤ long
+enough-head count long room = omega arith
 
 returns : tie.Need-returns
 unfolding planSaid
@@ -75,12 +83,12 @@ pub put-plan-spec : {M : Type 1} → statement M
 put-plan-spec =
     tie.close
     (tie.spec
-    (λ c κs. search needs)
-    (λ c κs. search needs)
-    (λ c κs. search needs)
-    (λ c. search needs)
+    (λ c κs. tt)
+    (λ c κs. tt)
+    (λ c κs. enough _ _ (c .before .before .before .before .before .before .before .pre .room))
+    (λ c. c .before .before .put-refusal .ensures .kept)
     returns
-    (λ c κs. search needs)
+    (λ c κs. enough-head _ _ (c .before .before .before .before .before .before .pre .room))
     put-opened-requires
     put-told-requires
     slice-write-out

@@ -1,6 +1,7 @@
 -- `text::put_word` meets its contract. Assumes nothing.
 use borrow.Author.Needs.{needs}
 use Prim.Native.Nat.{_/_}
+use mathlib.Core.Path.{_∙_}
 use native.Mathlib.Omega.{arith}
 use Rattle.framing.specs.Laws.Put.{put-both}
 use Rattle.framing.specs.Laws.Texts.{byteText-length}
@@ -18,4 +19,4 @@ returns c =
     put-both (c .before .before .before .before .before .before .put-byte .ensures) (c .before .before .put-byte2 .ensures)
 
 pub put-word-spec : {M : Type 1} → statement M
-put-word-spec = tie.close (tie.spec (λ c κs. search needs) put-byte-requires-2 (λ c. search needs) returns)
+put-word-spec = tie.close (tie.spec (λ c κs. search needs) put-byte-requires-2 (λ c. c .before .before .put-byte2 .ensures .kept ∙ c .before .before .before .before .before .before .put-byte .ensures .kept) returns)
