@@ -1,11 +1,12 @@
 -- `text::put_row` meets its contract. Assumes nothing.
 use native.Mathlib.Omega.{arith}
 use lib.ListN.{getD, take, drop}
-use Prim.Native.Nat.{ℕ, _+_, _-_, _≤_}
+use Prim.Native.Nat.{ℕ, _+_, _-_, _≤_, _<_}
 use mathlib.Core.Path.{_≡_, _∙_, ap}
 use mathlib.Core.List.{_++_, flatMap}
 use Rattle.framing.specs.Laws.Put.{put-none, put-both, put-as}
 use Rattle.framing.specs.Laws.Texts.{byteText-length, numbers-more, numbers-length, numbers-all}
+use Rattle.framing.specs.Reading.{mostDigits}
 use Rattle.framing.specs.Text.{byteText, wordText}
 use Rattle.framing.specs.Writing.{Put}
 use Rattle.framing.proofs.text.put_row.Statement.{statement}
@@ -17,6 +18,12 @@ Inv-loop out₀ at d row next₀ j₀ out next j =
 
 abbrev μ-loop : tie.MeasureT-loop
 μ-loop out₀ at d row next₀ j₀ out next j = d + 1 - j
+
+room-byte : (at long : ℕ) → at + mostDigits ≤ long → at + 2 ≤ long
+room-byte at long room = omega arith
+
+less : (j d : ℕ) → j ≤ d → d + 1 - (j + 1) < d + 1 - j
+less j d more = omega arith
 
 loop-holds : tie.Need-loop-holds Inv-loop μ-loop
 unfolding flatMap
@@ -54,14 +61,14 @@ put-row-spec =
     Inv-loop
     μ-loop
     (λ c. omega arith)
-    (λ c κs. omega arith)
+    (λ c κs. room-byte _ _ (c .before .before .pre .1))
     loop-holds
     (λ c. omega arith)
     (λ c. omega arith)
     (λ c. omega arith)
     put-word-requires
     (λ c. omega arith)
-    (λ c. omega arith)
+    (λ c. less _ _ (c .before .before .before .before .loop-test .taken))
     loop-again
-    (λ c. omega arith)
+    (λ c. c .before .loop .inv .1 .kept ∙ c .before .before .before .before .put-byte .ensures .kept)
     returns)
