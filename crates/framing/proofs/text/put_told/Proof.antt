@@ -1,5 +1,5 @@
 -- `text::put_told` meets its contract. Assumes nothing.
-use Prim.Native.Nat.{_+_, _-_, _*_, _≤_}
+use Prim.Native.Nat.{ℕ, _+_, _-_, _*_, _≤_, _<_}
 use mathlib.Core.List.{map, flatMap}
 use mathlib.Core.Path.{_≡_, refl}
 use native.Mathlib.Omega.{arith}
@@ -25,12 +25,18 @@ Inv-loop out₀ at d m t count next₀ i₀ k₀ out next i k =
 abbrev μ-loop : tie.MeasureT-loop
 μ-loop out₀ at d m t count next₀ i₀ k₀ out next i k = count - k
 
+some : (k count : ℕ) → k < count → 0 < count
+some k count more = omega arith
+
+less : (k count : ℕ) → k < count → count - (k + 1) < count - k
+less k count more = omega arith
+
 loop-holds : tie.Need-loop-holds Inv-loop μ-loop
 unfolding flatMap position
 loop-holds c = (omega arith, omega arith, refl, put-none _ _)
 
 told-next-requires : tie.Need-told-next-requires Inv-loop μ-loop
-told-next-requires c κs = c .before .before .before .before .pre .asked (omega arith)
+told-next-requires c κs = c .before .before .before .before .pre .asked (some _ _ (c .loop-test .taken))
 
 loop-again : tie.Need-loop-again Inv-loop μ-loop
 loop-again c =
@@ -63,7 +69,7 @@ put-told-spec =
     told-next-requires
     (λ c κs. omega arith)
     (λ c. omega arith)
-    (λ c. omega arith)
+    (λ c. less _ _ (c .before .before .before .before .before .before .loop-test .taken))
     loop-again
-    (λ c. omega arith)
+    (λ c. c .before .loop .inv .3 .kept)
     returns)
