@@ -10,7 +10,7 @@ ghost use mathlib.Core.List.{_++_};
 ghost use Prim.Native.Nat.{_+_, _%_, _≤_};
 ghost use lib.ListN.{length};
 ghost use Rattle.framing.specs.Text.{byteText, wordText, refused, answerText};
-ghost use Rattle.framing.specs.Writing.{Put, Room, openedText, planSaid};
+ghost use Rattle.framing.specs.Writing.{TextPut, TextRoom, openedText, planSaid};
 
 // A number in two bytes.
 fn two_bytes(n: usize) -> u16
@@ -22,7 +22,7 @@ fn two_bytes(n: usize) -> u16
 // The number of a refusal, 0 of an accepted call, and a number of two bytes after it.
 fn put_head(out: &mut [u8], number: u8, n: usize) -> usize
     requires { ⌜ 6 ≤ length (now out) ⌝ }
-    ensures { λ r. ⌜ Put (byteText number ++ wordText n) (now (out .entry)) 0 (now (out .exit)) r ⌝ }
+    ensures { λ r. ⌜ TextPut (byteText number ++ wordText n) (now (out .entry)) 0 (now (out .exit)) r ⌝ }
 {
     let next = put_byte(out, 0, number as u16);
     put_word(out, next, two_bytes(n))
@@ -31,7 +31,7 @@ fn put_head(out: &mut [u8], number: u8, n: usize) -> usize
 // A refusal and its detail.
 pub fn put_refusal(out: &mut [u8], number: u8, detail: usize) -> usize
     requires { ⌜ 7 ≤ length (now out) ⌝ }
-    ensures { λ r. ⌜ Put (answerText 0 (refused number detail)) (now (out .entry)) 0 (now (out .exit)) r ⌝ }
+    ensures { λ r. ⌜ TextPut (answerText 0 (refused number detail)) (now (out .entry)) 0 (now (out .exit)) r ⌝ }
 {
     let end = put_head(out, number, detail);
     out[end] = b'\n';
@@ -41,7 +41,7 @@ pub fn put_refusal(out: &mut [u8], number: u8, detail: usize) -> usize
 // The nodes opened, which only a list has.
 fn put_opened(out: &mut [u8], at: usize, lists: bool, opened: usize) -> usize
     requires { ⌜ at + 4 ≤ length (now out) ⌝ }
-    ensures { λ r. ⌜ Put (openedText lists opened) (now (out .entry)) at (now (out .exit)) r ⌝ }
+    ensures { λ r. ⌜ TextPut (openedText lists opened) (now (out .entry)) at (now (out .exit)) r ⌝ }
 {
     if lists {
         return put_word(out, at, two_bytes(opened));
@@ -51,8 +51,8 @@ fn put_opened(out: &mut [u8], at: usize, lists: bool, opened: usize) -> usize
 
 // What a call says, of a list or of a change, with the rows that it tells.
 pub fn put_plan(out: &mut [u8], m: &[u8], d: usize, lists: bool, p: Plan) -> usize
-    requires { ⌜ Room d 10 (p .count) (p .telling) (now m) (now out) ⌝ }
-    ensures { λ n. ⌜ Put (answerText d (planSaid lists p (now (m .entry)))) (now (out .entry)) 0 (now (out .exit)) n ⌝ }
+    requires { ⌜ TextRoom d 10 (p .count) (p .telling) (now m) (now out) ⌝ }
+    ensures { λ n. ⌜ TextPut (answerText d (planSaid lists p (now (m .entry)))) (now (out .entry)) 0 (now (out .exit)) n ⌝ }
 {
     let verdict = p.verdict;
     let telling = p.telling;
