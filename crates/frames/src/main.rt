@@ -6,7 +6,7 @@ use framing::TEXT;
 use framing::feed;
 use framing::finish;
 use framing::start;
-ghost use Rattle.framing.specs.Serving.{Ready, Lent};
+ghost use Rattle.framing.specs.Serving.{HoldsState, Lent};
 
 // What one read leaves; `more` is false at the end of the input.
 struct Turn {
@@ -16,9 +16,9 @@ struct Turn {
 
 // All of these bytes, and the answers to the lines that they end.
 fn answer_all(p: Point, bytes: &[u8], m: &mut [u8], out: &mut [u8]) -> Point
-    requires { ⌜ Ready (p .dimension) (now m) ⌝ }
+    requires { ⌜ HoldsState (p .dimension) (now m) ⌝ }
     requires { ⌜ Lent (now m) (now out) ⌝ }
-    ensures { λ r. ⌜ Ready (r .dimension) (now (m .exit)) ⌝ }
+    ensures { λ r. ⌜ HoldsState (r .dimension) (now (m .exit)) ⌝ }
 {
     let mut q = p;
     let mut i = 0;
@@ -34,9 +34,9 @@ fn answer_all(p: Point, bytes: &[u8], m: &mut [u8], out: &mut [u8]) -> Point
 }
 
 fn answer_read(p: Point, m: &mut [u8], out: &mut [u8]) -> Turn
-    requires { ⌜ Ready (p .dimension) (now m) ⌝ }
+    requires { ⌜ HoldsState (p .dimension) (now m) ⌝ }
     requires { ⌜ Lent (now m) (now out) ⌝ }
-    ensures { λ r. ⌜ Ready (r .point .dimension) (now (m .exit)) ⌝ }
+    ensures { λ r. ⌜ HoldsState (r .point .dimension) (now (m .exit)) ⌝ }
 {
     let mut buffer = [0u8; 512];
     let got = libc::read(libc::STDIN_FILENO, &mut buffer);

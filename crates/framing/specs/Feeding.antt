@@ -8,7 +8,7 @@ use Rattle.framing.specs.State.{State}
 use Rattle.framing.specs.Text.{lineEnd}
 use Rattle.framing.specs.Session.{linesFrom, printed}
 use Rattle.framing.specs.Reading.{Judged}
-use Rattle.framing.specs.Serving.{StateIn, Ready}
+use Rattle.framing.specs.Serving.{StateIn, HoldsState}
 use Rattle.framing.specs.declared.reading.Line.{Line}
 use Rattle.framing.specs.declared.feeding.Read.{Read}
 use Rattle.framing.specs.declared.feeding.Point.{Point}
@@ -51,7 +51,7 @@ pub record Feeds (p : Point) (bytes m : List ℕ) (r : Fed) (m' out' : List ℕ)
   pub taken : r .taken ≤ length bytes
   pub some : 0 < length bytes → 0 < r .taken
   pub within : r .answered ≤ length out'
-  pub ready : Ready (r .point .dimension) m'
+  pub ready : HoldsState (r .point .dimension) m'
 
 -- The end of the input.
 pub record Finishes (p : Point) (m : List ℕ) (answered : ℕ) (out' : List ℕ) : Type 0 where

@@ -1,7 +1,7 @@
 // The input as it comes, in parts of any length that may end in the middle of a line.
 use crate::reading::Line;
 use crate::serving::answer;
-ghost use Rattle.framing.specs.Serving.{Ready, Lent};
+ghost use Rattle.framing.specs.Serving.{HoldsState, Lent};
 ghost use Rattle.framing.specs.Feeding.{LineRead, AtStart, Feeds, Finishes};
 
 // What was read of a line, and the board's number of costs, 0 before the first accepted load.
@@ -60,7 +60,7 @@ pub fn start() -> Point
 // Takes bytes up to a line end and with it, or all where there is none. The answer to a line that ended is put at the start of
 // `out`.
 pub fn feed(p: Point, bytes: &[u8], m: &mut [u8], out: &mut [u8]) -> Fed
-    requires { ⌜ Ready (p .dimension) (now m) ⌝ }
+    requires { ⌜ HoldsState (p .dimension) (now m) ⌝ }
     requires { ⌜ Lent (now m) (now out) ⌝ }
     ensures { λ r. ⌜ Feeds p (now (bytes .entry)) (now (m .entry)) r (now (m .exit)) (now (out .exit)) ⌝ }
 {
@@ -91,7 +91,7 @@ pub fn feed(p: Point, bytes: &[u8], m: &mut [u8], out: &mut [u8]) -> Fed
 
 // The end of the input: a last line without a line end is answered. Gives how many bytes were put at the start of `out`.
 pub fn finish(p: Point, m: &mut [u8], out: &mut [u8]) -> usize
-    requires { ⌜ Ready (p .dimension) (now m) ⌝ }
+    requires { ⌜ HoldsState (p .dimension) (now m) ⌝ }
     requires { ⌜ Lent (now m) (now out) ⌝ }
     ensures { λ r. ⌜ Finishes p (now (m .entry)) r (now (out .exit)) ⌝ }
 {

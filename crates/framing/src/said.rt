@@ -10,7 +10,7 @@ ghost use mathlib.Core.List.{[], _∷_};
 ghost use Prim.Native.Nat.{_+_, _%_, _≤_};
 ghost use lib.ListN.{length};
 ghost use Rattle.framing.specs.Text.{refused, lineEnd, answerText};
-ghost use Rattle.framing.specs.Writing.{Put, Room, headText, openedText, planSaid};
+ghost use Rattle.framing.specs.Writing.{TextPut, TextRoom, headText, openedText, planSaid};
 
 // A number in two bytes.
 fn two_bytes(n: usize) -> u16
@@ -21,7 +21,7 @@ fn two_bytes(n: usize) -> u16
 
 fn put_end(out: &mut [u8], at: usize) -> usize
     requires { ⌜ at + 1 ≤ length (now out) ⌝ }
-    ensures { λ r. ⌜ Put (lineEnd ∷ []) (now (out .entry)) at (now (out .exit)) r ⌝ }
+    ensures { λ r. ⌜ TextPut (lineEnd ∷ []) (now (out .entry)) at (now (out .exit)) r ⌝ }
 {
     out[at] = b'\n';
     at + 1
@@ -30,7 +30,7 @@ fn put_end(out: &mut [u8], at: usize) -> usize
 // A refusal and its detail.
 pub fn put_refusal(out: &mut [u8], number: u8, detail: usize) -> usize
     requires { ⌜ 7 ≤ length (now out) ⌝ }
-    ensures { λ r. ⌜ Put (answerText 0 (refused number detail)) (now (out .entry)) 0 (now (out .exit)) r ⌝ }
+    ensures { λ r. ⌜ TextPut (answerText 0 (refused number detail)) (now (out .entry)) 0 (now (out .exit)) r ⌝ }
 {
     let detail_at = put_byte(out, 0, number);
     let end = put_word(out, detail_at, two_bytes(detail));
@@ -40,7 +40,7 @@ pub fn put_refusal(out: &mut [u8], number: u8, detail: usize) -> usize
 // The 0 of an accepted call, and how many rows it told.
 fn put_head(out: &mut [u8], count: usize) -> usize
     requires { ⌜ 6 ≤ length (now out) ⌝ }
-    ensures { λ r. ⌜ Put (headText count) (now (out .entry)) 0 (now (out .exit)) r ⌝ }
+    ensures { λ r. ⌜ TextPut (headText count) (now (out .entry)) 0 (now (out .exit)) r ⌝ }
 {
     let count_at = put_byte(out, 0, 0);
     put_word(out, count_at, two_bytes(count))
@@ -49,7 +49,7 @@ fn put_head(out: &mut [u8], count: usize) -> usize
 // The nodes opened, which only a list has.
 fn put_opened(out: &mut [u8], at: usize, lists: bool, opened: usize) -> usize
     requires { ⌜ at + 4 ≤ length (now out) ⌝ }
-    ensures { λ r. ⌜ Put (openedText lists opened) (now (out .entry)) at (now (out .exit)) r ⌝ }
+    ensures { λ r. ⌜ TextPut (openedText lists opened) (now (out .entry)) at (now (out .exit)) r ⌝ }
 {
     if !lists {
         return at;
@@ -59,8 +59,8 @@ fn put_opened(out: &mut [u8], at: usize, lists: bool, opened: usize) -> usize
 
 // What a call says, of a list or of a change, with the rows that it tells.
 pub fn put_plan(out: &mut [u8], m: &[u8], d: usize, lists: bool, p: Plan) -> usize
-    requires { ⌜ Room d 10 (p .count) (p .telling) (now m) (now out) ⌝ }
-    ensures { λ n. ⌜ Put (answerText d (planSaid lists p (now (m .entry)))) (now (out .entry)) 0 (now (out .exit)) n ⌝ }
+    requires { ⌜ TextRoom d 10 (p .count) (p .telling) (now m) (now out) ⌝ }
+    ensures { λ n. ⌜ TextPut (answerText d (planSaid lists p (now (m .entry)))) (now (out .entry)) 0 (now (out .exit)) n ⌝ }
 {
     let verdict = p.verdict;
     let telling = p.telling;

@@ -19,7 +19,7 @@ use upkeep::Plan;
 use upkeep::nothing;
 ghost use Rattle.framing.specs.Frames as frames;
 ghost use Rattle.framing.specs.Reading.{asFrame, Timely};
-ghost use Rattle.framing.specs.Serving.{Ready, Lent, Asked, Served, PlanAsked, PlanServed, Answers};
+ghost use Rattle.framing.specs.Serving.{HoldsState, Lent, CallAsked, Served, RespondAsked, PlanServed, Answers};
 
 // How many bytes the answer has, and the number of costs from now on: 0 before the first accepted load.
 pub struct Response {
@@ -29,7 +29,7 @@ pub struct Response {
 
 // A load of nothing.
 fn loaded(m: &mut [u8], d: usize, asked: usize, out: &mut [u8]) -> Response
-    requires { ⌜ Ready d (now m) ⌝ }
+    requires { ⌜ HoldsState d (now m) ⌝ }
     requires { ⌜ Lent (now m) (now out) ⌝ }
     ensures { λ r. ⌜ Served d (frames.load asked) (now (m .entry)) (now (out .entry)) (r .count) (r .dimension) (now (m .exit)) (now (out .exit)) ⌝ }
 {
@@ -50,7 +50,7 @@ fn loaded(m: &mut [u8], d: usize, asked: usize, out: &mut [u8]) -> Response
 
 // A change told, then made: its rows are read from the board as it was.
 fn changed(m: &mut [u8], d: usize, p: Plan, out: &mut [u8]) -> usize
-    requires { ⌜ PlanAsked d p (now m) (now out) ⌝ }
+    requires { ⌜ RespondAsked d p (now m) (now out) ⌝ }
     ensures { λ r. ⌜ PlanServed d p (now (m .entry)) (now (out .entry)) r (now (m .exit)) (now (out .exit)) ⌝ }
 {
     let count = put_plan(out, m, d, false, p);
@@ -59,7 +59,7 @@ fn changed(m: &mut [u8], d: usize, p: Plan, out: &mut [u8]) -> usize
 }
 
 fn listed(m: &[u8], d: usize, out: &mut [u8]) -> usize
-    requires { ⌜ Asked d (now m) (now out) ⌝ }
+    requires { ⌜ CallAsked d (now m) (now out) ⌝ }
     ensures { λ r. ⌜ Served d frames.list (now (m .entry)) (now (out .entry)) r d (now (m .entry)) (now (out .exit)) ⌝ }
 {
     put_plan(out, m, d, true, plan_list(m, ROWS))
@@ -67,7 +67,7 @@ fn listed(m: &[u8], d: usize, out: &mut [u8]) -> usize
 
 // The answer to a frame, put at the start of `out`.
 fn respond(m: &mut [u8], d: usize, f: Frame, out: &mut [u8]) -> Response
-    requires { ⌜ Ready d (now m) × Timely d (f .kind) ⌝ }
+    requires { ⌜ HoldsState d (now m) × Timely d (f .kind) ⌝ }
     requires { ⌜ Lent (now m) (now out) ⌝ }
     ensures { λ r. ⌜ Served d (asFrame f) (now (m .entry)) (now (out .entry)) (r .count) (r .dimension) (now (m .exit)) (now (out .exit)) ⌝ }
 {
@@ -101,7 +101,7 @@ fn respond(m: &mut [u8], d: usize, f: Frame, out: &mut [u8]) -> Response
 
 // The answer to a line, put at the start of `out`.
 pub fn answer(m: &mut [u8], d: usize, line: Line, out: &mut [u8]) -> Response
-    requires { ⌜ Ready d (now m) ⌝ }
+    requires { ⌜ HoldsState d (now m) ⌝ }
     requires { ⌜ Lent (now m) (now out) ⌝ }
     ensures { λ r. ⌜ Answers d line (now (m .entry)) r (now (m .exit)) (now (out .exit)) ⌝ }
 {

@@ -31,13 +31,13 @@ use Rattle.tree.specs.Enter as tree
 use Rattle.upkeep.specs.Change.{movesAfter}
 use Rattle.upkeep.specs.Notice.{SetMarks}
 use Rattle.upkeep.specs.declared.change.Upkeep.{Upkeep}
-use Rattle.board.specs.Change.{EnterAsked, EnterMade}
+use Rattle.board.specs.Change.{ToEnter, EnterMade}
 use Rattle.board.specs.Laws.Rows.{holds-sound, holds-moves, holds-over-marks, holds-counted}
 use Rattle.board.specs.Laws.Kept.{MarksRight, made}
 use Rattle.board.specs.Laws.Marks.{entering-moves, marks-come}
 use Rattle.board.specs.Laws.Steps.{listed-frame, stored-frame, stored-holds, stored-asked}
 
-module _ {c d n : ℕ} {x : Move} {u : Upkeep} {m m₁ m₂ m₃ : List ℕ} (a : EnterAsked c d n x u m) (b : Bytes m)
+module _ {c d n : ℕ} {x : Move} {u : Upkeep} {m m₁ m₂ m₃ : List ℕ} (a : ToEnter c d n x u m) (b : Bytes m)
     (set : SetMarks c n (u .leaving) (u .entering) m m₁)
     (e₂ : m₂ ≡ setListed c (x .number) (u .listed) m₁)
     (e₃ : m₃ ≡ setCosts c (x .number) (x .costs) m₂) where

@@ -23,7 +23,7 @@ use Rattle.promises.specs.Promise.{Kept}
 use Rattle.promises.specs.Laws.Tab.{each-tab}
 use Rattle.memory.specs.Held.{SoundAt}
 use Rattle.memory.specs.Stores.{setCount}
-use Rattle.memory.specs.Frame.{Frame, ChangeOnly}
+use Rattle.memory.specs.Frame.{DifferWithin, ChangeOnly}
 use Rattle.memory.specs.Laws.Written.{only-trans, count-written, size-left, dimension-left}
 use Rattle.memory.specs.Laws.Fields.{number-over-head, mark-over-head}
 use Rattle.memory.specs.Laws.Stored.{setCount-head, count-setCount, size-setCount, dimension-setCount}
@@ -39,7 +39,7 @@ module _ {c d n k : ℕ} {m m₁ : List ℕ} {t : Tree} (s : SoundAt c d n m) (f
   abbrev m' : List ℕ
   m' = setCount k m₁
 
-  abbrev head : Frame 0 16 m₁ (setCount k m₁)
+  abbrev head : DifferWithin 0 16 m₁ (setCount k m₁)
   head = setCount-head k m₁
 
   size : sizeIn m' ≡ c

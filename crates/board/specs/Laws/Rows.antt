@@ -24,7 +24,7 @@ use Rattle.memory.specs.Room.{Numbers, Readable}
 use Rattle.memory.specs.Held.{SoundAt}
 use Rattle.memory.specs.declared.sound.Head.{Head}
 use Rattle.memory.specs.Stores.{setCosts}
-use Rattle.memory.specs.Frame.{Frame, MarksOnly}
+use Rattle.memory.specs.Frame.{DifferWithin, MarksOnly}
 use Rattle.memory.specs.Laws.Frames.{room-over}
 use Rattle.memory.specs.Laws.Stored.{setCosts-frame}
 use Rattle.memory.specs.Laws.Places.{tab-each}
@@ -76,7 +76,7 @@ module _ {c d n : ℕ} {m : List ℕ} {t : Tree} (h : RowsHold c d n m t) where
       (h .numbers i l)
 
   -- The same line, the same tree.
-  pub holds-same : {a b : ℕ} {m' : List ℕ} → Frame a b m m' → lineFrom c d n m' ≡ lineFrom c d n m → RowsHold c d n m' t
+  pub holds-same : {a b : ℕ} {m' : List ℕ} → DifferWithin a b m m' → lineFrom c d n m' ≡ lineFrom c d n m → RowsHold c d n m' t
   holds-same {m' = m'} f e =
       record {
         room = room-over c f (h .room);

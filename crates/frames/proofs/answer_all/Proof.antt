@@ -5,13 +5,13 @@ use mathlib.Core.Path.{sym}
 use lib.ListN.{length}
 use lib.Seq.{length-take-le}
 use native.Mathlib.Omega.{arith}
-use Rattle.framing.specs.Serving.{Ready, Lent}
+use Rattle.framing.specs.Serving.{HoldsState, Lent}
 use Rattle.frames.proofs.answer_all.Statement.{statement}
 use Rattle.frames.proofs.answer_all.Tie as tie
 
 abbrev Inv-loop : tie.InvT-loop
 Inv-loop bytes m₀ out₀ q₀ i₀ m out q i =
-    (i ≤ length bytes) × Ready (q .dimension) m × Lent m out
+    (i ≤ length bytes) × HoldsState (q .dimension) m × Lent m out
 
 abbrev μ-loop : tie.MeasureT-loop
 μ-loop bytes m₀ out₀ q₀ i₀ m out q i = length bytes - i

@@ -4,13 +4,13 @@ use mathlib.Core.Path.{refl, sym}
 use lib.Seq.{length-take-le}
 use Rattle.model.specs.Calls.{memoryNeed}
 use Rattle.framing.specs.State.{unloaded}
-use Rattle.framing.specs.Serving.{StateIn, Ready, Lent}
+use Rattle.framing.specs.Serving.{StateIn, HoldsState, Lent}
 use native.Mathlib.Omega.{arith}
 use Rattle.frames.proofs.main.Statement.{statement}
 use Rattle.frames.proofs.main.Tie as tie
 
 abbrev Inv-loop : tie.InvT-loop
-Inv-loop m₀ out₀ p₀ turns₀ m out p turns = Ready (p .dimension) m × Lent m out
+Inv-loop m₀ out₀ p₀ turns₀ m out p turns = HoldsState (p .dimension) m × Lent m out
 
 abbrev μ-loop : tie.MeasureT-loop
 μ-loop m₀ out₀ p₀ turns₀ m out p turns = turns

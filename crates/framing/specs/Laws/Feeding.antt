@@ -14,7 +14,7 @@ use Rattle.framing.specs.State.{State}
 use Rattle.framing.specs.Text.{lineEnd}
 use Rattle.framing.specs.Session.{answerTo, after, answersTo, linesFrom, printed, output}
 use Rattle.framing.specs.Reading.{Judged, Stepped}
-use Rattle.framing.specs.Serving.{StateIn, Ready, Answers}
+use Rattle.framing.specs.Serving.{StateIn, HoldsState, Answers}
 use Rattle.framing.specs.Feeding.{ReadOn, LineRead, At, AtStart, Feeds, Finishes, ProgramRun, feed, read, finish}
 use Rattle.framing.specs.declared.reading.Line.{Line}
 use Rattle.framing.specs.declared.serving.Response.{Response}
@@ -75,7 +75,7 @@ module _ (bytes : List ℕ) (i : ℕ) (here : i < length bytes) where
 
 module _ (p : Point) (bytes m : List ℕ) (x : Read) (reads : LineRead (p .line) bytes x) where
   -- No line ended.
-  pub feeds-none : (out : List ℕ) → x .ended ≡ false → Ready (p .dimension) m
+  pub feeds-none : (out : List ℕ) → x .ended ≡ false → HoldsState (p .dimension) m
       → Feeds p bytes m (record { point = record { line = x .line; dimension = p .dimension }; taken = x .count; answered = 0 }) m out
   unfolding printed
   feeds-none out e ready =

@@ -14,11 +14,11 @@ use Rattle.line.specs.Line.{Placed}
 use Rattle.line.specs.Places.{moveAt, heightAt, nodeStart, nodeEnd, setHeight, insertAt}
 use Rattle.line.specs.Enter.{laterInGap, takesOver, placed}
 use Rattle.line.specs.Laws.Line.{row, Low}
-use Rattle.line.specs.Laws.Places.{Starts, starts-lower, height-left, height-right, move-left, move-right, insert-left, insert-right, set-left, set-right, length-setHeight, low-at, start-le, start-left, start-right, end-le, end-past, end-left, end-right}
+use Rattle.line.specs.Laws.Places.{FirstAtLeast, starts-lower, height-left, height-right, move-left, move-right, insert-left, insert-right, set-left, set-right, length-setHeight, low-at, start-le, start-left, start-right, end-le, end-past, end-left, end-right}
 
 -- ---- within a node that holds the place and does not start there
 
-module _ (d : ℕ) (x : Move) (l : ℕ) (us : List Placed) (r : Placed) (rs vs : List Placed) (low : Low l rs) (t : l ≤ r .height) (s : Starts l vs)
+module _ (d : ℕ) (x : Move) (l : ℕ) (us : List Placed) (r : Placed) (rs vs : List Placed) (low : Low l rs) (t : l ≤ r .height) (s : FirstAtLeast l vs)
     (q : ℕ) (m : q < length rs) where
   abbrev part : List Placed
   part = r ∷ rs

@@ -20,11 +20,11 @@ use Rattle.line.specs.Laws.Line.{row, Low}
 use Rattle.line.specs.Places.{moveAt, heightAt, lower, nodeStart, nodeEnd, entries, entryAt, setHeight, insertAt}
 
 -- Nothing follows, or a row with height l or more.
-abbrev pub Starts : ℕ → List Placed → Type 0
-Starts l [] = Unit {0}
-Starts l (r ∷ rs) = l ≤ r .height
+abbrev pub FirstAtLeast : ℕ → List Placed → Type 0
+FirstAtLeast l [] = Unit {0}
+FirstAtLeast l (r ∷ rs) = l ≤ r .height
 
-pub starts-lower : (l m : ℕ) (rs : List Placed) → l ≤ m → Starts m rs → Starts l rs
+pub starts-lower : (l m : ℕ) (rs : List Placed) → l ≤ m → FirstAtLeast m rs → FirstAtLeast l rs
 starts-lower l m [] h s = tt
 starts-lower l m (r ∷ rs) h s = omega arith
 
@@ -102,7 +102,7 @@ module _ (xs ys : List Placed) where
 
 -- ---- lower
 
-pub lower-low : (l : ℕ) (xs ys : List Placed) → Low l xs → Starts l ys → lower l (xs ++ ys) ≡ length xs
+pub lower-low : (l : ℕ) (xs ys : List Placed) → Low l xs → FirstAtLeast l ys → lower l (xs ++ ys) ≡ length xs
 unfolding lower
 lower-low l [] [] low s = refl
 lower-low l [] (y ∷ ys) low s = ap (λ (b : Bool). cond b 0 (suc (lower l ys))) (le-leb l (y .height) s)
@@ -110,7 +110,7 @@ lower-low l (x ∷ xs) ys low s =
     ap (λ (b : Bool). cond b 0 (suc (lower l (xs ++ ys)))) (lt-leb l (x .height) (low .0))
     ∙ ap suc (lower-low l xs ys (low .1) s)
 
-pub lower-left : (l : ℕ) (xs ys : List Placed) → Starts l ys → lower l (xs ++ ys) ≡ lower l xs
+pub lower-left : (l : ℕ) (xs ys : List Placed) → FirstAtLeast l ys → lower l (xs ++ ys) ≡ lower l xs
 unfolding lower
 lower-left l [] ys s = lower-low l [] ys tt s
 lower-left l (x ∷ xs) ys s = ap (λ (n : ℕ). cond (leb l (x .height)) 0 (suc n)) (lower-left l xs ys s)
@@ -188,7 +188,7 @@ end-right l xs ys q =
     (ap (λ (i : ℕ). drop i (xs ++ ys)) (sym (add-suc (length xs) q)) ∙ drop-append-add xs ys (suc q))
     ∙ (omega arith)
 
-pub end-left : (l : ℕ) (xs ys : List Placed) (q : ℕ) → Starts l ys → q < length xs → nodeEnd l q (xs ++ ys) ≡ nodeEnd l q xs
+pub end-left : (l : ℕ) (xs ys : List Placed) (q : ℕ) → FirstAtLeast l ys → q < length xs → nodeEnd l q (xs ++ ys) ≡ nodeEnd l q xs
 unfolding nodeEnd
 end-left l xs ys q s h =
     ap (λ (n : ℕ). suc q + n) (ap (lower l) (drop-append-le (suc q) xs ys h) ∙ lower-left l (drop (suc q) xs) ys s)
@@ -198,7 +198,7 @@ low-drop l xs zero low = low
 low-drop l [] (suc i) low = tt
 low-drop l (x ∷ xs) (suc i) low = low-drop l xs i (low .1)
 
-pub end-low : (l : ℕ) (r : Placed) (rs ys : List Placed) (q : ℕ) → Low l rs → Starts l ys → q ≤ length rs
+pub end-low : (l : ℕ) (r : Placed) (rs ys : List Placed) (q : ℕ) → Low l rs → FirstAtLeast l ys → q ≤ length rs
     → nodeEnd l q (r ∷ rs ++ ys) ≡ suc (length rs)
 unfolding nodeEnd
 end-low l r rs ys q low s h =
@@ -214,7 +214,7 @@ module _ (l : ℕ) (xs : List Placed) (r : Placed) (rs ys : List Placed) (q : �
       ∙ ap (λ (n : ℕ). length xs + n) (start-left l (r ∷ rs) ys q (omega arith) ∙ start-low l r rs q low h)
       ∙ add-zero (length xs)
 
-  pub node-end : Starts l ys → nodeEnd l (length xs + q) (xs ++ (r ∷ rs ++ ys)) ≡ length xs + suc (length rs)
+  pub node-end : FirstAtLeast l ys → nodeEnd l (length xs + q) (xs ++ (r ∷ rs ++ ys)) ≡ length xs + suc (length rs)
   node-end s = end-right l xs (r ∷ rs ++ ys) q ∙ ap (λ (n : ℕ). length xs + n) (end-low l r rs ys q low s h)
 
 -- ---- its entries

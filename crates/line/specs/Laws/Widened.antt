@@ -14,7 +14,7 @@ use Rattle.line.specs.Line.{Placed, lineAt, movesIn}
 use Rattle.line.specs.Places.{heightAt, nodeStart, nodeEnd, entries}
 use Rattle.line.specs.Withdraw.{placeOf, Range, widened}
 use Rattle.line.specs.Laws.Line.{Whole}
-use Rattle.line.specs.Laws.Places.{Starts, entries-between}
+use Rattle.line.specs.Laws.Places.{FirstAtLeast, entries-between}
 use Rattle.line.specs.Laws.Entries.{node-start-at, node-end-at, count-entries}
 use Rattle.line.specs.Laws.Taken.{numbered}
 
@@ -56,7 +56,7 @@ module _ (f l : ℕ) (g : Range) (rs : List Placed) where
 
 -- A node in its line, found from a place q rows behind its first.
 module _ (h k : ℕ) (es : List (Entry h)) (w : Whole (suc h) es) (pre post rs : List Placed)
-    (whole : rs ≡ pre ++ (lineAt (suc h) k es ++ post)) (high : suc h ≤ k) (follows : Starts (suc h) post)
+    (whole : rs ≡ pre ++ (lineAt (suc h) k es ++ post)) (high : suc h ≤ k) (follows : FirstAtLeast (suc h) post)
     (i q : ℕ) (at : i ≡ length pre + q) (inside : q < length (lineAt (suc h) k es)) where
   found-start : nodeStart (suc h) i rs ≡ length pre
   found-start = ap₂ (nodeStart (suc h)) at whole ∙ node-start-at (suc h) k es w pre post q inside high

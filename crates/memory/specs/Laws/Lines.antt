@@ -14,7 +14,7 @@ use Rattle.line.specs.Places.{moveAt, heightAt, insertAt}
 use Rattle.promises.specs.Layout.{sizeIn, dimensionIn, countIn, numberIn, heightIn, costsIn, moveIn, placedIn, tab, lineFrom, lineIn}
 use Rattle.memory.specs.Room.{Room, Numbers}
 use Rattle.memory.specs.Stores.{setHeight, setCosts}
-use Rattle.memory.specs.Frame.{Frame, MarksOnly, WorkOnly}
+use Rattle.memory.specs.Frame.{DifferWithin, MarksOnly, WorkOnly}
 use Rattle.promises.specs.Laws.Tab.{each-tab, length-tab, getD-tab, tab-ext, tab-set, tab-insert, map-tab}
 use Rattle.memory.specs.Laws.Places.{tab-each}
 use Rattle.memory.specs.Laws.Fields.{number-over-head, height-over-head, costs-over-head, costs-over-rows, number-over-marks, height-over-marks, costs-over-marks, number-over-costs, height-over-costs, number-over-work, height-over-work, costs-over-work}
@@ -87,7 +87,7 @@ module _ (c d : ℕ) (m m' : List ℕ) where
   line-insert = tab-insert (placedIn c d m) (placedIn c d m')
 
 module _ (c d n : ℕ) {m m' : List ℕ} where
-  pub line-over-head : Frame 0 16 m m' → lineFrom c d n m' ≡ lineFrom c d n m
+  pub line-over-head : DifferWithin 0 16 m m' → lineFrom c d n m' ≡ lineFrom c d n m
   line-over-head f = line-ext c d m m' n (λ i h. number-over-head c f i) (λ i h. height-over-head c f i) (λ i h. costs-over-head c f d _)
 
   pub line-over-marks : MarksOnly c m m' → n ≤ c → lineFrom c d n m' ≡ lineFrom c d n m

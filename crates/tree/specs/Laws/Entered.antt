@@ -30,7 +30,7 @@ use Rattle.memory.specs.Laws.Lines.{length-line, getD-line, heightAt-line, move
 use Rattle.tree.specs.Rows.{Inserted}
 use Rattle.tree.specs.Split.{CascadeAsked, Cascaded}
 use Rattle.tree.specs.Hold.{RowsHold, Enterable}
-use Rattle.tree.specs.Enter.{PutAsked, Put, EnterAsked, Entered}
+use Rattle.tree.specs.Enter.{PutAsked, RowPut, EnterAsked, Entered}
 use Rattle.tree.specs.Laws.Putting.{placed-top, row-is}
 
 -- ---- rows that hold a tree
@@ -114,7 +114,7 @@ module _ {c d n : ℕ} {x : Move} {m : List ℕ} (asked : EnterAsked c d n x m) 
           stored = enterable .stored;
         }
 
-    module _ {m' : List ℕ} (put : Put c d n p x m m') where
+    module _ {m' : List ℕ} (put : RowPut c d n p x m m') where
       top : heightIn c m' 0 ≡ heightAt rs 0
       top =
           sym (heightAt-line c d (suc n) m' 0 (omega arith))

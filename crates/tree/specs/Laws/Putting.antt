@@ -26,7 +26,7 @@ use Rattle.memory.specs.Laws.Fields.{costs-over-rows}
 use Rattle.memory.specs.Laws.Stored.{setHeight-rows}
 use Rattle.memory.specs.Laws.Lines.{numbers-each, each-numbers, length-line, heightAt-line, line-setHeight}
 use Rattle.tree.specs.Rows.{row, Inserted, NodeStart, NodeEnd}
-use Rattle.tree.specs.Enter.{PlaceAsked, TakesOver, PutAsked, Put}
+use Rattle.tree.specs.Enter.{PlaceAsked, TakesOver, PutAsked, RowPut}
 use Rattle.tree.specs.Laws.Rows.{costs-line}
 
 -- ---- whether it takes over
@@ -139,7 +139,7 @@ row-is c d x k stored f =
     ap (λ (cs : List ℕ). record { move = record { number = x .number; costs = cs }; height = k }) (costs-over-rows c f d (x .number) ∙ stored)
 
 module _ {c d n p : ℕ} {x : Move} {m : List ℕ} (asked : PutAsked c d n p x m) where
-  made : {m' : List ℕ} → lineFrom c d (suc n) m' ≡ placed d x p (lineFrom c d n m) → RowsOnly c m m' → Put c d n p x m m'
+  made : {m' : List ℕ} → lineFrom c d (suc n) m' ≡ placed d x p (lineFrom c d n m) → RowsOnly c m m' → RowPut c d n p x m m'
   made {m'} line f =
       record {
         line = line;
@@ -156,7 +156,7 @@ module _ {c d n p : ℕ} {x : Move} {m : List ℕ} (asked : PutAsked c d n p x m
         let count = length-line c d n m in
         omega (arith, takes-inside d x p (lineFrom c d n m) over (omega (arith, asked .asked .place)) (omega (arith, asked .some)))
 
-    pub put-over : {m' m'' : List ℕ} {k : ℕ} → k ≡ heightIn c m p → m' ≡ setHeight c p 0 m → Inserted c n p (x .number) k m' m'' → Put c d n p x m m''
+    pub put-over : {m' m'' : List ℕ} {k : ℕ} → k ≡ heightIn c m p → m' ≡ setHeight c p 0 m → Inserted c n p (x .number) k m' m'' → RowPut c d n p x m m''
     put-over {m'} {m''} {k} level lowered inserted =
         let rs = lineFrom c d n m in
         let f = subst (RowsOnly c m) (sym lowered) (setHeight-rows c p m (omega (arith, inside, asked .asked .rows)) 0) in
@@ -167,7 +167,7 @@ module _ {c d n p : ℕ} {x : Move} {m : List ℕ} (asked : PutAsked c d n p x m
         ∙ sym (placed-over d x p rs over))
         (frame-trans f (inserted .frame))
 
-  pub put-under : {m' : List ℕ} → takesOver d x p (lineFrom c d n m) ≡ false → Inserted c n p (x .number) 0 m m' → Put c d n p x m m'
+  pub put-under : {m' : List ℕ} → takesOver d x p (lineFrom c d n m) ≡ false → Inserted c n p (x .number) 0 m m' → RowPut c d n p x m m'
   put-under under inserted =
       let rs = lineFrom c d n m in
       made (inserted .line d ∙ ap (λ (r : Placed). insertAt p r rs) (row-is c d x 0 (asked .stored) (frame-refl m)) ∙ sym (placed-under d x p rs under)) (inserted .frame)

@@ -7,13 +7,13 @@ use mathlib.Core.List.{_++_, flatMap}
 use Rattle.framing.specs.Laws.Put.{put-none, put-both, put-as}
 use Rattle.framing.specs.Laws.Texts.{byteText-length, byteText-low, numbers-more, numbers-length, numbers-all}
 use Rattle.framing.specs.Text.{byteText, wordText}
-use Rattle.framing.specs.Writing.{Put}
+use Rattle.framing.specs.Writing.{TextPut}
 use Rattle.framing.proofs.text.put_row.Statement.{statement}
 use Rattle.framing.proofs.text.put_row.Tie as tie
 
 abbrev Inv-loop : tie.InvT-loop
 Inv-loop out₀ at d row next₀ j₀ out next j =
-    (j ≤ d + 1) × Put (flatMap wordText (take j (drop 1 row))) out₀ next₀ out next
+    (j ≤ d + 1) × TextPut (flatMap wordText (take j (drop 1 row))) out₀ next₀ out next
 
 abbrev μ-loop : tie.MeasureT-loop
 μ-loop out₀ at d row next₀ j₀ out next j = d + 1 - j

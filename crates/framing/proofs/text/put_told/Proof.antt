@@ -8,7 +8,7 @@ use Rattle.promises.specs.Answers.{resultRow}
 use Rattle.upkeep.specs.Telling.{toldRows, position}
 use Rattle.framing.specs.Reading.{mostDigits}
 use Rattle.framing.specs.Text.{rowText}
-use Rattle.framing.specs.Writing.{Put}
+use Rattle.framing.specs.Writing.{TextPut}
 use Rattle.framing.specs.Laws.Put.{put-none, put-both, put-as}
 use Rattle.framing.specs.Laws.Texts.{rowText-most}
 use Rattle.framing.specs.Laws.Told.{position-more, told-more, told-end}
@@ -20,7 +20,7 @@ Inv-loop out₀ at d m t count next₀ i₀ k₀ out next i k =
     (k ≤ count)
     × (next ≤ next₀ + mostDigits * k)
     × (i ≡ position t m k)
-    × Put (flatMap (rowText d) (take k (map resultRow (toldRows t m)))) out₀ next₀ out next
+    × TextPut (flatMap (rowText d) (take k (map resultRow (toldRows t m)))) out₀ next₀ out next
 
 abbrev μ-loop : tie.MeasureT-loop
 μ-loop out₀ at d m t count next₀ i₀ k₀ out next i k = count - k
