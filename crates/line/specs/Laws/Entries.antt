@@ -12,8 +12,8 @@ use Rattle.model.specs.Moves.{Move, noMove}
 use Rattle.model.specs.Tree.{Entry, movesUnder, firstMove, lastMove}
 use Rattle.model.specs.Laws.Basics.{each-append, count-append, count-cons}
 use Rattle.model.specs.Laws.Tree.{flatMap-append}
-use Rattle.line.specs.Line.{Placed, lineAt, movesIn}
-use Rattle.line.specs.Places.{moveAt, heightAt, nodeStart, nodeEnd, entryAt, setHeight}
+use Rattle.line.specs.Line.{Placed, lineAt, movesIn, heightsIn}
+use Rattle.line.specs.Places.{moveAt, heightAt, nodeStart, nodeEnd, entryAmong, entryAt, setHeight}
 use Rattle.line.specs.Laws.Line.{row, Whole, restAt, rest-low, line-cons, line-moves}
 use Rattle.line.specs.Laws.Places.{FirstAtLeast, atLeast, move-left, move-right, set-seam, node-start, node-end, count-low, entry-next}
 
@@ -161,7 +161,7 @@ module _ (h : ℕ) where
 
   pub entry-at : (xs : List Placed) (k : ℕ) (es fs : List (Entry h)) (ys : List Placed) → Each (Whole h) es → Each (Whole h) fs → FirstAtLeast h ys
       → entryAt h (length xs) (length es) (xs ++ (lineAt (suc h) k (es ++ fs) ++ ys)) ≡ length xs + length (lineAt (suc h) k es)
-  unfolding entryAt lineAt
+  unfolding entryAmong lineAt
   entry-at xs k [] fs ys w v s = sym (add-zero (length xs))
   entry-at xs k (e ∷ es) fs ys w v s =
       let u = lineAt h k e in
@@ -169,7 +169,7 @@ module _ (h : ℕ) where
       let shape = ap (λ (rs : List Placed). rs ++ ys) (line-more h k e (es ++ fs)) ∙ append-assoc u (lineAt (suc h) h (es ++ fs)) ys in
       let next = lines-start h h (es ++ fs) ys (each-append (Whole h) es fs (w .1) v) (le-refl h) s in
       ap (λ (rs : List Placed). entryAt h (length xs) (suc (length es)) (xs ++ rs)) shape
-      ∙ entry-next h (length xs) (length es) (xs ++ (u ++ rest))
+      ∙ entry-next h (length xs) (length es) (heightsIn (xs ++ (u ++ rest)))
       ∙ ap (λ (i : ℕ). entryAt h i (length es) (xs ++ (u ++ rest)))
       (ap (λ (i : ℕ). nodeEnd h i (xs ++ (u ++ rest))) (sym (add-zero (length xs)))
       ∙ node-end-at h k e (w .0) xs rest 0 (line-pos h k e (w .0)) next

@@ -15,10 +15,10 @@ use Rattle.model.specs.Withdrawing.{without, withdrawNode}
 use Rattle.model.specs.Laws.Bool.{byCases}
 use Rattle.model.specs.Laws.Basics.{each-append, each-left, each-right}
 use Rattle.model.specs.Laws.Tree.{Filled, filled-full, full-filled}
-use Rattle.line.specs.Line.{Placed, lineAt, movesIn}
+use Rattle.line.specs.Line.{Placed, lineAt, movesIn, heightsIn}
 use Rattle.line.specs.Places.{heightAt}
 use Rattle.line.specs.Withdraw.{placeOf, Range, widened, lifted}
-use Rattle.line.specs.Laws.Places.{FirstAtLeast, starts-lower}
+use Rattle.line.specs.Laws.Places.{FirstAtLeast, starts-lower, height-among}
 use Rattle.line.specs.Laws.Taken.{numbered, holds, none-numbered, Becomes, others-stay, one-becomes, node-goes, node-stays, leaf-numbered, leaf-goes, leaf-without, gone-moves, Holding, holding}
 use Rattle.line.specs.Laws.Line.{filled-whole, line-moves}
 use Rattle.line.specs.Laws.Entries.{following, following-least, regroup, line-pos, lines-start}
@@ -216,7 +216,7 @@ module _ (n : ℕ) (rs : List Placed) where
             full = left-full [] tt;
             cut =
                 cut-entry ms l entry-full back-full (subst (FirstAtLeast h) (sym z) tt) (λ o. z) m r
-                (λ f to. stops-at-root f h (record { from = length before; to = to }) rs t);
+                (λ f to. stops-at-root f h (record { from = length before; to = to }) (heightsIn rs) (height-among rs 0 ∙ t));
           }
       root-cut t z (changes e' ms g v c) =
           record {

@@ -8,11 +8,11 @@ use native.Mathlib.Numerals.{add-one}
 use native.Mathlib.Omega.{arith}
 use borrow.Author.Tests.{lt-ltb, le-ltb, eq-eqb, ne-eqb}
 use lib.Dec.{eqb}
-use Rattle.line.specs.Line.{Placed}
+use Rattle.line.specs.Line.{Placed, heightsIn}
 use Rattle.line.specs.Places as places
 use Rattle.line.specs.Places.{heightAt, nodeStart, nodeEnd, entries, entryAt}
 use Rattle.line.specs.Enter.{cutEntry, splitAt, cascade}
-use Rattle.line.specs.Laws.Places.{start-high}
+use Rattle.line.specs.Laws.Places.{height-among, start-high}
 use Rattle.promises.specs.Layout.{heightIn, lineFrom}
 use Rattle.memory.specs.Room.{Numbers}
 use Rattle.memory.specs.Stores.{setHeight}
@@ -21,6 +21,7 @@ use Rattle.memory.specs.Laws.Frames.{frame-refl, frame-trans, room-over}
 use Rattle.memory.specs.Laws.Stored.{setHeight-rows, number-setHeight, height-setHeight, height-setHeight-other}
 use Rattle.memory.specs.Laws.Lines.{heightAt-line, line-setHeight}
 use Rattle.tree.specs.Rows.{NodeStart, NodeEnd, Entries}
+use Rattle.tree.specs.Laws.Heights.{end-line, start-line, entries-line}
 use Rattle.tree.specs.Split.{NodeOfNine, CutPlace, Cut, CascadeAsked, Cascaded}
 
 -- ---- the cut made
@@ -132,13 +133,13 @@ module _ {c d n p : ℕ} {m : List ℕ} (asked : CascadeAsked c d n p m) where
       line k = lineFrom c k n m'
 
       s-is : s ≡ nodeStart l p (line d)
-      s-is = start .is d n (asked .place)
+      s-is = start-line d start (asked .place)
 
       e-is : e ≡ nodeEnd l p (line d)
-      e-is = end .is d
+      e-is = end-line d end
 
       r-is : r ≡ here d l p (line d)
-      r-is = held .is d n (end .within) ∙ ap₂ (λ (i j : ℕ). entries (l - 1) i j (line d)) s-is e-is
+      r-is = entries-line d held (end .within) ∙ ap₂ (λ (i j : ℕ). entries (l - 1) i j (line d)) s-is e-is
 
       pub climb-few : r ≤ 8 → Cascaded c d n p m m'
       climb-few few =
@@ -148,8 +149,8 @@ module _ {c d n p : ℕ} {m : List ℕ} (asked : CascadeAsked c d n p m) where
       starts more =
           ⊎-elim
           (λ z. omega (arith, climbed .turns, climbed .top, ap (heightIn c m') (s-is ∙ z)))
-          (λ h. omega (arith, ap (heightAt (line d)) s-is, heightAt-line c d n m' s (omega (arith, start .within, asked .place))))
-          (start-high l (line d) p)
+          (λ h. omega (arith, height-among (line d) (nodeStart l p (line d)), ap (heightAt (line d)) s-is, heightAt-line c d n m' s (omega (arith, start .within, asked .place))))
+          (start-high l (heightsIn (line d)) p)
 
       pub climb-nine : 0 < left → 8 < r → NodeOfNine c d n l s e m'
       climb-nine more nine =
@@ -162,7 +163,7 @@ module _ {c d n p : ℕ} {m : List ℕ} (asked : CascadeAsked c d n p m) where
             low = omega (arith, climbed .turns, asked .low);
             ends = end .within;
             starts = starts more;
-            nine = λ k. omega (arith, held .is k n (end .within));
+            nine = omega (arith, held .is n (end .within));
           }
 
       split-line : {m'' : List ℕ} → Cut c d n l s e m' m'' → lineFrom c d n m'' ≡ splitAt d l p (line d)

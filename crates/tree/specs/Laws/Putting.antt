@@ -28,6 +28,7 @@ use Rattle.memory.specs.Laws.Lines.{numbers-each, each-numbers, length-line, he
 use Rattle.tree.specs.Rows.{row, Inserted, NodeStart, NodeEnd}
 use Rattle.tree.specs.Enter.{PlaceAsked, TakesOver, PutAsked, RowPut}
 use Rattle.tree.specs.Laws.Rows.{costs-line}
+use Rattle.tree.specs.Laws.Heights.{end-line, start-line}
 
 -- ---- whether it takes over
 
@@ -87,8 +88,8 @@ module _ {c d n p : ℕ} {m : List ℕ} (asked : PlaceAsked c d n p m) (x : Move
               (a-is ∙ ap (sideOf d (x .costs)) (last-costs ∙ costs-line c d n m (e - 1) v (omega (arith, end .after, end .within)) last-number))
               (b-is ∙ ap (λ (cs : List ℕ). sideOf d cs (x .costs)) (first-costs ∙ costs-line c d n m s u (omega (arith, start .within)) first-number))
               ∙ ap₂ (λ (i j : ℕ). ltb (sideOf d (x .costs) (moveAt rs (j - 1) .costs)) (sideOf d (moveAt rs i .costs) (x .costs)))
-              (start .is d n (omega arith) ∙ ap (λ (l : ℕ). nodeStart l (p - 1) rs) at)
-              (end .is d ∙ ap (λ (l : ℕ). nodeEnd l p rs) at)
+              (start-line d start (omega arith) ∙ ap (λ (l : ℕ). nodeStart l (p - 1) rs) at)
+              (end-line d end ∙ ap (λ (l : ℕ). nodeEnd l p rs) at)
               ∙ sym (takes-gap d x p rs h (omega arith));
         }
 

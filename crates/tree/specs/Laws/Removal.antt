@@ -23,13 +23,13 @@ use Rattle.line.specs.Withdraw as line
 use Rattle.line.specs.Laws.Taken.{holds}
 use Rattle.line.specs.Laws.Removed.{rangeOf, rangeRows, flat-remove-own, Parted, parted}
 use Rattle.line.specs.Laws.Withdraw.{ends-each, ends-rising, moves-in-order}
-use Rattle.promises.specs.Layout.{numberIn, costsIn, workIn, moveIn, placedIn, lineFrom, tab}
+use Rattle.promises.specs.Layout.{numberIn, heightIn, costsIn, workIn, moveIn, placedIn, lineFrom, tab}
 use Rattle.memory.specs.Frame.{RowsOnly}
 use Rattle.promises.specs.Laws.Tab.{tab-ext, take-tab, drop-tab, map-tab, getD-tab}
 use Rattle.memory.specs.Laws.Places.{tab-each}
 use Rattle.memory.specs.Laws.Frames.{frame-trans, room-over}
 use Rattle.memory.specs.Laws.Fields.{work-over-rows, costs-over-rows, costs-over-work}
-use Rattle.memory.specs.Laws.Lines.{heightAt-line, line-over-work}
+use Rattle.memory.specs.Laws.Lines.{heightAt-line, heightsIn-line, line-over-work}
 use Rattle.tree.specs.declared.withdraw.Range.{Range}
 use Rattle.tree.specs.Hold.{RowsHold, RowsTree, Enterable}
 use Rattle.tree.specs.Withdraw.{others, Widened, Saved, CutOut, Lowered, savedMoves, SavedAsked, SavedEntered, Withdrawn}
@@ -85,7 +85,8 @@ module _ {c n p k : ℕ} {m m₁ m₂ m₃ : List ℕ} {r : Range} (place : p < 
     range =
         ap (rangeOf number) (sym (held .line))
         ∙ ap₂ (λ (f q : ℕ). line.widened f 0 (record { from = q; to = suc q }) (lineFrom c d n m)) (heightAt-line c d n m 0 (omega arith)) (sym (held-place held p place))
-        ∙ sym (g .is d)
+        ∙ ap (line.widenedAmong (heightIn c m 0) 0 (record { from = p; to = suc p })) (heightsIn-line c d n m)
+        ∙ sym (g .is)
 
     tree-line : lineFrom c d left m₃ ≡ lineOf tree
     unfolding lineOf

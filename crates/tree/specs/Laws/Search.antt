@@ -25,11 +25,11 @@ use Rattle.model.specs.Laws.Basics.{any-select}
 use Rattle.model.specs.Laws.Loading.{size-most}
 use Rattle.model.specs.Laws.Tree.{ruled-filled}
 use Rattle.model.specs.Laws.Nodes.{listed-enough-corner}
-use Rattle.line.specs.Line.{Placed, none, lineOf, movesIn}
+use Rattle.line.specs.Line.{Placed, none, lineOf, movesIn, heightsIn}
 use Rattle.line.specs.Places.{moveAt, heightAt, nodeEnd}
 use Rattle.line.specs.Search.{nearAt, passedAt, openedFrom, openedPast}
 use Rattle.line.specs.Laws.Line.{WholeTree, tree-whole}
-use Rattle.line.specs.Laws.Places.{end-high}
+use Rattle.line.specs.Laws.Places.{height-among, length-heights, end-high}
 use Rattle.line.specs.Laws.Opened.{first-height, opened-all, opened-end, opened-upper, opened-leaf, opened-passed}
 use Rattle.promises.specs.Layout.{sizeIn, dimensionIn, countIn, numberIn, markIn, costsIn, moveIn, placedIn, lineFrom, lineIn, boardIn, keptFrom, keptIn}
 use Rattle.promises.specs.Sound.{Stands}
@@ -40,6 +40,7 @@ use Rattle.memory.specs.Tests.{anyTo, allTo, isListed}
 use Rattle.memory.specs.Laws.Places.{anyTo-more, anyTo-found, any-tab, tab-each}
 use Rattle.memory.specs.Laws.Lines.{length-line, lineIn-line, moveAt-line, heightAt-line, movesIn-line}
 use Rattle.tree.specs.Rows.{NodeEnd}
+use Rattle.tree.specs.Laws.Heights.{end-line}
 use Rattle.tree.specs.Search.{cornerDominated, nearCorner, LevelAt, SoundAt, Opened}
 
 -- ---- nodes counted
@@ -181,7 +182,7 @@ module _ {c d n : ℕ} {m : List ℕ} (s : Searchable c d n m) where
     near-place =
         ap₂ (λ (x y : Move). nearOf d (x .costs) (y .costs))
         (sym (moveAt-line c d n m i h))
-        (sym (moveAt-line c d n m (e - 1) (omega arith)) ∙ ap (λ (k : ℕ). moveAt (lineFrom c d n m) (k - 1)) (f .is d))
+        (sym (moveAt-line c d n m (e - 1) (omega arith)) ∙ ap (λ (k : ℕ). moveAt (lineFrom c d n m) (k - 1)) (end-line d f))
 
     -- The place is one of the line's.
     placed : i < length (lineFrom c d n m)
@@ -202,9 +203,9 @@ module _ {c d n : ℕ} {m : List ℕ} (s : Searchable c d n m) where
         let high = level-height c d n m e k v in
         record {
           inside = f .within;
-          level = λ j. omega (arith, w .level h, high, ap (heightAt rs) (f .is d), f .is d, end-high l rs i (omega (arith, f .is d, length-line c d n m)));
+          level = λ j. omega (arith, w .level h, high, ap (heightAt rs) (end-line d f), end-line d f, end-high l (heightsIn rs) i (omega (arith, end-line d f, length-heights rs, length-line c d n m)), height-among rs (nodeEnd l i rs));
           few = omega (arith, w .level h);
-          total = omega (arith, g, ap (openedPast d rs) (f .is d), ap (openedFrom d rs e) high);
+          total = omega (arith, g, ap (openedPast d rs) (end-line d f), ap (openedFrom d rs e) high);
         }
 
     module _ (corner : List ℕ) (near : corner ≡ nearCorner c d m i e) (passed : Bool) (p : passed ≡ cornerDominated c d n m corner) where
