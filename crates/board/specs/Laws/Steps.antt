@@ -72,7 +72,7 @@ module _ {c d n p : ℕ} {m₁ m₂ : List ℕ} (w : Withdrawn c d n p m₁ m₂
     pub gone-holds : RowsHold c d (n - 1) m₂ (withdrawTree d (numberIn c m p) t)
     gone-holds =
         let h = holds-sound s b t stands in
-        subst (λ (k : ℕ). RowsHold c d (n - 1) m₂ (withdrawTree d k t)) (number-over-marks c marked p (omega (arith, h .rows)))
+        subst (λ (k : ℕ). RowsHold c d (n - 1) m₂ (withdrawTree d k t)) (number-over-marks c marked p (omega (arith, h .readable .rows)))
         (w .holds t (holds-over-marks h marked))
 
     pub gone-moves : movesOf (withdrawTree d (numberIn c m p) t) ≡ dropAt p (movesIn (lineFrom c d n m))

@@ -45,13 +45,13 @@ module _ {c d n l s e q : ℕ} {m : List ℕ} (asked : NodeOfNine c d n l s e m)
   inside = omega (arith, place .within, asked .ends)
 
   cut-frame : RowsOnly c m cut
-  cut-frame = setHeight-rows c q m (omega (arith, inside, asked .rows)) l
+  cut-frame = setHeight-rows c q m (omega (arith, inside, asked .readable .rows)) l
 
   cut-line : lineFrom c d n cut ≡ halved d l s e rs
-  cut-line = line-setHeight c d n m q l (asked .room) inside (asked .rows) ∙ ap (λ (i : ℕ). places.setHeight i l rs) (place .is)
+  cut-line = line-setHeight c d n m q l (asked .readable .room) inside (asked .readable .rows) ∙ ap (λ (i : ℕ). places.setHeight i l rs) (place .is)
 
   cut-numbers : Numbers c n cut
-  cut-numbers i h = omega (arith, number-setHeight c q m i l (omega (arith, asked .rows)), asked .numbers i h)
+  cut-numbers i h = omega (arith, number-setHeight c q m i l (omega (arith, asked .readable .rows)), asked .readable .numbers i h)
 
   cut-top : heightIn c cut 0 ≡ heightIn c m 0
   cut-top = height-setHeight-other c q m 0 (λ z. omega (arith, place .after)) l
@@ -72,14 +72,14 @@ module _ {c d n l s e q : ℕ} {m : List ℕ} (asked : NodeOfNine c d n l s e m)
 
   pub cut-root : {m' m'' : List ℕ} → m' ≡ cut → m'' ≡ setHeight c 0 (l + 1) m' → heightIn c m 0 ≡ l → Cut c d n l s e m m''
   cut-root is root eq =
-      let room = room-over c cut-frame (asked .room) in
-      let some : 0 < c = omega (arith, inside, asked .rows) in
+      let room = room-over c cut-frame (asked .readable .room) in
+      let some : 0 < c = omega (arith, inside, asked .readable .rows) in
       subst (Cut c d n l s e m) (sym (root ∙ ap₂ (setHeight c 0) (add-one l) is))
       (record {
         line =
             by-root true (eq-eqb (heightIn c m 0) l eq)
-            (line-setHeight c d n cut 0 (suc l) room (omega (arith, inside)) (asked .rows) ∙ ap (places.setHeight 0 (suc l)) cut-line);
-        numbers = λ i h. omega (arith, number-setHeight c 0 cut i (suc l) (omega (arith, asked .rows)), cut-numbers i h);
+            (line-setHeight c d n cut 0 (suc l) room (omega (arith, inside)) (asked .readable .rows) ∙ ap (places.setHeight 0 (suc l)) cut-line);
+        numbers = λ i h. omega (arith, number-setHeight c 0 cut i (suc l) (omega (arith, asked .readable .rows)), cut-numbers i h);
         top = omega (arith, height-setHeight c 0 cut room some (suc l));
         frame = frame-trans cut-frame (setHeight-rows c 0 cut some (suc l));
       })
@@ -118,7 +118,7 @@ module _ {c d n p : ℕ} {m : List ℕ} (asked : CascadeAsked c d n p m) where
         level = omega arith;
         turns = omega arith;
         top = omega arith;
-        numbers = asked .numbers;
+        numbers = asked .readable .numbers;
         frame = frame-refl m;
       }
 
@@ -155,10 +155,13 @@ module _ {c d n p : ℕ} {m : List ℕ} (asked : CascadeAsked c d n p m) where
       pub climb-nine : 0 < left → 8 < r → NodeOfNine c d n l s e m'
       climb-nine more nine =
           record {
-            room = room-over c (climbed .frame) (asked .room);
-            rows = asked .rows;
-            numbers = climbed .numbers;
-            dimension = asked .dimension;
+            readable =
+                record {
+                  room = room-over c (climbed .frame) (asked .readable .room);
+                  rows = asked .readable .rows;
+                  numbers = climbed .numbers;
+                  dimension = asked .readable .dimension;
+                };
             level = climbed .level;
             low = omega (arith, climbed .turns, asked .low);
             ends = end .within;

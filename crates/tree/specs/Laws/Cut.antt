@@ -13,6 +13,7 @@ use Rattle.line.specs.Places.{entryAmong, nodeEnd, entryAt, sideAt}
 use Rattle.line.specs.Enter.{cutSides, cutEntry}
 use Rattle.promises.specs.Layout.{heightsFrom, lineFrom}
 use Rattle.memory.specs.Laws.Lines.{length-heightsFrom, getD-heightsFrom, heightsIn-line}
+use Rattle.memory.specs.Laws.Held.{fewer-readable}
 use Rattle.tree.specs.Rows.{EntryAsked}
 use Rattle.tree.specs.Split.{CutAsked, CutSides, NodeOfNine, CutPlace}
 use Rattle.tree.specs.Laws.Steps.{entry-turn}
@@ -64,8 +65,8 @@ module _ {c d n l s e : ℕ} {m : List ℕ} (asked : NodeOfNine c d n l s e m) w
   pub nine-entry : EntryAsked c n (l - 1) s 3 m
   nine-entry =
       record {
-        room = asked .room;
-        rows = asked .rows;
+        room = asked .readable .room;
+        rows = asked .readable .rows;
         inside = λ j h. omega (arith, asked .ends, entry-within j (omega arith));
       }
 
@@ -87,12 +88,9 @@ module _ {c d n l s e : ℕ} {m : List ℕ} (asked : NodeOfNine c d n l s e m) w
   nine-cut j g h at =
       let inside = start-inside j g h in
       record {
-        room = asked .room;
+        readable = fewer-readable (asked .readable) (asked .ends);
         before = omega arith;
         after = omega arith;
-        rows = omega (arith, asked .ends, asked .rows);
-        numbers = λ i k. asked .numbers i (omega (arith, asked .ends));
-        dimension = asked .dimension;
       }
 
   sides-at : (j q r : ℕ) → q ≡ start j → CutSides c d s q e m r → r ≡ total j

@@ -147,7 +147,7 @@ module _ {c d n p : ℕ} {x : Move} {m : List ℕ} (asked : PutAsked c d n p x m
         numbers =
             each-numbers c d (suc n) m'
             (subst (Each (λ r. r .move .number < c)) (sym line)
-            (each-placed (λ y. y .number < c) d x p (lineFrom c d n m) (asked .number) (numbers-each c d n m (asked .asked .numbers))));
+            (each-placed (λ y. y .number < c) d x p (lineFrom c d n m) (asked .number) (numbers-each c d n m (asked .asked .readable .numbers))));
         frame = f;
       }
 
@@ -160,10 +160,10 @@ module _ {c d n p : ℕ} {x : Move} {m : List ℕ} (asked : PutAsked c d n p x m
     pub put-over : {m' m'' : List ℕ} {k : ℕ} → k ≡ heightIn c m p → m' ≡ setHeight c p 0 m → Inserted c n p (x .number) k m' m'' → RowPut c d n p x m m''
     put-over {m'} {m''} {k} level lowered inserted =
         let rs = lineFrom c d n m in
-        let f = subst (RowsOnly c m) (sym lowered) (setHeight-rows c p m (omega (arith, inside, asked .asked .rows)) 0) in
+        let f = subst (RowsOnly c m) (sym lowered) (setHeight-rows c p m (omega (arith, inside, asked .asked .readable .rows)) 0) in
         made
         (inserted .line d
-        ∙ ap₂ (insertAt p) (row-is c d x k (asked .stored) f) (ap (lineFrom c d n) lowered ∙ line-setHeight c d n m p 0 (asked .asked .room) inside (asked .asked .rows))
+        ∙ ap₂ (insertAt p) (row-is c d x k (asked .stored) f) (ap (lineFrom c d n) lowered ∙ line-setHeight c d n m p 0 (asked .asked .readable .room) inside (asked .asked .readable .rows))
         ∙ ap (λ (h : ℕ). insertAt p (record { move = x; height = h }) (places.setHeight p 0 rs)) (level ∙ sym (heightAt-line c d n m p inside))
         ∙ sym (placed-over d x p rs over))
         (frame-trans f (inserted .frame))

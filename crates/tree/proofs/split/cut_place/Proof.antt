@@ -35,7 +35,7 @@ node-end-requires c κs =
     let p = c .before .before .before .before .before .pre in
     let own = c .before .loop in
     let inside = nine-cut p (own .j) (omega (arith, own .inv .from)) (omega arith) (own .inv .at) in
-    (p .room, p .rows, omega (arith, inside .after, p .ends))
+    (p .readable .room, p .readable .rows, omega (arith, inside .after, p .ends))
 
 cut-sides-requires-2 : tie.Need-cut-sides-requires-2 Inv-loop μ-loop
 cut-sides-requires-2 c κs =
