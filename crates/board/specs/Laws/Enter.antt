@@ -78,7 +78,7 @@ module _ {c d n : ℕ} {x : Move} {u : Upkeep} {m m₁ m₂ m₃ : List ℕ} (a 
         made s (calls.enter (x .number) (x .costs)) t
         (only-trans (marks-written c marked) (only-trans (costs-written c costs) (rows-written c (entered .frame))))
         (entered .holds t (stored-holds (marked-holds t stands) (a .asked .fit refl) (off t stands) e₃))
-        (enter-moves d (Fit c d) (move-order d c (h .dimension)) (asMove x) (a .asked .fit refl) t (h .rules) (h .fits) ∙ ap (insert d (asMove x)) (sym (holds-moves h)))
+        (enter-moves d (Fit c d) (move-order d c (h .readable .dimension)) (asMove x) (a .asked .fit refl) t (h .rules) (h .fits) ∙ ap (insert d (asMove x)) (sym (holds-moves h)))
         (subst (MarksRight c d m₄) (ap (insert d (asMove x)) (entering-moves c d n m))
         (marks-come (a .asked) (a .upkept) set m₄ refl
         (λ v l. mark-over-rows c (entered .frame) v ∙ mark-over-costs c costs v l ∙ ap (λ (w : List ℕ). markIn c w v) e₂)))

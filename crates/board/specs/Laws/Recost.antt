@@ -137,7 +137,7 @@ module _ {c d n p : ℕ} {x : Move} {u : Upkeep} {m m₁ m₂ : List ℕ} (a : T
       moves : movesOf (enterTree d (asMove x) (withdrawTree d (numberIn c m p) t)) ≡ insert d (asMove x) (dropAt p before)
       moves =
           let h = gone t stands in
-          enter-moves d (Fit c d) (move-order d c (h .dimension)) (asMove x) fit (withdrawTree d (numberIn c m p) t) (h .rules) (h .fits)
+          enter-moves d (Fit c d) (move-order d c (h .readable .dimension)) (asMove x) fit (withdrawTree d (numberIn c m p) t) (h .rules) (h .fits)
           ∙ ap (insert d (asMove x)) (gone-moves w s b (a .place) marked t stands)
 
       held : RowsHold c d n m₅ (recostTree d (asMove x) t)

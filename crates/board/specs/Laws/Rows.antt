@@ -95,7 +95,7 @@ module _ {c d n : ℕ} {m : List ℕ} {t : Tree} (h : RowsHold c d n m t) where
   pub holds-setCosts : (k : ℕ) (costs : List ℕ) → k < c → length costs ≤ rowCosts → onBoard k (movesOf t) ≡ false → RowsHold c d n (setCosts c k costs m) t
   holds-setCosts k costs l few off =
       holds-same (setCosts-frame c k costs m)
-      (line-setCosts c d n m k costs l few (h .readable .rows) (h .dimension) (holds-absent k off))
+      (line-setCosts c d n m k costs l few (h .readable .rows) (h .readable .dimension) (holds-absent k off))
 
   -- A move that may be entered.
   pub enter-asked : (x : Move) → n < c → Fit c d x → costsIn c d m (x .number) ≡ x .costs → onBoard (x .number) (movesOf t) ≡ false → EnterAsked c d n x m

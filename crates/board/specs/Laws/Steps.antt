@@ -57,7 +57,7 @@ module _ {c d n : ℕ} {x : model.Move} {m m' : List ℕ} {t : Tree} (h : RowsHo
   pub stored-asked : n < c → EnterAsked c d n x m'
   stored-asked space =
       enter-asked stored-holds x space fit
-      (ap (λ (w : List ℕ). costsIn c d w (x .number)) e ∙ costs-setCosts c d (x .number) (x .costs) m (h .dimension) (fit .costs) (h .room) (fit .number))
+      (ap (λ (w : List ℕ). costsIn c d w (x .number)) e ∙ costs-setCosts c d (x .number) (x .costs) m (h .readable .dimension) (fit .costs) (h .readable .room) (fit .number))
       off
 
 -- A move goes.
@@ -78,6 +78,6 @@ module _ {c d n p : ℕ} {m₁ m₂ : List ℕ} (w : Withdrawn c d n p m₁ m₂
     pub gone-moves : movesOf (withdrawTree d (numberIn c m p) t) ≡ dropAt p (movesIn (lineFrom c d n m))
     gone-moves =
         let h = holds-sound s b t stands in
-        withdraw-moves d (Fit c d) (move-order d c (h .dimension)) (numberIn c m p) t (h .rules) (h .fits)
+        withdraw-moves d (Fit c d) (move-order d c (h .readable .dimension)) (numberIn c m p) t (h .rules) (h .fits)
         ∙ ap (without (numberIn c m p)) (sym (holds-moves h))
         ∙ sym (rest-without c d n p m s b l)
