@@ -21,7 +21,7 @@ use Rattle.promises.specs.Promise.{Kept}
 use Rattle.promises.specs.declared.Verdict.{Verdict}
 use Rattle.dominance.specs.Move.{asMove}
 use Rattle.dominance.specs.declared.Move.{Move}
-use Rattle.upkeep.specs.Change.{Asked, Upkept, movesAfter}
+use Rattle.upkeep.specs.Change.{ChangeAsked, Upkept, movesAfter}
 use Rattle.upkeep.specs.declared.change.Change.{Change}
 use Rattle.upkeep.specs.declared.change.Upkeep.{Upkeep}
 
@@ -68,19 +68,19 @@ RecostMade x = Made (calls.recost (x .number) (x .costs))
 abbrev pub entering : ℕ → Move → Change
 entering n x = record { goes = n; comes = true; coming = x }
 
-pub record EnterAsked (c d n : ℕ) (x : Move) (u : Upkeep) (m : List ℕ) : Type 0 where
-  pub asked : Asked c d n (entering n x) m
+pub record ToEnter (c d n : ℕ) (x : Move) (u : Upkeep) (m : List ℕ) : Type 0 where
+  pub asked : ChangeAsked c d n (entering n x) m
   pub space : n < c
   pub upkept : Upkept c d n (entering n x) m u
 
-pub record WithdrawAsked (c d n p : ℕ) (u : Upkeep) (m : List ℕ) : Type 0 where
+pub record ToWithdraw (c d n p : ℕ) (u : Upkeep) (m : List ℕ) : Type 0 where
   pub coming : Move
-  pub asked : Asked c d n (record { goes = p; comes = false; coming = coming }) m
+  pub asked : ChangeAsked c d n (record { goes = p; comes = false; coming = coming }) m
   pub place : p < n
   pub upkept : Upkept c d n (record { goes = p; comes = false; coming = coming }) m u
 
-pub record RecostAsked (c d n p : ℕ) (x : Move) (u : Upkeep) (m : List ℕ) : Type 0 where
-  pub asked : Asked c d n (record { goes = p; comes = true; coming = x }) m
+pub record ToRecost (c d n p : ℕ) (x : Move) (u : Upkeep) (m : List ℕ) : Type 0 where
+  pub asked : ChangeAsked c d n (record { goes = p; comes = true; coming = x }) m
   pub place : p < n
   pub number : numberIn c m p ≡ x .number
   pub other : costsIn c d m (numberIn c m p) ≡ x .costs → ⊥

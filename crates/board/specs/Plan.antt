@@ -13,7 +13,7 @@ use Rattle.promises.specs.Sound.{Sound}
 use Rattle.promises.specs.Answers.{numberOf}
 use Rattle.promises.specs.declared.Verdict.{Verdict}
 use Rattle.memory.specs.Held.{SoundAt}
-use Rattle.upkeep.specs.Change.{Asked, Upkept}
+use Rattle.upkeep.specs.Change.{ChangeAsked, Upkept}
 use Rattle.upkeep.specs.Planned.{Plans}
 use Rattle.upkeep.specs.declared.change.Change.{Change}
 use Rattle.upkeep.specs.declared.telling.Telling.{Telling}
@@ -38,7 +38,7 @@ alike c d n k m =
 
 -- A move that comes has space, or comes for the one of its number; where none comes one goes.
 pub record Ready (c d n : ℕ) (k : Change) (m : List ℕ) : Type 0 where
-  pub asked : Asked c d n k m
+  pub asked : ChangeAsked c d n k m
   pub space : k .comes ≡ true → n ≤ k .goes → n < c
   pub number : k .comes ≡ true → k .goes < n → numberIn c m (k .goes) ≡ k .coming .number
   pub place : k .comes ≡ false → k .goes < n

@@ -15,7 +15,7 @@ ghost use Rattle.board.specs.Change as spec;
 ghost use Rattle.board.specs.Plan as plan;
 
 fn make_enter(m: &mut [u8], h: Head, x: Move, u: Upkeep)
-    requires { ⌜ spec.EnterAsked (h .size) (h .dimension) (h .count) x u (now m) ⌝ }
+    requires { ⌜ spec.ToEnter (h .size) (h .dimension) (h .count) x u (now m) ⌝ }
     ensures { λ _. ⌜ spec.EnterMade (asMove x) (now (m .entry)) (now (m .exit)) ⌝ }
 {
     let n = h.count;
@@ -28,7 +28,7 @@ fn make_enter(m: &mut [u8], h: Head, x: Move, u: Upkeep)
 }
 
 fn make_withdraw(m: &mut [u8], h: Head, p: usize, u: Upkeep)
-    requires { ⌜ spec.WithdrawAsked (h .size) (h .dimension) (h .count) p u (now m) ⌝ }
+    requires { ⌜ spec.ToWithdraw (h .size) (h .dimension) (h .count) p u (now m) ⌝ }
     ensures { λ _. ⌜ spec.WithdrawMade (h .size) p (now (m .entry)) (now (m .exit)) ⌝ }
 {
     let n = h.count;
@@ -38,7 +38,7 @@ fn make_withdraw(m: &mut [u8], h: Head, p: usize, u: Upkeep)
 }
 
 fn make_recost(m: &mut [u8], h: Head, p: usize, x: Move, u: Upkeep)
-    requires { ⌜ spec.RecostAsked (h .size) (h .dimension) (h .count) p x u (now m) ⌝ }
+    requires { ⌜ spec.ToRecost (h .size) (h .dimension) (h .count) p x u (now m) ⌝ }
     ensures { λ _. ⌜ spec.RecostMade (asMove x) (now (m .entry)) (now (m .exit)) ⌝ }
 {
     let n = h.count;

@@ -8,7 +8,33 @@ use lib.ListN.{length, take, drop, getD}
 use Rattle.zorder.specs.Between.{sideOf}
 use Rattle.model.specs.Basics.{count}
 use Rattle.model.specs.Moves.{Move}
-use Rattle.line.specs.Line.{Placed, none}
+use Rattle.line.specs.Line.{Placed, none, heightsIn}
+
+-- ---- from heights alone
+
+-- How many stand before the first that is l or more.
+unfoldable pub lowerAmong : ℕ → List ℕ → ℕ
+lowerAmong l [] = 0
+lowerAmong l (k ∷ ks) = cond (leb l k) 0 (suc (lowerAmong l ks))
+
+-- Where the node at level l that holds place p starts, and ends.
+unfoldable pub startAmong : ℕ → ℕ → List ℕ → ℕ
+startAmong l zero ks = 0
+startAmong l (suc p) ks = cond (leb l (getD ks (suc p) 0)) (suc p) (startAmong l p ks)
+
+unfoldable pub endAmong : ℕ → ℕ → List ℕ → ℕ
+endAmong l p ks = suc p + lowerAmong l (drop (suc p) ks)
+
+-- How many entries of level l start from place s up to place e.
+unfoldable pub entriesAmong : ℕ → ℕ → ℕ → List ℕ → ℕ
+entriesAmong l s e ks = count (leb l) (take (e - s) (drop s ks))
+
+-- Where the entry j of level l, counted from place s on from 0, starts.
+unfoldable pub entryAmong : ℕ → ℕ → ℕ → List ℕ → ℕ
+entryAmong l s zero ks = s
+entryAmong l s (suc j) ks = endAmong l (entryAmong l s j ks) ks
+
+-- ---- of a line
 
 unfoldable pub moveAt : List Placed → ℕ → Move
 moveAt rs i = getD rs i none .move
@@ -16,27 +42,22 @@ moveAt rs i = getD rs i none .move
 unfoldable pub heightAt : List Placed → ℕ → ℕ
 heightAt rs i = getD rs i none .height
 
--- How many rows stand before the first with height l or more.
-unfoldable pub lower : ℕ → List Placed → ℕ
-lower l [] = 0
-lower l (r ∷ rs) = cond (leb l (r .height)) 0 (suc (lower l rs))
+-- Nodes and entries, by its heights.
 
--- Where the node at level l that holds place p starts, and ends.
-unfoldable pub nodeStart : ℕ → ℕ → List Placed → ℕ
-nodeStart l zero rs = 0
-nodeStart l (suc p) rs = cond (leb l (heightAt rs (suc p))) (suc p) (nodeStart l p rs)
+abbrev pub lower : ℕ → List Placed → ℕ
+lower l rs = lowerAmong l (heightsIn rs)
 
-unfoldable pub nodeEnd : ℕ → ℕ → List Placed → ℕ
-nodeEnd l p rs = suc p + lower l (drop (suc p) rs)
+abbrev pub nodeStart : ℕ → ℕ → List Placed → ℕ
+nodeStart l p rs = startAmong l p (heightsIn rs)
 
--- How many entries of level l start from place s up to place e.
-unfoldable pub entries : ℕ → ℕ → ℕ → List Placed → ℕ
-entries l s e rs = count (λ r. leb l (r .height)) (take (e - s) (drop s rs))
+abbrev pub nodeEnd : ℕ → ℕ → List Placed → ℕ
+nodeEnd l p rs = endAmong l p (heightsIn rs)
 
--- Where the entry j of level l, counted from place s on from 0, starts.
-unfoldable pub entryAt : ℕ → ℕ → ℕ → List Placed → ℕ
-entryAt l s zero rs = s
-entryAt l s (suc j) rs = nodeEnd l (entryAt l s j rs) rs
+abbrev pub entries : ℕ → ℕ → ℕ → List Placed → ℕ
+entries l s e rs = entriesAmong l s e (heightsIn rs)
+
+abbrev pub entryAt : ℕ → ℕ → ℕ → List Placed → ℕ
+entryAt l s j rs = entryAmong l s j (heightsIn rs)
 
 -- The side of the region from place i to place j.
 unfoldable pub sideAt : ℕ → ℕ → ℕ → List Placed → ℕ

@@ -3,11 +3,11 @@ use Prim.Native.Nat.{ℕ, zero, suc, _+_, _-_, max}
 use mathlib.Core.Bool.{Bool, true, false, cond, not, _||_}
 use mathlib.Core.List.{List, [], _∷_, _++_}
 use lib.Dec.{leb, ltb, eqb}
-use lib.ListN.{length, take, drop}
+use lib.ListN.{length, getD, take, drop}
 use Rattle.model.specs.Moves.{Move}
 use Rattle.model.specs.Withdrawing.{without}
-use Rattle.line.specs.Line.{Placed, movesIn}
-use Rattle.line.specs.Places.{heightAt, nodeStart, nodeEnd, entries, setHeight}
+use Rattle.line.specs.Line.{Placed, movesIn, heightsIn}
+use Rattle.line.specs.Places.{startAmong, endAmong, entriesAmong, heightAt, entries, setHeight}
 use Rattle.line.specs.Enter.{flatEnter}
 
 -- The place of the move of a number.
@@ -21,13 +21,16 @@ pub record Range : Type 0 where
   pub to : ℕ
 
 -- The range grows to the node one level up while that is not the root and would keep fewer than 3 entries.
-unfoldable pub widened : ℕ → ℕ → Range → List Placed → Range
-widened zero l g rs = g
-widened (suc f) l g rs =
-    let s = nodeStart (suc l) (g .from) rs in
-    let e = nodeEnd (suc l) (g .from) rs in
-    elim (eqb (heightAt rs 0) (suc l) || ltb 3 (entries l s e rs))
-    [ true ↦ g | false ↦ widened f (suc l) (record { from = s; to = e }) rs ]
+unfoldable pub widenedAmong : ℕ → ℕ → Range → List ℕ → Range
+widenedAmong zero l g ks = g
+widenedAmong (suc f) l g ks =
+    let s = startAmong (suc l) (g .from) ks in
+    let e = endAmong (suc l) (g .from) ks in
+    elim (eqb (getD ks 0 0) (suc l) || ltb 3 (entriesAmong l s e ks))
+    [ true ↦ g | false ↦ widenedAmong f (suc l) (record { from = s; to = e }) ks ]
+
+abbrev pub widened : ℕ → ℕ → Range → List Placed → Range
+widened f l g rs = widenedAmong f l g (heightsIn rs)
 
 -- Without a range: the row after it starts at least what the range started.
 unfoldable pub lifted : ℕ → List Placed → List Placed

@@ -8,7 +8,7 @@ use lib.ListN.{length, getD}
 use Rattle.promises.specs.Written.{changeWrites}
 
 -- Only bytes from place a up to place b differ.
-pub record Frame (a b : ℕ) (m m' : List ℕ) : Type 0 where
+pub record DifferWithin (a b : ℕ) (m m' : List ℕ) : Type 0 where
   pub length : length m' ≡ length m
   pub same : (i : ℕ) → (i < a) ⊎ (b ≤ i) → getD m' i 0 ≡ getD m i 0
 
@@ -23,13 +23,13 @@ ChangeOnly c = Only (changeWrites c)
 
 -- Only rows, that is numbers and heights by place, differ; only marks; only costs; only the work area.
 abbrev pub RowsOnly : ℕ → List ℕ → List ℕ → Type 0
-RowsOnly c = Frame 16 (16 + 3 * c)
+RowsOnly c = DifferWithin 16 (16 + 3 * c)
 
 abbrev pub MarksOnly : ℕ → List ℕ → List ℕ → Type 0
-MarksOnly c = Frame (16 + 3 * c) (16 + 4 * c)
+MarksOnly c = DifferWithin (16 + 3 * c) (16 + 4 * c)
 
 abbrev pub CostsOnly : ℕ → List ℕ → List ℕ → Type 0
-CostsOnly c = Frame (16 + 5 * c) (16 + 21 * c)
+CostsOnly c = DifferWithin (16 + 5 * c) (16 + 21 * c)
 
 abbrev pub WorkOnly : ℕ → List ℕ → List ℕ → Type 0
-WorkOnly c = Frame (16 + 21 * c) (16 + 23 * c)
+WorkOnly c = DifferWithin (16 + 21 * c) (16 + 23 * c)

@@ -14,9 +14,12 @@ Room c m = (64 * c + 1024 ≤ length m) × (c ≤ 4096)
 abbrev pub Numbers : ℕ → ℕ → List ℕ → Type 0
 Numbers c n m = (i : ℕ) → i < n → numberIn c m i < c
 
--- What the readers of a board's moves ask: this size, this number of costs, and so many moves.
-pub record Readable (h : Head) (m : List ℕ) : Type 0 where
-  pub room : Room (h .size) m
-  pub rows : h .count ≤ h .size
-  pub numbers : Numbers (h .size) (h .count) m
-  pub dimension : h .dimension ≤ rowCosts
+-- What the readers of moves ask: this size, this number of costs, and so many rows; as a board's head has them.
+pub record ReadableRows (c d n : ℕ) (m : List ℕ) : Type 0 where
+  pub room : Room c m
+  pub rows : n ≤ c
+  pub numbers : Numbers c n m
+  pub dimension : d ≤ rowCosts
+
+abbrev pub Readable : Head → List ℕ → Type 0
+Readable h = ReadableRows (h .size) (h .dimension) (h .count)

@@ -1,5 +1,6 @@
 -- What the functions' turns and ends say, over lines and memories.
 pub mod Steps
+pub mod Heights
 pub mod Rows
 pub mod Inserting
 pub mod Raising

@@ -11,7 +11,7 @@ use Rattle.model.specs.Tree.{Tree}
 use Rattle.model.specs.Withdrawing.{enterAll, withdrawTree}
 use Rattle.line.specs.Places.{heightAt}
 use Rattle.line.specs.Withdraw as line
-use Rattle.promises.specs.Layout.{numberIn, heightIn, costsIn, workIn, lineFrom, tab}
+use Rattle.promises.specs.Layout.{numberIn, heightIn, costsIn, workIn, heightsFrom, lineFrom, tab}
 use Rattle.memory.specs.Room.{Room}
 use Rattle.memory.specs.Stores.{setNumber, setHeight}
 use Rattle.memory.specs.Frame.{RowsOnly, WorkOnly}
@@ -33,10 +33,7 @@ pub record RangeAsked (c n p : ℕ) (m : List ℕ) : Type 0 where
   pub place : p < n
 
 pub record Widened (c n p : ℕ) (m : List ℕ) (r : Range) : Type 0 where
-  pub is :
-      (d : ℕ)
-      → record { from = r .from; to = r .to }
-      ≡ line.widened (heightIn c m 0) 0 (record { from = p; to = suc p }) (lineFrom c d n m)
+  pub is : record { from = r .from; to = r .to } ≡ line.widenedAmong (heightIn c m 0) 0 (record { from = p; to = suc p }) (heightsFrom c n m)
   pub order : r .from < r .to
   pub within : r .to ≤ n
 

@@ -53,7 +53,7 @@ fn takes_over(m: &[u8], h: Head, p: usize, x: Move) -> bool
 // The row of x put at place p.
 fn put_row(m: &mut [u8], h: Head, p: usize, x: Move)
     requires { ⌜ enter.PutAsked (h .size) (h .dimension) (h .count) p (asMove x) (now m) ⌝ }
-    ensures { λ _. ⌜ enter.Put (h .size) (h .dimension) (h .count) p (asMove x) (now (m .entry)) (now (m .exit)) ⌝ }
+    ensures { λ _. ⌜ enter.RowPut (h .size) (h .dimension) (h .count) p (asMove x) (now (m .entry)) (now (m .exit)) ⌝ }
 {
     if takes_over(m, h, p, x) {
         let k = height_at(m, h.size, p);

@@ -33,7 +33,7 @@ unfoldable pub stays : ℕ → ℕ → ℕ → Change → List ℕ → ℕ → B
 stays c d n k m i =
     not (eqb i (k .goes)) && not (hidden d (movesAfter d k (movesIn (lineFrom c d n m))) (moveIn c d m i))
 
-pub record Asked (c d n : ℕ) (k : Change) (m : List ℕ) : Type 0 where
+pub record ChangeAsked (c d n : ℕ) (k : Change) (m : List ℕ) : Type 0 where
   pub sound : SoundAt c d n m
   pub goes : k .goes ≤ n
   pub fit : k .comes ≡ true → Fit c d (asMove (k .coming))

@@ -30,14 +30,14 @@ unfoldable pub address : ℕ → List ℕ → ℕ
 address d cs = groups costBits (take d cs)
 
 -- The number whose bits k-1 to 0 stand at place e, counted from the right, of the groups for these bits.
-unfoldable pub costIn : ℕ → ℕ → ℕ → ℕ → ℕ
-costIn d e zero a = 0
-costIn d e (suc k) a = bit (d * k + e) a * 2 ^ k + costIn d e k a
+unfoldable pub costFromBits : ℕ → ℕ → ℕ → ℕ → ℕ
+costFromBits d e zero a = 0
+costFromBits d e (suc k) a = bit (d * k + e) a * 2 ^ k + costFromBits d e k a
 
 -- The costs whose bits stand at the places e-1 to 0 of each group: "bit j of cost i stands before that of cost i+1".
 unfoldable pub costsFrom : ℕ → ℕ → ℕ → List ℕ
 costsFrom d zero a = []
-costsFrom d (suc e) a = costIn d e costBits a ∷ costsFrom d e a
+costsFrom d (suc e) a = costFromBits d e costBits a ∷ costsFrom d e a
 
 -- The d costs of an address.
 unfoldable pub costsOf : ℕ → ℕ → List ℕ

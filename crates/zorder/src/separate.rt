@@ -23,7 +23,7 @@ fn bit(a: u64, place: usize) -> u16
 // The cost whose bits stand at place e, counted from the right, of each group of d.
 fn cost_in(d: usize, a: u64, e: usize) -> u16
     requires { ⌜ (e < d) × (d ≤ rowCosts) ⌝ }
-    ensures { λ r. ⌜ r ≡ definition.costIn d e 16 a ⌝ }
+    ensures { λ r. ⌜ r ≡ definition.costFromBits d e 16 a ⌝ }
 {
     let mut c: u16 = 0;
     let mut j = BITS;

@@ -7,10 +7,10 @@ use native.Mathlib.Omega.{arith}
 use Rattle.model.specs.Calls as calls
 use Rattle.model.specs.Laws.Bool.{both-ways}
 use Rattle.dominance.specs.Move.{asMove}
-use Rattle.upkeep.specs.Change.{Asked, Upkept}
+use Rattle.upkeep.specs.Change.{ChangeAsked, Upkept}
 use Rattle.upkeep.specs.declared.change.Change.{Change}
 use Rattle.upkeep.specs.declared.telling.Telling.{Telling}
-use Rattle.board.specs.Change.{Made, EnterMade, WithdrawMade, RecostMade, EnterAsked, WithdrawAsked, RecostAsked}
+use Rattle.board.specs.Change.{Made, EnterMade, WithdrawMade, RecostMade, ToEnter, ToWithdraw, ToRecost}
 use Rattle.board.specs.Plan.{changeIn, callIn, Prepared, CarriedOut}
 use Rattle.board.specs.Laws.Calls.{call-withdraw, call-recost, call-enter}
 use Rattle.upkeep.specs.declared.plan.Plan.{Plan}
@@ -19,30 +19,30 @@ module _ {t : Telling} {k : Change} {m : List ℕ} (a : Prepared t k m) where
   change-is : (goes : ℕ) (comes : Bool) → k .goes ≡ goes → k .comes ≡ comes → k ≡ record { goes = goes; comes = comes; coming = k .coming }
   change-is goes comes e f = λ i. record { goes = e i; comes = f i; coming = k .coming }
 
-  pub enter-prepared : k .comes ≡ true → t .head .count ≤ k .goes → EnterAsked (t .head .size) (t .head .dimension) (t .head .count) (k .coming) (t .upkeep) m
+  pub enter-prepared : k .comes ≡ true → t .head .count ≤ k .goes → ToEnter (t .head .size) (t .head .dimension) (t .head .count) (k .coming) (t .upkeep) m
   enter-prepared e l =
       let is = change-is (t .head .count) true (omega (arith, a .ready .asked .goes)) e in
       record {
-        asked = subst (λ (k : Change). Asked (t .head .size) (t .head .dimension) (t .head .count) k m) is (a .ready .asked);
+        asked = subst (λ (k : Change). ChangeAsked (t .head .size) (t .head .dimension) (t .head .count) k m) is (a .ready .asked);
         space = a .ready .space e l;
         upkept = subst (λ (k : Change). Upkept (t .head .size) (t .head .dimension) (t .head .count) k m (t .upkeep)) is (a .upkept);
       }
 
-  pub withdraw-prepared : k .comes ≡ false → WithdrawAsked (t .head .size) (t .head .dimension) (t .head .count) (k .goes) (t .upkeep) m
+  pub withdraw-prepared : k .comes ≡ false → ToWithdraw (t .head .size) (t .head .dimension) (t .head .count) (k .goes) (t .upkeep) m
   withdraw-prepared e =
       let is = change-is (k .goes) false refl e in
       record {
         coming = k .coming;
-        asked = subst (λ (k : Change). Asked (t .head .size) (t .head .dimension) (t .head .count) k m) is (a .ready .asked);
+        asked = subst (λ (k : Change). ChangeAsked (t .head .size) (t .head .dimension) (t .head .count) k m) is (a .ready .asked);
         place = a .ready .place e;
         upkept = subst (λ (k : Change). Upkept (t .head .size) (t .head .dimension) (t .head .count) k m (t .upkeep)) is (a .upkept);
       }
 
-  pub recost-prepared : k .comes ≡ true → k .goes < t .head .count → RecostAsked (t .head .size) (t .head .dimension) (t .head .count) (k .goes) (k .coming) (t .upkeep) m
+  pub recost-prepared : k .comes ≡ true → k .goes < t .head .count → ToRecost (t .head .size) (t .head .dimension) (t .head .count) (k .goes) (k .coming) (t .upkeep) m
   recost-prepared e l =
       let is = change-is (k .goes) true refl e in
       record {
-        asked = subst (λ (k : Change). Asked (t .head .size) (t .head .dimension) (t .head .count) k m) is (a .ready .asked);
+        asked = subst (λ (k : Change). ChangeAsked (t .head .size) (t .head .dimension) (t .head .count) k m) is (a .ready .asked);
         place = l;
         number = a .ready .number e l;
         other = a .other .costs e l;

@@ -31,13 +31,13 @@ use Rattle.tree.specs.Enter as tree
 use Rattle.upkeep.specs.Change.{movesAfter}
 use Rattle.upkeep.specs.Notice.{SetMarks}
 use Rattle.upkeep.specs.declared.change.Upkeep.{Upkeep}
-use Rattle.board.specs.Change.{EnterAsked, EnterMade}
+use Rattle.board.specs.Change.{ToEnter, EnterMade}
 use Rattle.board.specs.Laws.Rows.{holds-sound, holds-moves, holds-over-marks, holds-counted}
 use Rattle.board.specs.Laws.Kept.{MarksRight, made}
 use Rattle.board.specs.Laws.Marks.{entering-moves, marks-come}
 use Rattle.board.specs.Laws.Steps.{listed-frame, stored-frame, stored-holds, stored-asked}
 
-module _ {c d n : ℕ} {x : Move} {u : Upkeep} {m m₁ m₂ m₃ : List ℕ} (a : EnterAsked c d n x u m) (b : Bytes m)
+module _ {c d n : ℕ} {x : Move} {u : Upkeep} {m m₁ m₂ m₃ : List ℕ} (a : ToEnter c d n x u m) (b : Bytes m)
     (set : SetMarks c n (u .leaving) (u .entering) m m₁)
     (e₂ : m₂ ≡ setListed c (x .number) (u .listed) m₁)
     (e₃ : m₃ ≡ setCosts c (x .number) (x .costs) m₂) where
@@ -78,7 +78,7 @@ module _ {c d n : ℕ} {x : Move} {u : Upkeep} {m m₁ m₂ m₃ : List ℕ} (a 
         made s (calls.enter (x .number) (x .costs)) t
         (only-trans (marks-written c marked) (only-trans (costs-written c costs) (rows-written c (entered .frame))))
         (entered .holds t (stored-holds (marked-holds t stands) (a .asked .fit refl) (off t stands) e₃))
-        (enter-moves d (Fit c d) (move-order d c (h .dimension)) (asMove x) (a .asked .fit refl) t (h .rules) (h .fits) ∙ ap (insert d (asMove x)) (sym (holds-moves h)))
+        (enter-moves d (Fit c d) (move-order d c (h .readable .dimension)) (asMove x) (a .asked .fit refl) t (h .rules) (h .fits) ∙ ap (insert d (asMove x)) (sym (holds-moves h)))
         (subst (MarksRight c d m₄) (ap (insert d (asMove x)) (entering-moves c d n m))
         (marks-come (a .asked) (a .upkept) set m₄ refl
         (λ v l. mark-over-rows c (entered .frame) v ∙ mark-over-costs c costs v l ∙ ap (λ (w : List ℕ). markIn c w v) e₂)))

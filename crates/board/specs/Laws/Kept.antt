@@ -23,7 +23,7 @@ use Rattle.promises.specs.Promise.{Kept}
 use Rattle.promises.specs.Laws.Tab.{each-tab}
 use Rattle.memory.specs.Held.{SoundAt}
 use Rattle.memory.specs.Stores.{setCount}
-use Rattle.memory.specs.Frame.{Frame, ChangeOnly}
+use Rattle.memory.specs.Frame.{DifferWithin, ChangeOnly}
 use Rattle.memory.specs.Laws.Written.{only-trans, count-written, size-left, dimension-left}
 use Rattle.memory.specs.Laws.Fields.{number-over-head, mark-over-head}
 use Rattle.memory.specs.Laws.Stored.{setCount-head, count-setCount, size-setCount, dimension-setCount}
@@ -39,7 +39,7 @@ module _ {c d n k : ℕ} {m m₁ : List ℕ} {t : Tree} (s : SoundAt c d n m) (f
   abbrev m' : List ℕ
   m' = setCount k m₁
 
-  abbrev head : Frame 0 16 m₁ (setCount k m₁)
+  abbrev head : DifferWithin 0 16 m₁ (setCount k m₁)
   head = setCount-head k m₁
 
   size : sizeIn m' ≡ c
@@ -49,7 +49,7 @@ module _ {c d n k : ℕ} {m m₁ : List ℕ} {t : Tree} (s : SoundAt c d n m) (f
   dimension = dimension-setCount k m₁ ∙ dimension-left c f ∙ sym (s .dimension)
 
   count : countIn m' ≡ k
-  count = count-setCount k m₁ (omega (arith, h .room))
+  count = count-setCount k m₁ (omega (arith, h .readable .room))
 
   line-is : lineIn m' ≡ lineFrom c d k m'
   line-is = lineIn-line c d k m' size dimension count
@@ -64,7 +64,7 @@ module _ {c d n k : ℕ} {m m₁ : List ℕ} {t : Tree} (s : SoundAt c d n m) (f
   unfolding lineFrom placedIn moveIn
   numbers =
       each-tab (placedIn c d m') (λ r. r .move .number < c) k
-      (λ i l. subst (λ (v : ℕ). v < c) (sym (number-over-head c head i)) (h .numbers i l))
+      (λ i l. subst (λ (v : ℕ). v < c) (sym (number-over-head c head i)) (h .readable .numbers i l))
 
   kept : keptIn m' ≡ skyline (dimensionIn m') (movesOf t)
   unfolding keptIn keptFrom skyline
@@ -81,8 +81,8 @@ module _ {c d n k : ℕ} {m m₁ : List ℕ} {t : Tree} (s : SoundAt c d n m) (f
       record {
         size = ap sizeBad (size ∙ s .size) ∙ s .sound .stands .size;
         dimension = ap costCountBad (dimension ∙ s .dimension) ∙ s .sound .stands .dimension;
-        room = omega (arith, size, h .room, head .length);
-        count = omega (arith, count, size, h .rows);
+        room = omega (arith, size, h .readable .room, head .length);
+        count = omega (arith, count, size, h .readable .rows);
         numbers = subst (λ (v : ℕ). Each (λ r. r .move .number < v) (lineIn m')) (sym size) (subst (Each (λ r. r .move .number < c)) (sym line-is) numbers);
         line = line;
         rules = ap (λ (v : ℕ). ruled v t) dimension ∙ h .rules;

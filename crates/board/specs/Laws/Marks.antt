@@ -29,7 +29,7 @@ use Rattle.memory.specs.Laws.Frames.{room-over}
 use Rattle.memory.specs.Laws.Stored.{mark-setListed-other, listed-setListed}
 use Rattle.memory.specs.Laws.Lines.{length-line}
 use Rattle.memory.specs.Laws.Held.{held-room, held-numbers, held-once}
-use Rattle.upkeep.specs.Change.{dropAt, movesAfter, stays, Asked, Upkept}
+use Rattle.upkeep.specs.Change.{dropAt, movesAfter, stays, ChangeAsked, Upkept}
 use Rattle.upkeep.specs.Notice.{listedThen, SetMarks}
 use Rattle.upkeep.specs.Laws.Places.{each-place, anyTo-places}
 use Rattle.upkeep.specs.Laws.Change.{line-places, rest-places}
@@ -145,7 +145,7 @@ module _ {c d n : ℕ} {k : Change} {m : List ℕ} {u : Upkeep} (up : Upkept c d
       fresh e = new e ∙ up .listed ∙ ap (λ (b : Bool). b && not (hidden d after (asMove (k .coming)))) e
 
 -- Of memory whose marks were set, and whatever else was written afterwards.
-module _ {c d n : ℕ} {k : Change} {m m₁ : List ℕ} {u : Upkeep} (asked : Asked c d n k m) (up : Upkept c d n k m u)
+module _ {c d n : ℕ} {k : Change} {m m₁ : List ℕ} {u : Upkeep} (asked : ChangeAsked c d n k m) (up : Upkept c d n k m u)
     (set : SetMarks c n (u .leaving) (u .entering) m m₁) (m' : List ℕ) where
   pub marks-gone : k .comes ≡ false → ((v : ℕ) → v < c → markIn c m' v ≡ markIn c m₁ v) → MarksRight c d m' (movesAfter d k (movesIn (lineFrom c d n m)))
   marks-gone none same =

@@ -44,7 +44,7 @@ use Rattle.tree.specs.Withdraw as withdraw
 use Rattle.upkeep.specs.Change.{dropAt, movesAfter}
 use Rattle.upkeep.specs.Notice.{SetMarks}
 use Rattle.upkeep.specs.declared.change.Upkeep.{Upkeep}
-use Rattle.board.specs.Change.{RecostAsked, RecostMade}
+use Rattle.board.specs.Change.{ToRecost, RecostMade}
 use Rattle.board.specs.Laws.Rows.{holds-sound, holds-moves, holds-over-marks, holds-counted}
 use Rattle.board.specs.Laws.Kept.{MarksRight, made}
 use Rattle.board.specs.Laws.Marks.{rest-without, marks-come}
@@ -78,7 +78,7 @@ module _ (c d n p : ℕ) (m : List ℕ) (l : p < n) where
   costs-there : costsOn (numberIn c m p) (movesIn (lineFrom c d n m)) ≡ costsIn c d m (numberIn c m p)
   costs-there = costs-board c d n m (numberIn c m p) on-board
 
-module _ {c d n p : ℕ} {x : Move} {u : Upkeep} {m m₁ m₂ : List ℕ} (a : RecostAsked c d n p x u m) (b : Bytes m)
+module _ {c d n p : ℕ} {x : Move} {u : Upkeep} {m m₁ m₂ : List ℕ} (a : ToRecost c d n p x u m) (b : Bytes m)
     (set : SetMarks c n (u .leaving) (u .entering) m m₁)
     (e₂ : m₂ ≡ setListed c (x .number) (u .listed) m₁) where
   abbrev s : SoundAt c d n m
@@ -137,7 +137,7 @@ module _ {c d n p : ℕ} {x : Move} {u : Upkeep} {m m₁ m₂ : List ℕ} (a : R
       moves : movesOf (enterTree d (asMove x) (withdrawTree d (numberIn c m p) t)) ≡ insert d (asMove x) (dropAt p before)
       moves =
           let h = gone t stands in
-          enter-moves d (Fit c d) (move-order d c (h .dimension)) (asMove x) fit (withdrawTree d (numberIn c m p) t) (h .rules) (h .fits)
+          enter-moves d (Fit c d) (move-order d c (h .readable .dimension)) (asMove x) fit (withdrawTree d (numberIn c m p) t) (h .rules) (h .fits)
           ∙ ap (insert d (asMove x)) (gone-moves w s b (a .place) marked t stands)
 
       held : RowsHold c d n m₅ (recostTree d (asMove x) t)

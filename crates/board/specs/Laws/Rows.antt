@@ -20,16 +20,16 @@ use Rattle.line.specs.Laws.Line.{moves-line}
 use Rattle.promises.specs.Layout.{numberIn, costsIn, moveIn, placedIn, lineFrom}
 use Rattle.promises.specs.Sound.{Stands}
 use Rattle.promises.specs.Run.{Bytes}
-use Rattle.memory.specs.Room.{Numbers, Readable}
+use Rattle.memory.specs.Room.{Numbers, ReadableRows}
 use Rattle.memory.specs.Held.{SoundAt}
 use Rattle.memory.specs.declared.sound.Head.{Head}
 use Rattle.memory.specs.Stores.{setCosts}
-use Rattle.memory.specs.Frame.{Frame, MarksOnly}
+use Rattle.memory.specs.Frame.{DifferWithin, MarksOnly}
 use Rattle.memory.specs.Laws.Frames.{room-over}
 use Rattle.memory.specs.Laws.Stored.{setCosts-frame}
 use Rattle.memory.specs.Laws.Places.{tab-each}
 use Rattle.memory.specs.Laws.Lines.{getD-line, movesIn-line, lineIn-line, line-over-marks, line-setCosts}
-use Rattle.memory.specs.Laws.Held.{held-dimension, held-room, held-few, held-numbers, held-readable, held-fit, held-once}
+use Rattle.memory.specs.Laws.Held.{held-readable, held-fit, held-once}
 use Rattle.tree.specs.Hold.{RowsHold}
 use Rattle.tree.specs.Enter.{EnterAsked}
 use Rattle.upkeep.specs.Mark.{Once}
@@ -39,23 +39,20 @@ pub holds-sound : {c d n : ℕ} {m : List ℕ} → SoundAt c d n m → Bytes m �
 holds-sound {c} {d} {n} {m} s b t stands =
     let line = sym (lineIn-line c d n m (sym (s .size)) (sym (s .dimension)) (sym (s .count))) ∙ stands .line in
     record {
-      room = held-room c d n m s;
-      rows = held-few c d n m s;
-      dimension = held-dimension c d n m s;
-      numbers = held-numbers c d n m s;
+      readable = held-readable s;
       line = line;
       rules = subst (λ (d : ℕ). ruled d t ≡ true) (sym (s .dimension)) (stands .rules);
       fits = subst (Each (Fit c d)) (ap movesIn line ∙ moves-line t) (held-fit c d n m s b);
     }
 
 -- What setting the marks asks.
-pub marks-asked : {h : Head} {m : List ℕ} → SoundAt (h .size) (h .dimension) (h .count) m → Bytes m → Readable h m × Once (h .size) (h .count) m
-marks-asked {h} {m} s b = (held-readable s, held-once (h .size) (h .dimension) (h .count) m s b)
+pub marks-asked : {c d n : ℕ} {m : List ℕ} → SoundAt c d n m → Bytes m → ReadableRows c d n m × Once c n m
+marks-asked {c} {d} {n} {m} s b = (held-readable s, held-once c d n m s b)
 
 module _ {c d n : ℕ} {m : List ℕ} {t : Tree} (h : RowsHold c d n m t) where
   -- What setting the count asks.
   pub holds-counted : (16 ≤ length m) × (n < 65536)
-  holds-counted = omega (arith, h .room, h .rows)
+  holds-counted = omega (arith, h .readable .room, h .readable .rows)
 
   pub holds-moves : movesIn (lineFrom c d n m) ≡ movesOf t
   holds-moves = ap movesIn (h .line) ∙ moves-line t
@@ -73,29 +70,32 @@ module _ {c d n : ℕ} {m : List ℕ} {t : Tree} (h : RowsHold c d n m t) where
   same-numbers m' e i l =
       subst (λ (k : ℕ). k < c)
       (ap (λ (r : Placed). r .move .number) (sym (getD-line c d n m i l) ∙ ap (λ (rs : List Placed). getD rs i none) (sym e) ∙ getD-line c d n m' i l))
-      (h .numbers i l)
+      (h .readable .numbers i l)
 
   -- The same line, the same tree.
-  pub holds-same : {a b : ℕ} {m' : List ℕ} → Frame a b m m' → lineFrom c d n m' ≡ lineFrom c d n m → RowsHold c d n m' t
+  pub holds-same : {a b : ℕ} {m' : List ℕ} → DifferWithin a b m m' → lineFrom c d n m' ≡ lineFrom c d n m → RowsHold c d n m' t
   holds-same {m' = m'} f e =
       record {
-        room = room-over c f (h .room);
-        rows = h .rows;
-        dimension = h .dimension;
-        numbers = same-numbers m' e;
+        readable =
+            record {
+              room = room-over c f (h .readable .room);
+              rows = h .readable .rows;
+              numbers = same-numbers m' e;
+              dimension = h .readable .dimension;
+            };
         line = e ∙ h .line;
         rules = h .rules;
         fits = h .fits;
       }
 
   pub holds-over-marks : {m' : List ℕ} → MarksOnly c m m' → RowsHold c d n m' t
-  holds-over-marks f = holds-same f (line-over-marks c d n f (h .rows))
+  holds-over-marks f = holds-same f (line-over-marks c d n f (h .readable .rows))
 
   -- The costs of a number that the tree has not.
   pub holds-setCosts : (k : ℕ) (costs : List ℕ) → k < c → length costs ≤ rowCosts → onBoard k (movesOf t) ≡ false → RowsHold c d n (setCosts c k costs m) t
   holds-setCosts k costs l few off =
       holds-same (setCosts-frame c k costs m)
-      (line-setCosts c d n m k costs l few (h .rows) (h .dimension) (holds-absent k off))
+      (line-setCosts c d n m k costs l few (h .readable .rows) (h .readable .dimension) (holds-absent k off))
 
   -- A move that may be entered.
   pub enter-asked : (x : Move) → n < c → Fit c d x → costsIn c d m (x .number) ≡ x .costs → onBoard (x .number) (movesOf t) ≡ false → EnterAsked c d n x m

@@ -29,13 +29,13 @@ use Rattle.memory.specs.Laws.Held.{held-room}
 use Rattle.tree.specs.Hold.{RowsHold}
 use Rattle.tree.specs.Enter.{EnterAsked}
 use Rattle.tree.specs.Withdraw.{Withdrawn}
-use Rattle.upkeep.specs.Change.{dropAt, Asked}
+use Rattle.upkeep.specs.Change.{dropAt, ChangeAsked}
 use Rattle.upkeep.specs.declared.change.Change.{Change}
 use Rattle.board.specs.Laws.Rows.{holds-sound, holds-moves, holds-over-marks, holds-setCosts, enter-asked}
 use Rattle.board.specs.Laws.Marks.{rest-without}
 
 -- What storing the mark and the costs of a coming move asks, whatever was written before.
-pub coming-asked : {c d n : ℕ} {k : Change} {m m₁ : List ℕ} → Asked c d n k m → k .comes ≡ true → ChangeOnly c m m₁ → Room c m₁ × (k .coming .number < c)
+pub coming-asked : {c d n : ℕ} {k : Change} {m m₁ : List ℕ} → ChangeAsked c d n k m → k .comes ≡ true → ChangeOnly c m m₁ → Room c m₁ × (k .coming .number < c)
 coming-asked {c} {d} {n} {m = m} asked comes f = (only-room c f (held-room c d n m (asked .sound)), asked .fit comes .number)
 
 -- Its mark, after those of the others.
@@ -57,7 +57,7 @@ module _ {c d n : ℕ} {x : model.Move} {m m' : List ℕ} {t : Tree} (h : RowsHo
   pub stored-asked : n < c → EnterAsked c d n x m'
   stored-asked space =
       enter-asked stored-holds x space fit
-      (ap (λ (w : List ℕ). costsIn c d w (x .number)) e ∙ costs-setCosts c d (x .number) (x .costs) m (h .dimension) (fit .costs) (h .room) (fit .number))
+      (ap (λ (w : List ℕ). costsIn c d w (x .number)) e ∙ costs-setCosts c d (x .number) (x .costs) m (h .readable .dimension) (fit .costs) (h .readable .room) (fit .number))
       off
 
 -- A move goes.
@@ -72,12 +72,12 @@ module _ {c d n p : ℕ} {m₁ m₂ : List ℕ} (w : Withdrawn c d n p m₁ m₂
     pub gone-holds : RowsHold c d (n - 1) m₂ (withdrawTree d (numberIn c m p) t)
     gone-holds =
         let h = holds-sound s b t stands in
-        subst (λ (k : ℕ). RowsHold c d (n - 1) m₂ (withdrawTree d k t)) (number-over-marks c marked p (omega (arith, h .rows)))
+        subst (λ (k : ℕ). RowsHold c d (n - 1) m₂ (withdrawTree d k t)) (number-over-marks c marked p (omega (arith, h .readable .rows)))
         (w .holds t (holds-over-marks h marked))
 
     pub gone-moves : movesOf (withdrawTree d (numberIn c m p) t) ≡ dropAt p (movesIn (lineFrom c d n m))
     gone-moves =
         let h = holds-sound s b t stands in
-        withdraw-moves d (Fit c d) (move-order d c (h .dimension)) (numberIn c m p) t (h .rules) (h .fits)
+        withdraw-moves d (Fit c d) (move-order d c (h .readable .dimension)) (numberIn c m p) t (h .rules) (h .fits)
         ∙ ap (without (numberIn c m p)) (sym (holds-moves h))
         ∙ sym (rest-without c d n p m s b l)

@@ -20,14 +20,14 @@ use Rattle.line.specs.Line.{Placed, lineAt, lineOf}
 use Rattle.line.specs.Places.{heightAt, nodeStart, nodeEnd, entries, entryAt, setHeight}
 use Rattle.line.specs.Enter.{cutEntry, splitAt, cascade}
 use Rattle.line.specs.Laws.Line.{Whole, line-cons, filled-whole}
-use Rattle.line.specs.Laws.Places.{Starts, starts-lower, entries-between}
+use Rattle.line.specs.Laws.Places.{FirstAtLeast, starts-lower, entries-between}
 use Rattle.line.specs.Laws.Entries.{following, following-least, regroup, line-one, set-first, height-first, line-size, node-start-at, node-end-at, lines-start, count-entries}
 use Rattle.line.specs.Laws.Descent.{placeNode, placeIn, place-line, enter-node, enter-line, place-in, by-child, place-inside}
 use Rattle.line.specs.Laws.Split.{split-nine, split-few, split-line}
 
 -- ---- one level
 
-module _ (d h k : ℕ) (xs : List Placed) (es : List (Entry h)) (ys : List Placed) (w : Whole (suc h) es) (t : suc h ≤ k) (s : Starts (suc h) ys)
+module _ (d h k : ℕ) (xs : List Placed) (es : List (Entry h)) (ys : List Placed) (w : Whole (suc h) es) (t : suc h ≤ k) (s : FirstAtLeast (suc h) ys)
     (q : ℕ) (l : q < length (lineAt (suc h) k es)) where
   abbrev here : List Placed
   here = xs ++ (lineAt (suc h) k es ++ ys)
@@ -117,13 +117,13 @@ entered-whole d h x es f =
 -- The cascade from the leaf up to a node comes to the node as the nest has it.
 abbrev pub Climbs : ℕ → (h : ℕ) → Move → List (Entry h) → Type 0
 Climbs d h x es =
-    (f k : ℕ) (xs ys : List Placed) → Full 1 h es → suc h ≤ k → suc h ≤ topHeight xs k → Starts (suc h) ys
+    (f k : ℕ) (xs ys : List Placed) → Full 1 h es → suc h ≤ k → suc h ≤ topHeight xs k → FirstAtLeast (suc h) ys
     → cascade d (climb h f) 1 (length xs + placeIn d h x es) (xs ++ (lineAt (suc h) k (placeNode d h x es) ++ ys))
     ≡ cascade d (suc f) (suc h) (length xs + placeIn d h x es) (xs ++ (lineAt (suc h) k (enterNode d h x es) ++ ys))
 
 module _ (d h : ℕ) (x : Move) (us : List (Entry (suc h))) (c : List (Entry h)) (vs : List (Entry (suc h)))
     (e : childPlace d (suc h) x (us ++ c ∷ vs) ≡ length us) (f k : ℕ) (xs ys : List Placed)
-    (full : Full 1 (suc h) (us ++ c ∷ vs)) (t : suc (suc h) ≤ k) (top : suc (suc h) ≤ topHeight xs k) (s : Starts (suc (suc h)) ys) where
+    (full : Full 1 (suc h) (us ++ c ∷ vs)) (t : suc (suc h) ≤ k) (top : suc (suc h) ≤ topHeight xs k) (s : FirstAtLeast (suc (suc h)) ys) where
   -- The child's line in the whole, before and after it is entered.
   abbrev k' : ℕ
   k' = following k (suc h) us
@@ -170,7 +170,7 @@ module _ (d h : ℕ) (x : Move) (us : List (Entry (suc h))) (c : List (Entry h))
   child-below : suc (suc h) ≤ topHeight xs' k'
   child-below = subst (λ (n : ℕ). suc (suc h) ≤ n) (sym (top-within (suc h) k xs us (each-left (Whole (suc h)) us (c ∷ vs) whole))) top
 
-  child-starts : Starts (suc h) ys'
+  child-starts : FirstAtLeast (suc h) ys'
   child-starts =
       lines-start (suc h) (suc h) (suc h) vs ys (each-right (Whole (suc h)) us (c ∷ vs) whole .1) (le-refl (suc h))
       (starts-lower (suc h) (suc (suc h)) ys (omega arith) s)

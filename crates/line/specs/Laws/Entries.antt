@@ -12,10 +12,10 @@ use Rattle.model.specs.Moves.{Move, noMove}
 use Rattle.model.specs.Tree.{Entry, movesUnder, firstMove, lastMove}
 use Rattle.model.specs.Laws.Basics.{each-append, count-append, count-cons}
 use Rattle.model.specs.Laws.Tree.{flatMap-append}
-use Rattle.line.specs.Line.{Placed, lineAt, movesIn}
-use Rattle.line.specs.Places.{moveAt, heightAt, nodeStart, nodeEnd, entryAt, setHeight}
+use Rattle.line.specs.Line.{Placed, lineAt, movesIn, heightsIn}
+use Rattle.line.specs.Places.{moveAt, heightAt, nodeStart, nodeEnd, entryAmong, entryAt, setHeight}
 use Rattle.line.specs.Laws.Line.{row, Whole, restAt, rest-low, line-cons, line-moves}
-use Rattle.line.specs.Laws.Places.{Starts, atLeast, move-left, move-right, set-seam, node-start, node-end, count-low, entry-next}
+use Rattle.line.specs.Laws.Places.{FirstAtLeast, atLeast, move-left, move-right, set-seam, node-start, node-end, count-low, entry-next}
 
 -- ---- entries one after another
 
@@ -79,8 +79,8 @@ pub line-size : (h k : ℕ) (e : Entry h) → length (lineAt h k e) ≡ length (
 unfolding movesIn
 line-size h k e = sym (length-map (lineAt h k e) (λ r. r .move)) ∙ ap length (line-moves h k e)
 
-pub line-starts : (h k l : ℕ) (c : Entry h) (ys : List Placed) → Whole h c → l ≤ k → Starts l (lineAt h k c ++ ys)
-line-starts h k l c ys w t = subst (λ (rs : List Placed). Starts l (rs ++ ys)) (sym (line-cons h k c w)) t
+pub line-starts : (h k l : ℕ) (c : Entry h) (ys : List Placed) → Whole h c → l ≤ k → FirstAtLeast l (lineAt h k c ++ ys)
+line-starts h k l c ys w t = subst (λ (rs : List Placed). FirstAtLeast l (rs ++ ys)) (sym (line-cons h k c w)) t
 
 pub set-first : (l j k : ℕ) (c : Entry l) (ys : List Placed) → Whole l c → setHeight 0 j (lineAt l k c ++ ys) ≡ lineAt l j c ++ ys
 set-first l j k c ys w =
@@ -108,10 +108,10 @@ module _ (l k : ℕ) (c : Entry l) (w : Whole l c) (xs ys : List Placed) where
       (sym (line-cons l k c w))
       (λ q h t. node-start l xs (row (firstMove l c) k) (restAt l c) ys q (rest-low l c) (omega arith) t)
 
-  pub node-end-at : (q : ℕ) → q < length (lineAt l k c) → Starts l ys
+  pub node-end-at : (q : ℕ) → q < length (lineAt l k c) → FirstAtLeast l ys
       → nodeEnd l (length xs + q) (xs ++ (lineAt l k c ++ ys)) ≡ length xs + length (lineAt l k c)
   node-end-at =
-      subst (λ (rs : List Placed). (q : ℕ) → q < length rs → Starts l ys → nodeEnd l (length xs + q) (xs ++ (rs ++ ys)) ≡ length xs + length rs)
+      subst (λ (rs : List Placed). (q : ℕ) → q < length rs → FirstAtLeast l ys → nodeEnd l (length xs + q) (xs ++ (rs ++ ys)) ≡ length xs + length rs)
       (sym (line-cons l k c w))
       (λ q h s. node-end l xs (row (firstMove l c) k) (restAt l c) ys q (rest-low l c) (omega arith) s)
 
@@ -137,11 +137,11 @@ module _ (l k : ℕ) (c : Entry l) (w : Whole l c) (xs ys : List Placed) where
 -- ---- the entries of a node
 
 module _ (h : ℕ) where
-  pub lines-start : (k l : ℕ) (es : List (Entry h)) (ys : List Placed) → Each (Whole h) es → l ≤ k → Starts l ys → Starts l (lineAt (suc h) k es ++ ys)
+  pub lines-start : (k l : ℕ) (es : List (Entry h)) (ys : List Placed) → Each (Whole h) es → l ≤ k → FirstAtLeast l ys → FirstAtLeast l (lineAt (suc h) k es ++ ys)
   unfolding lineAt
   lines-start k l [] ys w t s = s
   lines-start k l (e ∷ es) ys w t s =
-      subst (Starts l) (sym (append-assoc (lineAt h k e) (flatMap (lineAt h h) es) ys))
+      subst (FirstAtLeast l) (sym (append-assoc (lineAt h k e) (flatMap (lineAt h h) es) ys))
       (line-starts h k l e (flatMap (lineAt h h) es ++ ys) (w .0) t)
 
   count-entry : (k : ℕ) (e : Entry h) → Whole h e → h ≤ k → count (atLeast h) (lineAt h k e) ≡ 1
@@ -159,9 +159,9 @@ module _ (h : ℕ) where
       ∙ ap₂ _+_ (count-entry k e (w .0) t) (count-entries h es (w .1) (le-refl h))
       ∙ (omega arith)
 
-  pub entry-at : (xs : List Placed) (k : ℕ) (es fs : List (Entry h)) (ys : List Placed) → Each (Whole h) es → Each (Whole h) fs → Starts h ys
+  pub entry-at : (xs : List Placed) (k : ℕ) (es fs : List (Entry h)) (ys : List Placed) → Each (Whole h) es → Each (Whole h) fs → FirstAtLeast h ys
       → entryAt h (length xs) (length es) (xs ++ (lineAt (suc h) k (es ++ fs) ++ ys)) ≡ length xs + length (lineAt (suc h) k es)
-  unfolding entryAt lineAt
+  unfolding entryAmong lineAt
   entry-at xs k [] fs ys w v s = sym (add-zero (length xs))
   entry-at xs k (e ∷ es) fs ys w v s =
       let u = lineAt h k e in
@@ -169,7 +169,7 @@ module _ (h : ℕ) where
       let shape = ap (λ (rs : List Placed). rs ++ ys) (line-more h k e (es ++ fs)) ∙ append-assoc u (lineAt (suc h) h (es ++ fs)) ys in
       let next = lines-start h h (es ++ fs) ys (each-append (Whole h) es fs (w .1) v) (le-refl h) s in
       ap (λ (rs : List Placed). entryAt h (length xs) (suc (length es)) (xs ++ rs)) shape
-      ∙ entry-next h (length xs) (length es) (xs ++ (u ++ rest))
+      ∙ entry-next h (length xs) (length es) (heightsIn (xs ++ (u ++ rest)))
       ∙ ap (λ (i : ℕ). entryAt h i (length es) (xs ++ (u ++ rest)))
       (ap (λ (i : ℕ). nodeEnd h i (xs ++ (u ++ rest))) (sym (add-zero (length xs)))
       ∙ node-end-at h k e (w .0) xs rest 0 (line-pos h k e (w .0)) next

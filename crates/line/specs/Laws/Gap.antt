@@ -22,7 +22,7 @@ use Rattle.line.specs.Line.{Placed, lineAt}
 use Rattle.line.specs.Places.{moveAt, heightAt, nodeStart, nodeEnd, setHeight, insertAt}
 use Rattle.line.specs.Enter.{laterInGap, placed}
 use Rattle.line.specs.Laws.Line.{row, Whole}
-use Rattle.line.specs.Laws.Places.{Starts, height-right, insert-seam, set-right}
+use Rattle.line.specs.Laws.Places.{FirstAtLeast, height-right, insert-seam, set-right}
 use Rattle.line.specs.Laws.Entries.{following, following-more, following-least, line-append, line-seam, line-one, line-more, line-pos, line-size, set-first, height-first, node-start-at, node-end-at, first-at, last-at, lines-start}
 use Rattle.line.specs.Laws.Standing.{Before, After, AllBefore, AllAfter, child-earlier, child-later}
 use Rattle.line.specs.Laws.Descent.{placeNode, placeIn, place-line, place-in}
@@ -33,7 +33,7 @@ use Rattle.line.specs.Laws.Placed.{placed-low, placed-gap}
 
 -- Rows xs, an entry e, an entry f, rows ys.
 module _ (d : ℕ) (x : Move) (h k : ℕ) (e f : Entry (suc h)) (we : Whole (suc h) e) (wf : Whole (suc h) f) (t : suc h ≤ k)
-    (xs ys : List Placed) (s : Starts (suc h) ys) where
+    (xs ys : List Placed) (s : FirstAtLeast (suc h) ys) where
   abbrev left : List Placed
   left = xs ++ lineAt (suc h) k e
 
@@ -137,8 +137,8 @@ module _ (d h : ℕ) (x : Move) (k : ℕ) (us : List (Entry (suc h))) (e f : Lis
       ∙ line-seam (suc h) k (us ++ e ∷ []) (f ∷ vs) (omega (arith, length-append us (e ∷ [])))
       ∙ ap₂ (λ (ps qs : List Placed). ps ++ qs) before-seam (line-more (suc h) (suc h) f vs)
 
-  starts : Starts (suc h) v
-  starts = subst (Starts (suc h)) (append-nil v) (lines-start (suc h) (suc h) (suc h) vs [] wv (le-refl (suc h)) tt)
+  starts : FirstAtLeast (suc h) v
+  starts = subst (FirstAtLeast (suc h)) (append-nil v) (lines-start (suc h) (suc h) (suc h) vs [] wv (le-refl (suc h)) tt)
 
   high : suc h ≤ j
   high = following-least (suc h) k (suc h) us t (le-refl (suc h))

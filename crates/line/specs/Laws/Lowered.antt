@@ -16,7 +16,7 @@ use Rattle.model.specs.Laws.Tree.{Filled, filled-full}
 use Rattle.line.specs.Line.{Placed, lineAt, lineOf}
 use Rattle.line.specs.Places.{heightAt, entries, setHeight}
 use Rattle.line.specs.Withdraw.{lowered}
-use Rattle.line.specs.Laws.Places.{atLeast}
+use Rattle.line.specs.Laws.Places.{atLeast, entries-rows}
 use Rattle.line.specs.Laws.Line.{Whole, filled-whole}
 use Rattle.line.specs.Laws.Entries.{count-entries, set-first}
 use Rattle.line.specs.Laws.Cascade.{filled-each}
@@ -61,9 +61,9 @@ module _ (h : ℕ) (es : List (Entry h)) (w : Whole (suc h) es) where
   level-down = omega (arith, line-height (suc h) (suc h) es w)
 
   root-children : entries (heightAt rows 0 - 1) 0 (length rows) rows ≡ length es
-  unfolding entries
   root-children =
       ap (λ (j : ℕ). entries j 0 (length rows) rows) level-down
+      ∙ entries-rows h 0 (length rows) rows
       ∙ ap (λ (j : ℕ). count (atLeast h) (take j rows)) (sub-zero (length rows))
       ∙ ap (count (atLeast h)) (take-length rows)
       ∙ count-entries h (suc h) es (w .1) (omega arith)

@@ -18,12 +18,12 @@ use Rattle.model.specs.Sound.{Fit}
 use Rattle.model.specs.Laws.Bool.{testCases}
 use Rattle.model.specs.Laws.Basics.{each-append, each-mono, count-append, count-none, count-cons}
 use Rattle.model.specs.Laws.Nodes.{RunOf, NodeIn, Some, node-wider, run-fit, run-ordered, run-unopened}
-use Rattle.line.specs.Line.{Placed, none, lineOf, movesIn}
-use Rattle.line.specs.Places.{moveAt, heightAt, lower, nodeEnd}
+use Rattle.line.specs.Line.{Placed, none, lineOf, movesIn, heightsIn}
+use Rattle.line.specs.Places.{moveAt, heightAt, lowerAmong, lower, nodeEnd}
 use Rattle.line.specs.Search.{nodeAt, nodesAt, nodesIn, nodesLeft, nearAt, passedAt, openedFrom, openedPast}
 use Rattle.line.specs.Laws.Line.{Low, WholeTree, moves-line, line-cons}
 use Rattle.line.specs.Laws.Decode.{tailOf, tail-low}
-use Rattle.line.specs.Laws.Places.{lower-le}
+use Rattle.line.specs.Laws.Places.{lower-le, end-rows}
 use Rattle.line.specs.Laws.Search.{tail-lower, tail-left, nodes-line}
 
 -- ---- a node and what follows it
@@ -51,7 +51,7 @@ module _ (l : ℕ) (ss : List Placed) (e : tailOf l ss ≡ []) where
       ∙ sym (append-assoc (nodesAt l r ts) (nodesIn ts) (nodesIn ss))
 
 tail-take : (l : ℕ) (rs : List Placed) → tailOf l rs ≡ take (lower l rs) rs
-unfolding tailOf lower
+unfolding tailOf lowerAmong heightsIn
 tail-take l [] = refl
 tail-take l (r ∷ rs) =
     testCases (λ b. cond b [] (r ∷ tailOf l rs) ≡ take (cond b 0 (suc (lower l rs))) (r ∷ rs)) (leb l (r .height))
@@ -61,7 +61,7 @@ tail-split : (l : ℕ) (rs : List Placed) → tailOf l rs ++ drop (lower l rs) r
 tail-split l rs = ap (λ (ts : List Placed). ts ++ drop (lower l rs) rs) (tail-take l rs) ∙ take-append-drop (lower l rs) rs
 
 tail-past : (l : ℕ) (rs : List Placed) → tailOf l (drop (lower l rs) rs) ≡ []
-unfolding tailOf lower
+unfolding tailOf lowerAmong heightsIn
 tail-past l [] = refl
 tail-past l (r ∷ rs) =
     testCases (λ b. leb l (r .height) ≡ b → tailOf l (drop (cond b 0 (suc (lower l rs))) (r ∷ rs)) ≡ []) (leb l (r .height))
@@ -189,12 +189,12 @@ nodeFrom rs i l = nodeAt l (getD rs i none) (drop (suc i) rs)
 
 module _ (rs : List Placed) (i : ℕ) (h : i < length rs) (d l : ℕ) where
   last-node : nodeFrom rs i l .last ≡ moveAt rs (nodeEnd l i rs - 1)
-  unfolding nodeAt nodeOf lastOr movesIn moveAt nodeEnd
+  unfolding nodeAt nodeOf lastOr movesIn moveAt
   last-node =
       let r = getD rs i none in
       let xs = drop (suc i) rs in
       let k = lower l xs in
-      let place : i + k ≡ suc i + k - 1 = omega arith in
+      let place : i + k ≡ nodeEnd l i rs - 1 = omega (arith, end-rows l i rs) in
       last-map r (tailOf l xs)
       ∙ ap (λ (s : Placed). s .move)
       (ap (lastOr r) (tail-take l xs)
@@ -212,8 +212,7 @@ module _ (rs : List Placed) (i : ℕ) (h : i < length rs) (d l : ℕ) where
   passed-node = ap (λ (q : List ℕ). not (any (λ m. dominates d (m .costs) q) (movesIn rs))) near-node
 
   past-node : drop (lower l (drop (suc i) rs)) (drop (suc i) rs) ≡ drop (nodeEnd l i rs) rs
-  unfolding nodeEnd
-  past-node = drop-drop (lower l (drop (suc i) rs)) (suc i) rs
+  past-node = drop-drop (lower l (drop (suc i) rs)) (suc i) rs ∙ ap (λ (j : ℕ). drop j rs) (sym (end-rows l i rs))
 
   past-left : nodesIn (drop (lower l (drop (suc i) rs)) (drop (suc i) rs)) ≡ nodesLeft (heightAt rs (nodeEnd l i rs)) (drop (nodeEnd l i rs) rs)
   past-left = ap nodesIn past-node ∙ all-left rs (nodeEnd l i rs)

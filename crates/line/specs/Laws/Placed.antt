@@ -10,15 +10,15 @@ use lib.ListN.{length}
 use Rattle.zorder.specs.Between.{sideOf}
 use Rattle.model.specs.Moves.{Move}
 use Rattle.model.specs.Laws.Bool.{cond-map}
-use Rattle.line.specs.Line.{Placed}
+use Rattle.line.specs.Line.{Placed, heightsIn}
 use Rattle.line.specs.Places.{moveAt, heightAt, nodeStart, nodeEnd, setHeight, insertAt}
 use Rattle.line.specs.Enter.{laterInGap, takesOver, placed}
 use Rattle.line.specs.Laws.Line.{row, Low}
-use Rattle.line.specs.Laws.Places.{Starts, starts-lower, height-left, height-right, move-left, move-right, insert-left, insert-right, set-left, set-right, length-setHeight, low-at, start-le, start-left, start-right, end-le, end-past, end-left, end-right}
+use Rattle.line.specs.Laws.Places.{FirstAtLeast, starts-lower, height-left, height-right, move-left, move-right, insert-left, insert-right, set-left, set-right, length-setHeight, low-at, start-le, start-left, start-right, end-le, end-past, end-left, end-right}
 
 -- ---- within a node that holds the place and does not start there
 
-module _ (d : ℕ) (x : Move) (l : ℕ) (us : List Placed) (r : Placed) (rs vs : List Placed) (low : Low l rs) (t : l ≤ r .height) (s : Starts l vs)
+module _ (d : ℕ) (x : Move) (l : ℕ) (us : List Placed) (r : Placed) (rs vs : List Placed) (low : Low l rs) (t : l ≤ r .height) (s : FirstAtLeast l vs)
     (q : ℕ) (m : q < length rs) where
   abbrev part : List Placed
   part = r ∷ rs
@@ -43,14 +43,14 @@ module _ (d : ℕ) (x : Move) (l : ℕ) (us : List Placed) (r : Placed) (rs vs :
     same-last : moveAt all (nodeEnd k at all - 1) ≡ moveAt part (nodeEnd k (suc q) part - 1)
     same-last =
         let e = end-right k us (part ++ vs) (suc q) ∙ ap (λ (n : ℕ). length us + n) (end-left k part vs (suc q) (starts-lower k l vs (omega arith) s) (omega arith)) in
-        let p = end-past k (suc q) part in
+        let p = end-past k (suc q) (heightsIn part) in
         ap (moveAt all) (omega (arith, e, p)) ∙ same-move (nodeEnd k (suc q) part - 1) (omega (arith, p, end-le k (suc q) part (omega arith)))
 
     same-first : moveAt all (nodeStart k (at - 1) all) ≡ moveAt part (nodeStart k (suc q - 1) part)
     same-first =
         ap (λ (i : ℕ). moveAt all (nodeStart k i all)) (omega arith)
         ∙ ap (moveAt all) (start-right k us r (rs ++ vs) q (omega arith) ∙ ap (λ (n : ℕ). length us + n) (start-left k part vs q (omega arith)))
-        ∙ same-move (nodeStart k q part) (omega (arith, start-le k q part))
+        ∙ same-move (nodeStart k q part) (omega (arith, start-le k q (heightsIn part)))
         ∙ ap (λ (i : ℕ). moveAt part (nodeStart k i part)) (omega arith)
 
   same-gap : laterInGap d x at all ≡ laterInGap d x (suc q) part

@@ -15,10 +15,10 @@ use Rattle.model.specs.Withdrawing.{without, withdrawNode}
 use Rattle.model.specs.Laws.Bool.{byCases}
 use Rattle.model.specs.Laws.Basics.{each-append, each-left, each-right}
 use Rattle.model.specs.Laws.Tree.{Filled, filled-full, full-filled}
-use Rattle.line.specs.Line.{Placed, lineAt, movesIn}
+use Rattle.line.specs.Line.{Placed, lineAt, movesIn, heightsIn}
 use Rattle.line.specs.Places.{heightAt}
 use Rattle.line.specs.Withdraw.{placeOf, Range, widened, lifted}
-use Rattle.line.specs.Laws.Places.{Starts, starts-lower}
+use Rattle.line.specs.Laws.Places.{FirstAtLeast, starts-lower, height-among}
 use Rattle.line.specs.Laws.Taken.{numbered, holds, none-numbered, Becomes, others-stay, one-becomes, node-goes, node-stays, leaf-numbered, leaf-goes, leaf-without, gone-moves, Holding, holding}
 use Rattle.line.specs.Laws.Line.{filled-whole, line-moves}
 use Rattle.line.specs.Laws.Entries.{following, following-least, regroup, line-pos, lines-start}
@@ -47,7 +47,7 @@ module _ (n : ℕ) (rs : List Placed) where
     pub whole : rs ≡ pre ++ (lineAt h k e ++ post)
     pub full : Filled h e
     pub high : h ≤ k
-    pub follows : Starts h post
+    pub follows : FirstAtLeast h post
     pub under : h < heightAt rs 0
     pub none : Each (λ m. numbered n m ≡ false) (movesIn pre)
     pub one : holds n h e ≡ 1
@@ -94,7 +94,7 @@ module _ (n : ℕ) (rs : List Placed) where
     one-more t = ap (λ (f : ℕ). widened f 0 own rs) (omega arith)
 
     -- An entry that goes, if the widening stops there.
-    cut-entry : (ms : List Move) → h ≤ k → Filled h e → Each (Filled h) back → Starts h post → (length (front ++ back) ≡ 0 → post ≡ [])
+    cut-entry : (ms : List Move) → h ≤ k → Filled h e → Each (Filled h) back → FirstAtLeast h post → (length (front ++ back) ≡ 0 → post ≡ [])
         → List·Permᴰ ms (without n (movesUnder h e)) → Reached h height e before
         → ((f to : ℕ) → widened (suc f) h (record { from = length before; to = to }) rs ≡ record { from = length before; to = to })
         → Cut (suc h) (lineAt (suc h) k node) (lineAt (suc h) k (front ++ back)) pre post ms
@@ -215,8 +215,8 @@ module _ (n : ℕ) (rs : List Placed) where
             withdrawn = node-becomes [] ms g;
             full = left-full [] tt;
             cut =
-                cut-entry ms l entry-full back-full (subst (Starts h) (sym z) tt) (λ o. z) m r
-                (λ f to. stops-at-root f h (record { from = length before; to = to }) rs t);
+                cut-entry ms l entry-full back-full (subst (FirstAtLeast h) (sym z) tt) (λ o. z) m r
+                (λ f to. stops-at-root f h (record { from = length before; to = to }) (heightsIn rs) (height-among rs 0 ∙ t));
           }
       root-cut t z (changes e' ms g v c) =
           record {
@@ -228,7 +228,7 @@ module _ (n : ℕ) (rs : List Placed) where
           }
 
       -- The entry in its own place.
-      entry-placed : rs ≡ pre ++ (lineAt (suc h) k node ++ post) → h < heightAt rs 0 → Starts h post → Each (λ m. numbered n m ≡ false) (movesIn pre)
+      entry-placed : rs ≡ pre ++ (lineAt (suc h) k node ++ post) → h < heightAt rs 0 → FirstAtLeast h post → Each (λ m. numbered n m ≡ false) (movesIn pre)
           → holds n h e ≡ 1 → Placement h height e before after
       unfolding holds
       entry-placed w u s v o =

@@ -11,7 +11,7 @@ use Rattle.line.specs.Line.{Placed, lineAt, movesIn}
 use Rattle.line.specs.Places.{heightAt}
 use Rattle.line.specs.Withdraw.{lifted}
 use Rattle.line.specs.Laws.Line.{row, Whole, restAt, line-cons}
-use Rattle.line.specs.Laws.Places.{Starts}
+use Rattle.line.specs.Laws.Places.{FirstAtLeast}
 use Rattle.line.specs.Laws.Entries.{following, line-append, line-more, lines-start}
 
 pub movesIn-append : (rs ss : List Placed) → movesIn (rs ++ ss) ≡ movesIn rs ++ movesIn ss
@@ -29,7 +29,7 @@ node-parts h k front e back =
 
 -- ---- the row behind the entry that goes starts what it started
 
-lifted-starts : (k : ℕ) (rs : List Placed) → Starts k rs → lifted k rs ≡ rs
+lifted-starts : (k : ℕ) (rs : List Placed) → FirstAtLeast k rs → lifted k rs ≡ rs
 unfolding lifted
 lifted-starts k [] s = refl
 lifted-starts k (r ∷ rs) s = ap (λ (j : ℕ). row (r .move) j ∷ rs) (omega arith)
@@ -41,7 +41,7 @@ lifted-line h j k e rs w l =
     ∙ ap (λ (i : ℕ). row (firstMove h e) i ∷ (restAt h e ++ rs)) (omega arith)
     ∙ ap (λ (ss : List Placed). ss ++ rs) (sym (line-cons h k e w))
 
-pub node-without : (h k : ℕ) → h ≤ k → (front back : List (Entry h)) (post : List Placed) → Each (Whole h) back → Starts h post
+pub node-without : (h k : ℕ) → h ≤ k → (front back : List (Entry h)) (post : List Placed) → Each (Whole h) back → FirstAtLeast h post
     → (length (front ++ back) ≡ 0 → post ≡ [])
     → lineAt (suc h) k front ++ lifted (following k h front) (lineAt (suc h) h back ++ post) ≡ lineAt (suc h) k (front ++ back) ++ post
 unfolding lineAt lifted

@@ -19,7 +19,7 @@ use Rattle.line.specs.Line.{Placed, lineAt}
 use Rattle.line.specs.Places.{moveAt, entryAt, sideAt, setHeight}
 use Rattle.line.specs.Enter.{cutSides, cutEntry}
 use Rattle.line.specs.Laws.Line.{row, Whole, restAt, line-cons}
-use Rattle.line.specs.Laws.Places.{Starts, set-seam}
+use Rattle.line.specs.Laws.Places.{FirstAtLeast, set-seam}
 use Rattle.line.specs.Laws.Entries.{line-seam, line-one, line-more, first-at, last-at, entry-at}
 
 -- ---- the lesser sum
@@ -77,7 +77,7 @@ module _ (h k : ℕ) (xs : List Placed) (es fs : List (Entry h)) (ys : List Plac
   last-right =
       ap₂ moveAt seam-line (omega (arith, parts-length, seam-length)) ∙ last-at (suc h) h fs wf (xs ++ lineAt (suc h) k es) ys
 
-  module _ (d : ℕ) (s : Starts h ys) where
+  module _ (d : ℕ) (s : FirstAtLeast h ys) where
     abbrev whole : List Placed
     whole = xs ++ (lineAt (suc h) k (es ++ fs) ++ ys)
 
@@ -111,7 +111,7 @@ module _ (d h : ℕ) (es : List (Entry h)) where
   split-few g =
       ap (λ (b : Bool). cond b (take (leftPart d h es) es ∷ drop (leftPart d h es) es ∷ []) (es ∷ [])) (le-ltb 8 (length es) g)
 
-module _ (d h k : ℕ) (xs : List Placed) (es : List (Entry h)) (ys : List Placed) (w : Each (Whole h) es) (s : Starts h ys) where
+module _ (d h k : ℕ) (xs : List Placed) (es : List (Entry h)) (ys : List Placed) (w : Each (Whole h) es) (s : FirstAtLeast h ys) where
   abbrev atNode : List Placed
   atNode = xs ++ (lineAt (suc h) k es ++ ys)
 

@@ -17,7 +17,7 @@ use Rattle.model.specs.Laws.Tree.{moves-append, leaf-moves}
 use Rattle.line.specs.Line.{Placed, lineAt}
 use Rattle.line.specs.Enter.{placed}
 use Rattle.line.specs.Laws.Line.{row, Whole, whole-moves, restAt, rest-low, line-cons}
-use Rattle.line.specs.Laws.Places.{Starts}
+use Rattle.line.specs.Laws.Places.{FirstAtLeast}
 use Rattle.line.specs.Laws.Entries.{following, following-least, line-middle, line-one, line-size, lines-start}
 use Rattle.line.specs.Laws.Standing.{parts-each, Before, After, Front, front, not-both, AllBefore, AllAfter, Around, Standing, allBefore, allAfter, within, between, standing, first-after, last-before, child-within}
 use Rattle.line.specs.Laws.Descent.{placeNode, insertPlace, placeIn, place-line, place-in}
@@ -109,7 +109,7 @@ module _ (d : ℕ) (x : Move) where
     unfolding lastMove
     place-less = omega (arith, lead-less noMove (movesUnder (suc h) c) (whole-moves (suc h) c w) (m .last), lead-place d x h c w (m .front))
 
-    row-within : (k : ℕ) (us vs : List Placed) → suc h ≤ k → Starts (suc h) vs
+    row-within : (k : ℕ) (us vs : List Placed) → suc h ≤ k → FirstAtLeast (suc h) vs
         → placed d x (length us + placeIn d h x c) (us ++ (lineAt (suc h) k c ++ vs)) ≡ us ++ (placed d x (placeIn d h x c) (lineAt (suc h) k c) ++ vs)
     row-within k us vs t s =
         let q = placeIn d h x c - 1 in
@@ -164,7 +164,7 @@ module _ (d : ℕ) (x : Move) where
       let wv = each-right (Whole (suc h)) us (c ∷ vs) (w .1) .1 in
       let at = child-within d (suc h) x us c vs (w .1) bs (n .first) (n .last) rs in
       let high = following-least (suc h) k (suc h) us (omega arith) (le-refl (suc h)) in
-      let starts = subst (Starts (suc h)) (append-nil v) (lines-start (suc h) (suc h) (suc h) vs [] wv (le-refl (suc h)) tt) in
+      let starts = subst (FirstAtLeast (suc h)) (append-nil v) (lines-start (suc h) (suc h) (suc h) vs [] wv (le-refl (suc h)) tt) in
       ap₂ (placed d x)
       (place-in d h x us c vs at ∙ ap (λ (i : ℕ). i + placeIn d h x c) (sym (line-size (suc (suc h)) k us)))
       (line-middle (suc h) k us (c ∷ []) vs (omega arith) ∙ ap (λ (zs : List Placed). u ++ (zs ++ v)) (line-one (suc h) j c))

@@ -6,15 +6,15 @@ use mathlib.Core.Path.{_≡_, ap, ap₂, _∙_}
 use native.Mathlib.Omega.{arith}
 use borrow.Author.Tests.{lt-ltb, le-ltb, ne-eqb, eq-eqb}
 use lib.Dec.{eqb, ltb}
-use lib.ListN.{length}
+use lib.ListN.{length, getD}
 use Rattle.model.specs.Basics.{Each}
 use Rattle.model.specs.Tree.{Entry}
 use Rattle.model.specs.Laws.Bool.{or-right, or-left, or-false-both}
-use Rattle.line.specs.Line.{Placed, lineAt, movesIn}
-use Rattle.line.specs.Places.{heightAt, nodeStart, nodeEnd, entries}
-use Rattle.line.specs.Withdraw.{placeOf, Range, widened}
+use Rattle.line.specs.Line.{Placed, lineAt, movesIn, heightsIn}
+use Rattle.line.specs.Places.{startAmong, endAmong, entriesAmong, heightAt, nodeStart, nodeEnd, entries}
+use Rattle.line.specs.Withdraw.{placeOf, Range, widenedAmong, widened}
 use Rattle.line.specs.Laws.Line.{Whole}
-use Rattle.line.specs.Laws.Places.{Starts, entries-between}
+use Rattle.line.specs.Laws.Places.{FirstAtLeast, height-among, entries-between}
 use Rattle.line.specs.Laws.Entries.{node-start-at, node-end-at, count-entries}
 use Rattle.line.specs.Laws.Taken.{numbered}
 
@@ -29,34 +29,38 @@ place-seam n (q ∷ pre) r post (z, zs) o =
 
 -- ---- one turn of the widening
 
-module _ (f l : ℕ) (g : Range) (rs : List Placed) where
-  abbrev pub nodeFrom : ℕ
-  nodeFrom = nodeStart (suc l) (g .from) rs
+module _ (f l : ℕ) (g : Range) (ks : List ℕ) where
+  abbrev nodeFrom : ℕ
+  nodeFrom = startAmong (suc l) (g .from) ks
 
-  abbrev pub nodeTo : ℕ
-  nodeTo = nodeEnd (suc l) (g .from) rs
+  abbrev nodeTo : ℕ
+  nodeTo = endAmong (suc l) (g .from) ks
+
+  abbrev root : Bool
+  root = eqb (getD ks 0 0) (suc l)
+
+  abbrev held : ℕ
+  held = entriesAmong l nodeFrom nodeTo ks
 
   abbrev turn : Bool → Range
-  turn b = elim b [ true ↦ g | false ↦ widened f (suc l) (record { from = nodeFrom; to = nodeTo }) rs ]
+  turn b = elim b [ true ↦ g | false ↦ widenedAmong f (suc l) (record { from = nodeFrom; to = nodeTo }) ks ]
 
-  pub stops-at-root : heightAt rs 0 ≡ suc l → widened (suc f) l g rs ≡ g
-  unfolding widened
-  stops-at-root e = ap turn (or-left (eqb (heightAt rs 0) (suc l)) (ltb 3 (entries l nodeFrom nodeTo rs)) (eq-eqb (heightAt rs 0) (suc l) e))
+  pub stops-at-root : getD ks 0 0 ≡ suc l → widenedAmong (suc f) l g ks ≡ g
+  unfolding widenedAmong
+  stops-at-root e = ap turn (or-left root (ltb 3 held) (eq-eqb (getD ks 0 0) (suc l) e))
 
-  pub stops : 3 < entries l nodeFrom nodeTo rs → widened (suc f) l g rs ≡ g
-  unfolding widened
-  stops c = ap turn (or-right (eqb (heightAt rs 0) (suc l)) (ltb 3 (entries l nodeFrom nodeTo rs)) (lt-ltb 3 (entries l nodeFrom nodeTo rs) c))
+  pub stops : 3 < held → widenedAmong (suc f) l g ks ≡ g
+  unfolding widenedAmong
+  stops c = ap turn (or-right root (ltb 3 held) (lt-ltb 3 held c))
 
-  pub grows : suc l < heightAt rs 0 → entries l nodeFrom nodeTo rs ≤ 3 → widened (suc f) l g rs ≡ widened f (suc l) (record { from = nodeFrom; to = nodeTo }) rs
-  unfolding widened
+  pub grows : suc l < getD ks 0 0 → held ≤ 3 → widenedAmong (suc f) l g ks ≡ widenedAmong f (suc l) (record { from = nodeFrom; to = nodeTo }) ks
+  unfolding widenedAmong
   grows b c =
-      ap turn
-      (or-false-both (eqb (heightAt rs 0) (suc l)) (ltb 3 (entries l nodeFrom nodeTo rs)) (ne-eqb (heightAt rs 0) (suc l) (λ e. omega arith))
-      (le-ltb 3 (entries l nodeFrom nodeTo rs) c))
+      ap turn (or-false-both root (ltb 3 held) (ne-eqb (getD ks 0 0) (suc l) (λ e. omega arith)) (le-ltb 3 held c))
 
 -- A node in its line, found from a place q rows behind its first.
 module _ (h k : ℕ) (es : List (Entry h)) (w : Whole (suc h) es) (pre post rs : List Placed)
-    (whole : rs ≡ pre ++ (lineAt (suc h) k es ++ post)) (high : suc h ≤ k) (follows : Starts (suc h) post)
+    (whole : rs ≡ pre ++ (lineAt (suc h) k es ++ post)) (high : suc h ≤ k) (follows : FirstAtLeast (suc h) post)
     (i q : ℕ) (at : i ≡ length pre + q) (inside : q < length (lineAt (suc h) k es)) where
   found-start : nodeStart (suc h) i rs ≡ length pre
   found-start = ap₂ (nodeStart (suc h)) at whole ∙ node-start-at (suc h) k es w pre post q inside high
@@ -72,11 +76,11 @@ module _ (h k : ℕ) (es : List (Entry h)) (w : Whole (suc h) es) (pre post rs :
       ∙ count-entries h k es (w .1) (omega arith)
 
   pub node-stops : 3 < length es → (f to : ℕ) → widened (suc f) h (record { from = i; to = to }) rs ≡ record { from = i; to = to }
-  node-stops c f to = stops f h (record { from = i; to = to }) rs (omega (arith, found-entries))
+  node-stops c f to = stops f h (record { from = i; to = to }) (heightsIn rs) (omega (arith, found-entries))
 
   pub node-grows : length es ≤ 3 → suc h < heightAt rs 0 → (f to : ℕ)
       → widened (suc f) h (record { from = i; to = to }) rs
       ≡ widened f (suc h) (record { from = length pre; to = length pre + length (lineAt (suc h) k es) }) rs
   node-grows c b f to =
-      grows f h (record { from = i; to = to }) rs b (omega (arith, found-entries))
+      grows f h (record { from = i; to = to }) (heightsIn rs) (omega (arith, height-among rs 0)) (omega (arith, found-entries))
       ∙ ap₂ (λ (s e : ℕ). widened f (suc h) (record { from = s; to = e }) rs) found-start found-end

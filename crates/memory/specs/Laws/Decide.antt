@@ -150,7 +150,7 @@ module _ (m : List ℕ) where
     same-order = λ i. orderRight (f i) (g i) (h i) m
 
     same-heights : heightsRight (heightsFrom c n m) ≡ heightsRight (heightsIn (lineIn m))
-    unfolding lineIn heightsFrom
+    unfolding lineIn
     same-heights = ap heightsRight (sym (heightsIn-line c d n m)) ∙ (λ i. heightsRight (heightsIn (lineFrom (f i) (g i) (h i) m)))
 
     same-marks : marksRight c d n m ≡ marksRight (sizeIn m) (dimensionIn m) (countIn m) m

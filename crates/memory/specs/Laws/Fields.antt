@@ -7,13 +7,13 @@ use mathlib.Core.Path.{_≡_, ap}
 use native.Mathlib.Omega.{arith}
 use Rattle.zorder.specs.Address.{rowCosts, padded}
 use Rattle.promises.specs.Layout.{numberPlace, heightPlace, markPlace, costPlace, workPlace, numberIn, heightIn, markIn, costIn, workIn, costsIn}
-use Rattle.memory.specs.Frame.{Frame, RowsOnly, MarksOnly, CostsOnly, WorkOnly}
+use Rattle.memory.specs.Frame.{DifferWithin, RowsOnly, MarksOnly, CostsOnly, WorkOnly}
 use Rattle.memory.specs.Laws.Frames.{Apart, byte-across, word-across}
 use Rattle.promises.specs.Laws.Tab.{tab-ext}
 
 -- ---- each field, over any frame
 
-module _ {a b : ℕ} {m m' : List ℕ} (f : Frame a b m m') where
+module _ {a b : ℕ} {m m' : List ℕ} (f : DifferWithin a b m m') where
   module _ (c : ℕ) where
     pub number-over : (i : ℕ) → Apart a b (16 + 2 * i) (18 + 2 * i) → numberIn c m' i ≡ numberIn c m i
     unfolding numberIn numberPlace
@@ -40,7 +40,7 @@ module _ {a b : ℕ} {m m' : List ℕ} (f : Frame a b m m') where
 
 -- ---- over the frames that occur
 
-module _ (c : ℕ) {m m' : List ℕ} (f : Frame 0 16 m m') where
+module _ (c : ℕ) {m m' : List ℕ} (f : DifferWithin 0 16 m m') where
   pub number-over-head : (i : ℕ) → numberIn c m' i ≡ numberIn c m i
   number-over-head i = number-over f c i (inr (omega arith))
 

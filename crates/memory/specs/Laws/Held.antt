@@ -22,7 +22,7 @@ use Rattle.promises.specs.Layout.{sizeIn, dimensionIn, countIn, numberIn, markI
 use Rattle.promises.specs.Sound.{Stands, Sound}
 use Rattle.promises.specs.Run.{Bytes}
 use Rattle.promises.specs.Laws.Stands.{stands-dimension, stands-moves, stands-order, stands-fit, stands-once}
-use Rattle.memory.specs.Room.{Room, Numbers, Readable}
+use Rattle.memory.specs.Room.{Room, Numbers, ReadableRows}
 use Rattle.memory.specs.Held.{SoundAt, HeldIn}
 use Rattle.memory.specs.Tests.{isListed}
 use Rattle.promises.specs.Laws.Tab.{length-tab, getD-tab, map-tab}
@@ -129,9 +129,10 @@ unfolding HeldIn
 unsound-held {m} p e = subst (HeldIn m) e p
 
 -- Sound memory can be read.
-pub held-readable : {h : Head} {m : List ℕ} → SoundAt (h .size) (h .dimension) (h .count) m → Readable h m
-held-readable {h} {m} s =
-    let c = h .size in
-    let d = h .dimension in
-    let n = h .count in
+pub held-readable : {c d n : ℕ} {m : List ℕ} → SoundAt c d n m → ReadableRows c d n m
+held-readable {c} {d} {n} {m} s =
     record { room = held-room c d n m s; rows = held-few c d n m s; numbers = held-numbers c d n m s; dimension = held-dimension c d n m s }
+
+-- Where rows can be read, fewer of them can.
+pub fewer-readable : {c d n e : ℕ} {m : List ℕ} → ReadableRows c d n m → e ≤ n → ReadableRows c d e m
+fewer-readable r h = record { room = r .room; rows = omega (arith, r .rows); numbers = λ i l. r .numbers i (omega arith); dimension = r .dimension }

@@ -11,16 +11,25 @@ use Rattle.model.specs.Moves.{Move}
 use Rattle.line.specs.Line.{Placed, none, movesIn, heightsIn}
 use Rattle.line.specs.Places as places
 use Rattle.line.specs.Places.{moveAt, heightAt, insertAt}
-use Rattle.promises.specs.Layout.{sizeIn, dimensionIn, countIn, numberIn, heightIn, costsIn, moveIn, placedIn, tab, lineFrom, lineIn}
+use Rattle.promises.specs.Layout.{sizeIn, dimensionIn, countIn, numberIn, heightIn, costsIn, moveIn, placedIn, tab, heightsFrom, lineFrom, lineIn}
 use Rattle.memory.specs.Room.{Room, Numbers}
 use Rattle.memory.specs.Stores.{setHeight, setCosts}
-use Rattle.memory.specs.Frame.{Frame, MarksOnly, WorkOnly}
+use Rattle.memory.specs.Frame.{DifferWithin, MarksOnly, WorkOnly}
 use Rattle.promises.specs.Laws.Tab.{each-tab, length-tab, getD-tab, tab-ext, tab-set, tab-insert, map-tab}
 use Rattle.memory.specs.Laws.Places.{tab-each}
 use Rattle.memory.specs.Laws.Fields.{number-over-head, height-over-head, costs-over-head, costs-over-rows, number-over-marks, height-over-marks, costs-over-marks, number-over-costs, height-over-costs, number-over-work, height-over-work, costs-over-work}
 use Rattle.memory.specs.Laws.Stored.{setHeight-rows, setCosts-costs, number-setHeight, height-setHeight, height-setHeight-other, costs-setCosts-other}
 
 -- ---- place by place
+
+module _ (c n : ℕ) (m : List ℕ) where
+  pub length-heightsFrom : length (heightsFrom c n m) ≡ n
+  unfolding heightsFrom
+  length-heightsFrom = length-tab (heightIn c m) n
+
+  pub getD-heightsFrom : (i : ℕ) → i < n → getD (heightsFrom c n m) i 0 ≡ heightIn c m i
+  unfolding heightsFrom
+  getD-heightsFrom i h = getD-tab (heightIn c m) 0 n i h
 
 module _ (c d n : ℕ) (m : List ℕ) where
   pub length-line : length (lineFrom c d n m) ≡ n
@@ -43,8 +52,8 @@ module _ (c d n : ℕ) (m : List ℕ) where
   unfolding lineFrom movesIn placedIn
   movesIn-line = map-tab (λ (r : Placed). r .move) (placedIn c d m) n
 
-  pub heightsIn-line : heightsIn (lineFrom c d n m) ≡ tab (heightIn c m) n
-  unfolding lineFrom heightsIn placedIn
+  pub heightsIn-line : heightsIn (lineFrom c d n m) ≡ heightsFrom c n m
+  unfolding lineFrom heightsIn heightsFrom placedIn
   heightsIn-line = map-tab (λ (r : Placed). r .height) (placedIn c d m) n
 
   pub numbers-each : Numbers c n m → Each (λ r. r .move .number < c) (lineFrom c d n m)
@@ -87,7 +96,7 @@ module _ (c d : ℕ) (m m' : List ℕ) where
   line-insert = tab-insert (placedIn c d m) (placedIn c d m')
 
 module _ (c d n : ℕ) {m m' : List ℕ} where
-  pub line-over-head : Frame 0 16 m m' → lineFrom c d n m' ≡ lineFrom c d n m
+  pub line-over-head : DifferWithin 0 16 m m' → lineFrom c d n m' ≡ lineFrom c d n m
   line-over-head f = line-ext c d m m' n (λ i h. number-over-head c f i) (λ i h. height-over-head c f i) (λ i h. costs-over-head c f d _)
 
   pub line-over-marks : MarksOnly c m m' → n ≤ c → lineFrom c d n m' ≡ lineFrom c d n m

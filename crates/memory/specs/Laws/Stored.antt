@@ -16,7 +16,7 @@ use Rattle.zorder.specs.Laws.Between.{row-padded}
 use Rattle.promises.specs.Layout.{setWord, numberPlace, heightPlace, markPlace, costPlace, workPlace, sizeIn, dimensionIn, countIn, numberIn, heightIn, markIn, costIn, workIn, costsIn}
 use Rattle.memory.specs.Room.{Room}
 use Rattle.memory.specs.Stores.{setHead, setCount, setNumber, setHeight, setListed, setCostsFrom, setCosts, setWork}
-use Rattle.memory.specs.Frame.{Frame, RowsOnly, MarksOnly, CostsOnly, WorkOnly}
+use Rattle.memory.specs.Frame.{DifferWithin, RowsOnly, MarksOnly, CostsOnly, WorkOnly}
 use Rattle.memory.specs.Laws.Frames.{frame-refl, frame-trans, frame-widen, byte-frame, word-frame, byte-across, word-across, word-stored, word-length}
 use Rattle.memory.specs.Laws.Fields.{number-over, height-over, mark-over, costs-over, work-over}
 use Rattle.promises.specs.Laws.Tab.{tab-of}
@@ -30,11 +30,11 @@ apart {i} {j} ne = go (decLt j i)
 
 -- ---- frames
 
-pub setCount-frame : (n : ℕ) (m : List ℕ) → Frame 4 6 m (setCount n m)
+pub setCount-frame : (n : ℕ) (m : List ℕ) → DifferWithin 4 6 m (setCount n m)
 unfolding setCount
 setCount-frame n m = word-frame 4 n m
 
-pub setHead-frame : (c d n : ℕ) (m : List ℕ) → Frame 0 16 m (setHead c d n m)
+pub setHead-frame : (c d n : ℕ) (m : List ℕ) → DifferWithin 0 16 m (setHead c d n m)
 unfolding setHead
 setHead-frame c d n m =
     let m₁ : List ℕ = setWord 0 c m in
@@ -43,30 +43,30 @@ setHead-frame c d n m =
     (frame-trans (frame-widen (omega arith) (omega arith) (byte-frame 2 d m₁)) (frame-widen (omega arith) (omega arith) (word-frame 4 n m₂)))
 
 module _ (c i : ℕ) (m : List ℕ) where
-  pub setNumber-frame : (v : ℕ) → Frame (16 + 2 * i) (18 + 2 * i) m (setNumber c i v m)
+  pub setNumber-frame : (v : ℕ) → DifferWithin (16 + 2 * i) (18 + 2 * i) m (setNumber c i v m)
   unfolding setNumber numberPlace
   setNumber-frame v = frame-widen (omega arith) (omega arith) (word-frame (16 + 2 * i) v m)
 
-  pub setHeight-frame : (h : ℕ) → Frame (16 + 2 * c + i) (17 + 2 * c + i) m (setHeight c i h m)
+  pub setHeight-frame : (h : ℕ) → DifferWithin (16 + 2 * c + i) (17 + 2 * c + i) m (setHeight c i h m)
   unfolding setHeight heightPlace
   setHeight-frame h = frame-widen (omega arith) (omega arith) (byte-frame (16 + 2 * c + i) h m)
 
-  pub setListed-frame : (b : Bool) → Frame (16 + 3 * c + i) (17 + 3 * c + i) m (setListed c i b m)
+  pub setListed-frame : (b : Bool) → DifferWithin (16 + 3 * c + i) (17 + 3 * c + i) m (setListed c i b m)
   unfolding setListed markPlace
   setListed-frame b = frame-widen (omega arith) (omega arith) (byte-frame (16 + 3 * c + i) (cond b 1 0) m)
 
-  pub setWork-frame : (v : ℕ) → Frame (16 + 21 * c + 2 * i) (18 + 21 * c + 2 * i) m (setWork c i v m)
+  pub setWork-frame : (v : ℕ) → DifferWithin (16 + 21 * c + 2 * i) (18 + 21 * c + 2 * i) m (setWork c i v m)
   unfolding setWork workPlace
   setWork-frame v = frame-widen (omega arith) (omega arith) (word-frame (16 + 21 * c + 2 * i) v m)
 
-setCostsFrom-frame : (c n j : ℕ) (vs m : List ℕ) → Frame (16 + 5 * c + 16 * n + 2 * j) (16 + 5 * c + 16 * n + 2 * (j + length vs)) m (setCostsFrom c n j vs m)
+setCostsFrom-frame : (c n j : ℕ) (vs m : List ℕ) → DifferWithin (16 + 5 * c + 16 * n + 2 * j) (16 + 5 * c + 16 * n + 2 * (j + length vs)) m (setCostsFrom c n j vs m)
 unfolding setCostsFrom costPlace
 setCostsFrom-frame c n j [] m = frame-refl m
 setCostsFrom-frame c n j (v ∷ vs) m =
     frame-trans (frame-widen (omega arith) (omega arith) (word-frame (costPlace c n j) v m))
     (frame-widen (omega arith) (omega arith) (setCostsFrom-frame c n (suc j) vs (setWord (costPlace c n j) v m)))
 
-pub setCosts-frame : (c n : ℕ) (costs m : List ℕ) → Frame (16 + 5 * c + 16 * n) (16 + 5 * c + 16 * n + 2 * length costs) m (setCosts c n costs m)
+pub setCosts-frame : (c n : ℕ) (costs m : List ℕ) → DifferWithin (16 + 5 * c + 16 * n) (16 + 5 * c + 16 * n + 2 * length costs) m (setCosts c n costs m)
 unfolding setCosts
 setCosts-frame c n costs m = frame-widen (omega arith) (omega arith) (setCostsFrom-frame c n 0 costs m)
 
@@ -87,7 +87,7 @@ module _ (c i : ℕ) (m : List ℕ) (h : i < c) where
   pub setWork-work : (v : ℕ) → WorkOnly c m (setWork c i v m)
   setWork-work v = frame-widen (omega arith) (omega arith) (setWork-frame c i m v)
 
-pub setCount-head : (n : ℕ) (m : List ℕ) → Frame 0 16 m (setCount n m)
+pub setCount-head : (n : ℕ) (m : List ℕ) → DifferWithin 0 16 m (setCount n m)
 setCount-head n m = frame-widen (omega arith) (omega arith) (setCount-frame n m)
 
 -- ---- the length

@@ -13,7 +13,7 @@ use Rattle.promises.specs.Written.{inArea, changeWrites, loadWrites}
 use Rattle.promises.specs.Laws.Written.{in-area, writes-count, writes-rows, writes-costs, leaves-head}
 use Rattle.memory.specs.Room.{Room}
 use Rattle.memory.specs.Stores.{setHead, setCount}
-use Rattle.memory.specs.Frame.{Frame, Only, ChangeOnly, RowsOnly, MarksOnly, CostsOnly, WorkOnly}
+use Rattle.memory.specs.Frame.{DifferWithin, Only, ChangeOnly, RowsOnly, MarksOnly, CostsOnly, WorkOnly}
 use Rattle.memory.specs.Laws.Frames.{byte-frame, word-frame}
 
 -- ---- frames over a test
@@ -28,7 +28,7 @@ pub only-room : (c : ℕ) {writes : ℕ → Bool} {m m' : List ℕ} → Only wri
 only-room c f room = (omega (arith, f .length), room .1)
 
 -- A range of places that the test holds of.
-pub range-only : {a b : ℕ} {m m' : List ℕ} (writes : ℕ → Bool) → ((i : ℕ) → a ≤ i → i < b → writes i ≡ true) → Frame a b m m' → Only writes m m'
+pub range-only : {a b : ℕ} {m m' : List ℕ} (writes : ℕ → Bool) → ((i : ℕ) → a ≤ i → i < b → writes i ≡ true) → DifferWithin a b m m' → Only writes m m'
 range-only {a} {b} {m} {m'} writes written f = record { length = f .length; same = λ i free. go i free (decLt i a) (decLt i b) }
   where
     go : (i : ℕ) → writes i ≡ false → Dec (i < a) → Dec (i < b) → getD m' i 0 ≡ getD m i 0

@@ -6,7 +6,7 @@ use mathlib.Core.Logic.{_⊎_, inl, inr, ⊎-elim}
 use mathlib.Core.Path.{_≡_, refl, sym, ap, ap₂, _∙_, subst}
 use native.Mathlib.Nat.{zero-lt-suc, not-suc-le-zero, le-of-suc-le-suc}
 use lib.Dec.{eqb}
-use lib.ListN.{length, getD, set, length-append}
+use lib.ListN.{length, getD, set, length-append, length-map}
 use borrow.Author.Tests.{eqb-true, eq-eqb}
 use Rattle.model.specs.Basics.{Each, consIf, select, any, all, count, lastOr, equal}
 use Rattle.model.specs.Laws.Bool.{and-left, and-right, and-both, or-cases, or-left, or-right, or-false-left, or-false-right, or-false-both, same-test, both-ways}
@@ -269,6 +269,10 @@ module _ {A B : Type 0} where
     unfolding select
     select-map [] = refl
     select-map (x ∷ xs) = ap (consIf (p (f x)) (f x)) (select-map xs) ∙ sym (map-consIf f (p (f x)) x (select (λ x. p (f x)) xs))
+
+    pub count-map : (xs : List A) → count p (map f xs) ≡ count (λ x. p (f x)) xs
+    unfolding count
+    count-map xs = ap length (select-map xs) ∙ length-map (select (λ x. p (f x)) xs) f
 
 -- ---- two lists of numbers
 

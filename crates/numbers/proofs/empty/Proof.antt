@@ -1,17 +1,12 @@
 -- `empty` meets its contract. Assumes nothing.
-use Prim.Native.Nat.{ℕ, zero, suc, _/_, _%_, _^_}
-use mathlib.Core.Path.{_≡_, refl, ap, _∙_}
+use Prim.Native.Nat.{ℕ, _/_, _%_, _^_}
+use mathlib.Core.Path.{ap, _∙_}
 use native.Mathlib.Nat.{zero-div}
 use lib.Dec.{eqb}
-use lib.ListN.{getD, replicate}
+use Rattle.zorder.specs.Laws.Between.{getD-zeros}
 use Rattle.numbers.specs.Set.{inSet}
 use Rattle.numbers.proofs.empty.Statement.{statement}
 use Rattle.numbers.proofs.empty.Tie as tie
-
-getD-zeros : (n i : ℕ) → _≡_ {A = ℕ} (getD (replicate n 0) i 0) 0
-getD-zeros zero i = refl
-getD-zeros (suc n) zero = refl
-getD-zeros (suc n) (suc i) = getD-zeros n i
 
 returns : tie.Need-returns
 unfolding inSet

@@ -14,7 +14,7 @@ use Rattle.model.specs.Loading.{loadTree}
 use Rattle.model.specs.Changing.{changeTree}
 use Rattle.model.specs.Calls.{Board, memoryNeed, loaded, Change, changed}
 use Rattle.model.specs.Laws.Bool.{and-right, and-both, and-false-right, or-false-both, or-left, or-right}
-use Rattle.promises.specs.Layout.{sizeIn, dimensionIn, boardIn}
+use Rattle.promises.specs.Layout.{countPlace, numberPlace, markPlace, costPlace, workPlace, sizeIn, dimensionIn, boardIn}
 use Rattle.promises.specs.Sound.{Sound}
 use Rattle.promises.specs.Written.{inArea, changeWrites, loadWrites}
 use Rattle.promises.specs.Promise.{Kept, MemoryAfter, LoadPromise, ChangePromise}
@@ -44,37 +44,45 @@ module _ (a b i : ℕ) where
 -- ---- what a change writes, and what not
 
 module _ (c i : ℕ) where
+  abbrev counted : Bool
+  counted = inArea countPlace (countPlace + 2) i
+
+  abbrev fields : Bool
+  fields = inArea (numberPlace c 0) (workPlace c c) i
+
   abbrev blocks : Bool
-  blocks = inArea (16 + 4 * c) (16 + 5 * c) i
+  blocks = inArea (markPlace c c) (costPlace c 0 0) i
 
   pub writes-count : 4 ≤ i → i < 6 → changeWrites c i ≡ true
   unfolding changeWrites
-  writes-count l u = or-left (inArea 4 6 i) (inArea 16 (16 + 23 * c) i && not blocks) (in-area 4 6 i l u)
+  writes-count l u = or-left counted (fields && not blocks) (in-area 4 6 i l u)
 
-  area-written : 16 ≤ i → i < 16 + 23 * c → inArea (16 + 4 * c) (16 + 5 * c) i ≡ false → changeWrites c i ≡ true
-  unfolding changeWrites
+  area-written : 16 ≤ i → i < 16 + 23 * c → blocks ≡ false → changeWrites c i ≡ true
+  unfolding changeWrites numberPlace workPlace
   area-written l u free =
-      or-right (inArea 4 6 i) (inArea 16 (16 + 23 * c) i && not blocks)
-      (and-both (inArea 16 (16 + 23 * c) i) (not blocks) (in-area 16 (16 + 23 * c) i l u) (ap not free))
+      or-right counted (fields && not blocks)
+      (and-both fields (not blocks) (in-area (numberPlace c 0) (workPlace c c) i l (omega arith)) (ap not free))
 
   pub writes-rows : 16 ≤ i → i < 16 + 4 * c → changeWrites c i ≡ true
-  writes-rows l u = area-written l (omega arith) (before-area (16 + 4 * c) (16 + 5 * c) i u)
+  unfolding markPlace
+  writes-rows l u = area-written l (omega arith) (before-area (markPlace c c) (costPlace c 0 0) i (omega arith))
 
   pub writes-costs : 16 + 5 * c ≤ i → i < 16 + 23 * c → changeWrites c i ≡ true
-  writes-costs l u = area-written (omega arith) u (past-area (16 + 4 * c) (16 + 5 * c) i l)
+  unfolding costPlace
+  writes-costs l u = area-written (omega arith) u (past-area (markPlace c c) (costPlace c 0 0) i (omega arith))
 
   -- C, d and the byte behind them.
   pub leaves-head : i < 4 → changeWrites c i ≡ false
-  unfolding changeWrites
+  unfolding changeWrites numberPlace
   leaves-head l =
-      or-false-both (inArea 4 6 i) (inArea 16 (16 + 23 * c) i && not blocks) (before-area 4 6 i l)
-      (ap (λ (t : Bool). t && not blocks) (before-area 16 (16 + 23 * c) i (omega arith)))
+      or-false-both counted (fields && not blocks) (before-area 4 6 i l)
+      (ap (λ (t : Bool). t && not blocks) (before-area (numberPlace c 0) (workPlace c c) i (omega arith)))
 
   change-ends : 16 + 23 * c ≤ i → changeWrites c i ≡ false
-  unfolding changeWrites
+  unfolding changeWrites workPlace
   change-ends l =
-      or-false-both (inArea 4 6 i) (inArea 16 (16 + 23 * c) i && not blocks) (past-area 4 6 i (omega arith))
-      (ap (λ (t : Bool). t && not blocks) (past-area 16 (16 + 23 * c) i l))
+      or-false-both counted (fields && not blocks) (past-area 4 6 i (omega arith))
+      (ap (λ (t : Bool). t && not blocks) (past-area (numberPlace c 0) (workPlace c c) i (omega arith)))
 
   load-ends : 16 + 23 * c ≤ i → loadWrites c i ≡ false
   unfolding loadWrites

@@ -116,7 +116,7 @@ module _ {c d n k : ℕ} {m₀ : List ℕ} (asked : SavedAsked c d n k m₀) whe
     still-new : (v : ℕ) (t : Tree) {i : ℕ} → RowsHold c d i m t → eqb (workIn c m₀ j) v ≡ false → onBoard v (movesOf t) ≡ false → onBoard v (movesOf (enterTree d x t)) ≡ false
     unfolding onBoard insert
     still-new v t h ne new =
-        ap (onBoard v) (enter-moves d (Fit c d) (move-order d c (h .dimension)) x fit t (h .rules) (h .fits))
+        ap (onBoard v) (enter-moves d (Fit c d) (move-order d c (h .readable .dimension)) x fit t (h .rules) (h .fits))
         ∙ any-insert (moveBefore d) (λ y. eqb (y .number) v) x (movesOf t)
         ∙ or-false-both (eqb (workIn c m₀ j) v) (onBoard v (movesOf t)) ne new
 

@@ -8,11 +8,11 @@ use native.Mathlib.Numerals.{add-one}
 use native.Mathlib.Omega.{arith}
 use borrow.Author.Tests.{lt-ltb, le-ltb, eq-eqb, ne-eqb}
 use lib.Dec.{eqb}
-use Rattle.line.specs.Line.{Placed}
+use Rattle.line.specs.Line.{Placed, heightsIn}
 use Rattle.line.specs.Places as places
 use Rattle.line.specs.Places.{heightAt, nodeStart, nodeEnd, entries, entryAt}
 use Rattle.line.specs.Enter.{cutEntry, splitAt, cascade}
-use Rattle.line.specs.Laws.Places.{start-high}
+use Rattle.line.specs.Laws.Places.{height-among, start-high}
 use Rattle.promises.specs.Layout.{heightIn, lineFrom}
 use Rattle.memory.specs.Room.{Numbers}
 use Rattle.memory.specs.Stores.{setHeight}
@@ -21,6 +21,7 @@ use Rattle.memory.specs.Laws.Frames.{frame-refl, frame-trans, room-over}
 use Rattle.memory.specs.Laws.Stored.{setHeight-rows, number-setHeight, height-setHeight, height-setHeight-other}
 use Rattle.memory.specs.Laws.Lines.{heightAt-line, line-setHeight}
 use Rattle.tree.specs.Rows.{NodeStart, NodeEnd, Entries}
+use Rattle.tree.specs.Laws.Heights.{end-line, start-line, entries-line}
 use Rattle.tree.specs.Split.{NodeOfNine, CutPlace, Cut, CascadeAsked, Cascaded}
 
 -- ---- the cut made
@@ -44,13 +45,13 @@ module _ {c d n l s e q : ℕ} {m : List ℕ} (asked : NodeOfNine c d n l s e m)
   inside = omega (arith, place .within, asked .ends)
 
   cut-frame : RowsOnly c m cut
-  cut-frame = setHeight-rows c q m (omega (arith, inside, asked .rows)) l
+  cut-frame = setHeight-rows c q m (omega (arith, inside, asked .readable .rows)) l
 
   cut-line : lineFrom c d n cut ≡ halved d l s e rs
-  cut-line = line-setHeight c d n m q l (asked .room) inside (asked .rows) ∙ ap (λ (i : ℕ). places.setHeight i l rs) (place .is)
+  cut-line = line-setHeight c d n m q l (asked .readable .room) inside (asked .readable .rows) ∙ ap (λ (i : ℕ). places.setHeight i l rs) (place .is)
 
   cut-numbers : Numbers c n cut
-  cut-numbers i h = omega (arith, number-setHeight c q m i l (omega (arith, asked .rows)), asked .numbers i h)
+  cut-numbers i h = omega (arith, number-setHeight c q m i l (omega (arith, asked .readable .rows)), asked .readable .numbers i h)
 
   cut-top : heightIn c cut 0 ≡ heightIn c m 0
   cut-top = height-setHeight-other c q m 0 (λ z. omega (arith, place .after)) l
@@ -71,14 +72,14 @@ module _ {c d n l s e q : ℕ} {m : List ℕ} (asked : NodeOfNine c d n l s e m)
 
   pub cut-root : {m' m'' : List ℕ} → m' ≡ cut → m'' ≡ setHeight c 0 (l + 1) m' → heightIn c m 0 ≡ l → Cut c d n l s e m m''
   cut-root is root eq =
-      let room = room-over c cut-frame (asked .room) in
-      let some : 0 < c = omega (arith, inside, asked .rows) in
+      let room = room-over c cut-frame (asked .readable .room) in
+      let some : 0 < c = omega (arith, inside, asked .readable .rows) in
       subst (Cut c d n l s e m) (sym (root ∙ ap₂ (setHeight c 0) (add-one l) is))
       (record {
         line =
             by-root true (eq-eqb (heightIn c m 0) l eq)
-            (line-setHeight c d n cut 0 (suc l) room (omega (arith, inside)) (asked .rows) ∙ ap (places.setHeight 0 (suc l)) cut-line);
-        numbers = λ i h. omega (arith, number-setHeight c 0 cut i (suc l) (omega (arith, asked .rows)), cut-numbers i h);
+            (line-setHeight c d n cut 0 (suc l) room (omega (arith, inside)) (asked .readable .rows) ∙ ap (places.setHeight 0 (suc l)) cut-line);
+        numbers = λ i h. omega (arith, number-setHeight c 0 cut i (suc l) (omega (arith, asked .readable .rows)), cut-numbers i h);
         top = omega (arith, height-setHeight c 0 cut room some (suc l));
         frame = frame-trans cut-frame (setHeight-rows c 0 cut some (suc l));
       })
@@ -117,7 +118,7 @@ module _ {c d n p : ℕ} {m : List ℕ} (asked : CascadeAsked c d n p m) where
         level = omega arith;
         turns = omega arith;
         top = omega arith;
-        numbers = asked .numbers;
+        numbers = asked .readable .numbers;
         frame = frame-refl m;
       }
 
@@ -132,13 +133,13 @@ module _ {c d n p : ℕ} {m : List ℕ} (asked : CascadeAsked c d n p m) where
       line k = lineFrom c k n m'
 
       s-is : s ≡ nodeStart l p (line d)
-      s-is = start .is d n (asked .place)
+      s-is = start-line d start (asked .place)
 
       e-is : e ≡ nodeEnd l p (line d)
-      e-is = end .is d
+      e-is = end-line d end
 
       r-is : r ≡ here d l p (line d)
-      r-is = held .is d n (end .within) ∙ ap₂ (λ (i j : ℕ). entries (l - 1) i j (line d)) s-is e-is
+      r-is = entries-line d held (end .within) ∙ ap₂ (λ (i j : ℕ). entries (l - 1) i j (line d)) s-is e-is
 
       pub climb-few : r ≤ 8 → Cascaded c d n p m m'
       climb-few few =
@@ -148,21 +149,24 @@ module _ {c d n p : ℕ} {m : List ℕ} (asked : CascadeAsked c d n p m) where
       starts more =
           ⊎-elim
           (λ z. omega (arith, climbed .turns, climbed .top, ap (heightIn c m') (s-is ∙ z)))
-          (λ h. omega (arith, ap (heightAt (line d)) s-is, heightAt-line c d n m' s (omega (arith, start .within, asked .place))))
-          (start-high l (line d) p)
+          (λ h. omega (arith, height-among (line d) (nodeStart l p (line d)), ap (heightAt (line d)) s-is, heightAt-line c d n m' s (omega (arith, start .within, asked .place))))
+          (start-high l (heightsIn (line d)) p)
 
       pub climb-nine : 0 < left → 8 < r → NodeOfNine c d n l s e m'
       climb-nine more nine =
           record {
-            room = room-over c (climbed .frame) (asked .room);
-            rows = asked .rows;
-            numbers = climbed .numbers;
-            dimension = asked .dimension;
+            readable =
+                record {
+                  room = room-over c (climbed .frame) (asked .readable .room);
+                  rows = asked .readable .rows;
+                  numbers = climbed .numbers;
+                  dimension = asked .readable .dimension;
+                };
             level = climbed .level;
             low = omega (arith, climbed .turns, asked .low);
             ends = end .within;
             starts = starts more;
-            nine = λ k. omega (arith, held .is k n (end .within));
+            nine = omega (arith, held .is n (end .within));
           }
 
       split-line : {m'' : List ℕ} → Cut c d n l s e m' m'' → lineFrom c d n m'' ≡ splitAt d l p (line d)

@@ -8,11 +8,12 @@ use borrow.Author.Tests.{lt-ltb, le-ltb}
 use lib.Dec.{ltb}
 use Rattle.model.specs.Entering.{leastBy}
 use Rattle.model.specs.Laws.Bool.{condCases}
-use Rattle.line.specs.Line.{Placed}
-use Rattle.line.specs.Places.{nodeEnd, entryAt, sideAt}
+use Rattle.line.specs.Line.{Placed, heightsIn}
+use Rattle.line.specs.Places.{entryAmong, nodeEnd, entryAt, sideAt}
 use Rattle.line.specs.Enter.{cutSides, cutEntry}
-use Rattle.promises.specs.Layout.{lineFrom}
-use Rattle.memory.specs.Laws.Lines.{length-line, heightAt-line}
+use Rattle.promises.specs.Layout.{heightsFrom, lineFrom}
+use Rattle.memory.specs.Laws.Lines.{length-heightsFrom, getD-heightsFrom, heightsIn-line}
+use Rattle.memory.specs.Laws.Held.{fewer-readable}
 use Rattle.tree.specs.Rows.{EntryAsked}
 use Rattle.tree.specs.Split.{CutAsked, CutSides, NodeOfNine, CutPlace}
 use Rattle.tree.specs.Laws.Steps.{entry-turn}
@@ -55,18 +56,18 @@ pub record Tried (d l s e : ℕ) (rs : List Placed) (j q best least : ℕ) : Typ
   pub sum : least ≡ cutSides d l s e rs (leastTo (cutSides d l s e rs) (j - 3))
 
 module _ {c d n l s e : ℕ} {m : List ℕ} (asked : NodeOfNine c d n l s e m) where
-  entry-within : (k j : ℕ) → j ≤ 8 → entryAt (l - 1) s j (lineFrom c k n m) < e
-  entry-within k j h =
-      entry-before (l - 1) (lineFrom c k n m) e j s
-      (λ g. omega (arith, asked .starts, heightAt-line c k n m s (omega (arith, length-line c k n m))))
-      (omega (arith, asked .nine k))
+  entry-within : (j : ℕ) → j ≤ 8 → entryAmong (l - 1) s j (heightsFrom c n m) < e
+  entry-within j h =
+      entry-before (l - 1) (heightsFrom c n m) e j s
+      (λ g. omega (arith, asked .starts, getD-heightsFrom c n m s (omega (arith, length-heightsFrom c n m))))
+      (omega (arith, asked .nine))
 
   pub nine-entry : EntryAsked c n (l - 1) s 3 m
   nine-entry =
       record {
-        room = asked .room;
-        rows = asked .rows;
-        inside = λ k j h. omega (arith, asked .ends, entry-within k j (omega arith));
+        room = asked .readable .room;
+        rows = asked .readable .rows;
+        inside = λ j h. omega (arith, asked .ends, entry-within j (omega arith));
       }
 
   abbrev rs : List Placed
@@ -80,18 +81,16 @@ module _ {c d n l s e : ℕ} {m : List ℕ} (asked : NodeOfNine c d n l s e m) w
   total = cutSides d l s e rs
 
   start-inside : (j : ℕ) → 0 < j → j ≤ 8 → (s < start j) × (start j < e)
-  start-inside j g h = (omega (arith, entry-after (l - 1) rs s j), entry-within d j h)
+  start-inside j g h =
+      (omega (arith, entry-after (l - 1) (heightsIn rs) s j), omega (arith, entry-within j h, ap (entryAmong (l - 1) s j) (heightsIn-line c d n m)))
 
   pub nine-cut : {q : ℕ} (j : ℕ) → 0 < j → j ≤ 8 → q ≡ start j → CutAsked c d s q e m
   nine-cut j g h at =
       let inside = start-inside j g h in
       record {
-        room = asked .room;
+        readable = fewer-readable (asked .readable) (asked .ends);
         before = omega arith;
         after = omega arith;
-        rows = omega (arith, asked .ends, asked .rows);
-        numbers = λ i k. asked .numbers i (omega (arith, asked .ends));
-        dimension = asked .dimension;
       }
 
   sides-at : (j q r : ℕ) → q ≡ start j → CutSides c d s q e m r → r ≡ total j
@@ -113,7 +112,7 @@ module _ {c d n l s e : ℕ} {m : List ℕ} (asked : NodeOfNine c d n l s e m) w
 
   module _ {j q best least q' r : ℕ} (t : Tried d l s e rs j q best least) (more : j < 6) (next : q' ≡ nodeEnd (l - 1) q rs) (cut : CutSides c d s q' e m r) where
     next-start : q' ≡ start (j + 1)
-    next-start = entry-turn (l - 1) s j q q' rs (t .at) next
+    next-start = entry-turn (l - 1) s j q q' (heightsIn rs) (t .at) next
 
     four : j + 1 ≡ 4 + (j - 3)
     four = omega (arith, t .from)

@@ -81,7 +81,7 @@ module _ {c d n : ℕ} {m : List ℕ} {t : Tree} (h : RowsHold c d n m t) where
   unfolding ordered
   held-once =
       once-distinct (λ x. x .number) (movesOf t)
-      (rising-once (Fit c d) (moveBefore d) (move-order d c (h .dimension)) (movesOf t) (h .fits) (ruled-ordered d t (h .rules)))
+      (rising-once (Fit c d) (moveBefore d) (move-order d c (h .readable .dimension)) (movesOf t) (h .fits) (ruled-ordered d t (h .rules)))
       (λ x y i j e. move-path x y (e, each-mem ByNumber by-number i ∙ ap (costsIn c d m) e ∙ sym (each-mem ByNumber by-number j)))
 
   module _ (p : ℕ) (place : p < n) where
@@ -106,5 +106,5 @@ module _ {c d n : ℕ} {m : List ℕ} {t : Tree} (h : RowsHold c d n m t) where
     unfolding without
     held-rest =
         let v : ℕ = numberIn c m p in
-        let left = ap length (withdraw-moves d (Fit c d) (move-order d c (h .dimension)) v t (h .rules) (h .fits)) in
+        let left = ap length (withdraw-moves d (Fit c d) (move-order d c (h .readable .dimension)) v t (h .rules) (h .fits)) in
         omega (arith, left, count-rest (numbered v) (movesOf t), held-one, held-length)

@@ -30,7 +30,7 @@ use Rattle.memory.specs.Laws.Lines.{length-line, getD-line, heightAt-line, move
 use Rattle.tree.specs.Rows.{Inserted}
 use Rattle.tree.specs.Split.{CascadeAsked, Cascaded}
 use Rattle.tree.specs.Hold.{RowsHold, Enterable}
-use Rattle.tree.specs.Enter.{PutAsked, Put, EnterAsked, Entered}
+use Rattle.tree.specs.Enter.{PutAsked, RowPut, EnterAsked, Entered}
 use Rattle.tree.specs.Laws.Putting.{placed-top, row-is}
 
 -- ---- rows that hold a tree
@@ -49,7 +49,7 @@ pub holds-low : {c d n : ℕ} {m : List ℕ} {t : Tree} → RowsHold c d n m t �
 unfolding placedIn
 holds-low {c} {d} {n} {m} {t} h some =
     let count = length-line c d n m in
-    let low = heights-small (lineOf t) (heights-right t (ruled-filled d t (h .rules))) (omega (arith, ap length (h .line), h .rows, h .room)) in
+    let low = heights-small (lineOf t) (heights-right t (ruled-filled d t (h .rules))) (omega (arith, ap length (h .line), h .readable .rows, h .readable .room)) in
     subst (λ (r : Placed). r .height ≤ 7) (getD-line c d n m 0 some)
     (each-at (λ r. r .height ≤ 7) (lineFrom c d n m) 0 none (omega arith) (subst (Each (λ r. r .height ≤ 7)) (sym (h .line)) low))
 
@@ -58,17 +58,20 @@ module _ {c d n : ℕ} {x : Move} {m m' : List ℕ} {t : Tree} (h : RowsHold c d
   unfolding insert
   holds-entered space f line =
       record {
-        room = room-over c f (h .room);
-        rows = space;
-        dimension = h .dimension;
-        numbers = fit-numbers c d (suc n) m' (enterTree d x t) line-is fits;
+        readable =
+            record {
+              room = room-over c f (h .readable .room);
+              rows = space;
+              numbers = fit-numbers c d (suc n) m' (enterTree d x t) line-is fits;
+              dimension = h .readable .dimension;
+            };
         line = line-is;
         rules = enter-ruled d (Fit c d) o x (e .fit) t (h .rules) (h .fits) new;
         fits = fits;
       }
     where
       o : StrictOrder (Fit c d) (moveBefore d)
-      o = move-order d c (h .dimension)
+      o = move-order d c (h .readable .dimension)
 
       new : ¬ List·Memᴰ x (movesOf t)
       new = off-board x (movesOf t) (e .new)
@@ -107,14 +110,14 @@ module _ {c d n : ℕ} {x : Move} {m : List ℕ} (asked : EnterAsked c d n x m) 
     put-asked =
         let h = asked .tree .holds in
         record {
-          asked = record { room = h .room; rows = h .rows; place = place; numbers = h .numbers; dimension = h .dimension };
+          asked = record { readable = h .readable; place = place };
           some = some;
           space = asked .space;
           number = enterable .fit .number;
           stored = enterable .stored;
         }
 
-    module _ {m' : List ℕ} (put : Put c d n p x m m') where
+    module _ {m' : List ℕ} (put : RowPut c d n p x m m') where
       top : heightIn c m' 0 ≡ heightAt rs 0
       top =
           sym (heightAt-line c d (suc n) m' 0 (omega arith))
@@ -125,10 +128,13 @@ module _ {c d n : ℕ} {x : Move} {m : List ℕ} (asked : EnterAsked c d n x m) 
       cascade-asked =
           let h = asked .tree .holds in
           record {
-            room = room-over c (put .frame) (h .room);
-            rows = omega (arith, asked .space);
-            numbers = λ i k. put .numbers i (omega arith);
-            dimension = h .dimension;
+            readable =
+                record {
+                  room = room-over c (put .frame) (h .readable .room);
+                  rows = omega (arith, asked .space);
+                  numbers = λ i k. put .numbers i (omega arith);
+                  dimension = h .readable .dimension;
+                };
             place = omega arith;
             low = omega (arith, top, heightAt-line c d n m 0 some, holds-low h some);
           }

@@ -17,6 +17,7 @@ use Rattle.memory.specs.Laws.Frames.{frame-refl, frame-trans}
 use Rattle.memory.specs.Laws.Stored.{setHeight-rows, height-setHeight}
 use Rattle.memory.specs.Laws.Lines.{length-line, heightAt-line, line-setHeight}
 use Rattle.tree.specs.Rows.{Entries}
+use Rattle.tree.specs.Laws.Heights.{entries-line}
 use Rattle.tree.specs.Withdraw.{Lowered}
 
 -- ---- one turn on the line
@@ -82,7 +83,7 @@ module _ {c n top : ℕ} {m₀ m : List ℕ} (some : 0 < n) (w : Lowers c n top 
 
   module _ {k : ℕ} (h : 1 < top) (count : Entries c (top - 1) 0 n m k) where
     root-entries : (d : ℕ) → k ≡ entries (top - 1) 0 (length (lineFrom c d n m)) (lineFrom c d n m)
-    root-entries d = count .is d n (omega arith) ∙ ap (λ (j : ℕ). entries (top - 1) 0 j (lineFrom c d n m)) (sym (length-line c d n m))
+    root-entries d = entries-line d count (omega arith) ∙ ap (λ (j : ℕ). entries (top - 1) 0 j (lineFrom c d n m)) (sym (length-line c d n m))
 
     pub lowers-stop : 1 < k → Lowered c n m₀ m
     lowers-stop many =

@@ -26,8 +26,9 @@ use Rattle.memory.specs.Laws.Fields.{costs-over-rows}
 use Rattle.memory.specs.Laws.Stored.{setHeight-rows}
 use Rattle.memory.specs.Laws.Lines.{numbers-each, each-numbers, length-line, heightAt-line, line-setHeight}
 use Rattle.tree.specs.Rows.{row, Inserted, NodeStart, NodeEnd}
-use Rattle.tree.specs.Enter.{PlaceAsked, TakesOver, PutAsked, Put}
+use Rattle.tree.specs.Enter.{PlaceAsked, TakesOver, PutAsked, RowPut}
 use Rattle.tree.specs.Laws.Rows.{costs-line}
+use Rattle.tree.specs.Laws.Heights.{end-line, start-line}
 
 -- ---- whether it takes over
 
@@ -87,8 +88,8 @@ module _ {c d n p : ℕ} {m : List ℕ} (asked : PlaceAsked c d n p m) (x : Move
               (a-is ∙ ap (sideOf d (x .costs)) (last-costs ∙ costs-line c d n m (e - 1) v (omega (arith, end .after, end .within)) last-number))
               (b-is ∙ ap (λ (cs : List ℕ). sideOf d cs (x .costs)) (first-costs ∙ costs-line c d n m s u (omega (arith, start .within)) first-number))
               ∙ ap₂ (λ (i j : ℕ). ltb (sideOf d (x .costs) (moveAt rs (j - 1) .costs)) (sideOf d (moveAt rs i .costs) (x .costs)))
-              (start .is d n (omega arith) ∙ ap (λ (l : ℕ). nodeStart l (p - 1) rs) at)
-              (end .is d ∙ ap (λ (l : ℕ). nodeEnd l p rs) at)
+              (start-line d start (omega arith) ∙ ap (λ (l : ℕ). nodeStart l (p - 1) rs) at)
+              (end-line d end ∙ ap (λ (l : ℕ). nodeEnd l p rs) at)
               ∙ sym (takes-gap d x p rs h (omega arith));
         }
 
@@ -139,14 +140,14 @@ row-is c d x k stored f =
     ap (λ (cs : List ℕ). record { move = record { number = x .number; costs = cs }; height = k }) (costs-over-rows c f d (x .number) ∙ stored)
 
 module _ {c d n p : ℕ} {x : Move} {m : List ℕ} (asked : PutAsked c d n p x m) where
-  made : {m' : List ℕ} → lineFrom c d (suc n) m' ≡ placed d x p (lineFrom c d n m) → RowsOnly c m m' → Put c d n p x m m'
+  made : {m' : List ℕ} → lineFrom c d (suc n) m' ≡ placed d x p (lineFrom c d n m) → RowsOnly c m m' → RowPut c d n p x m m'
   made {m'} line f =
       record {
         line = line;
         numbers =
             each-numbers c d (suc n) m'
             (subst (Each (λ r. r .move .number < c)) (sym line)
-            (each-placed (λ y. y .number < c) d x p (lineFrom c d n m) (asked .number) (numbers-each c d n m (asked .asked .numbers))));
+            (each-placed (λ y. y .number < c) d x p (lineFrom c d n m) (asked .number) (numbers-each c d n m (asked .asked .readable .numbers))));
         frame = f;
       }
 
@@ -156,18 +157,18 @@ module _ {c d n p : ℕ} {x : Move} {m : List ℕ} (asked : PutAsked c d n p x m
         let count = length-line c d n m in
         omega (arith, takes-inside d x p (lineFrom c d n m) over (omega (arith, asked .asked .place)) (omega (arith, asked .some)))
 
-    pub put-over : {m' m'' : List ℕ} {k : ℕ} → k ≡ heightIn c m p → m' ≡ setHeight c p 0 m → Inserted c n p (x .number) k m' m'' → Put c d n p x m m''
+    pub put-over : {m' m'' : List ℕ} {k : ℕ} → k ≡ heightIn c m p → m' ≡ setHeight c p 0 m → Inserted c n p (x .number) k m' m'' → RowPut c d n p x m m''
     put-over {m'} {m''} {k} level lowered inserted =
         let rs = lineFrom c d n m in
-        let f = subst (RowsOnly c m) (sym lowered) (setHeight-rows c p m (omega (arith, inside, asked .asked .rows)) 0) in
+        let f = subst (RowsOnly c m) (sym lowered) (setHeight-rows c p m (omega (arith, inside, asked .asked .readable .rows)) 0) in
         made
         (inserted .line d
-        ∙ ap₂ (insertAt p) (row-is c d x k (asked .stored) f) (ap (lineFrom c d n) lowered ∙ line-setHeight c d n m p 0 (asked .asked .room) inside (asked .asked .rows))
+        ∙ ap₂ (insertAt p) (row-is c d x k (asked .stored) f) (ap (lineFrom c d n) lowered ∙ line-setHeight c d n m p 0 (asked .asked .readable .room) inside (asked .asked .readable .rows))
         ∙ ap (λ (h : ℕ). insertAt p (record { move = x; height = h }) (places.setHeight p 0 rs)) (level ∙ sym (heightAt-line c d n m p inside))
         ∙ sym (placed-over d x p rs over))
         (frame-trans f (inserted .frame))
 
-  pub put-under : {m' : List ℕ} → takesOver d x p (lineFrom c d n m) ≡ false → Inserted c n p (x .number) 0 m m' → Put c d n p x m m'
+  pub put-under : {m' : List ℕ} → takesOver d x p (lineFrom c d n m) ≡ false → Inserted c n p (x .number) 0 m m' → RowPut c d n p x m m'
   put-under under inserted =
       let rs = lineFrom c d n m in
       made (inserted .line d ∙ ap (λ (r : Placed). insertAt p r rs) (row-is c d x 0 (asked .stored) (frame-refl m)) ∙ sym (placed-under d x p rs under)) (inserted .frame)

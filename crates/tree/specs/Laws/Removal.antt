@@ -23,13 +23,13 @@ use Rattle.line.specs.Withdraw as line
 use Rattle.line.specs.Laws.Taken.{holds}
 use Rattle.line.specs.Laws.Removed.{rangeOf, rangeRows, flat-remove-own, Parted, parted}
 use Rattle.line.specs.Laws.Withdraw.{ends-each, ends-rising, moves-in-order}
-use Rattle.promises.specs.Layout.{numberIn, costsIn, workIn, moveIn, placedIn, lineFrom, tab}
+use Rattle.promises.specs.Layout.{numberIn, heightIn, costsIn, workIn, moveIn, placedIn, lineFrom, tab}
 use Rattle.memory.specs.Frame.{RowsOnly}
 use Rattle.promises.specs.Laws.Tab.{tab-ext, take-tab, drop-tab, map-tab, getD-tab}
 use Rattle.memory.specs.Laws.Places.{tab-each}
 use Rattle.memory.specs.Laws.Frames.{frame-trans, room-over}
 use Rattle.memory.specs.Laws.Fields.{work-over-rows, costs-over-rows, costs-over-work}
-use Rattle.memory.specs.Laws.Lines.{heightAt-line, line-over-work}
+use Rattle.memory.specs.Laws.Lines.{heightAt-line, heightsIn-line, line-over-work}
 use Rattle.tree.specs.declared.withdraw.Range.{Range}
 use Rattle.tree.specs.Hold.{RowsHold, RowsTree, Enterable}
 use Rattle.tree.specs.Withdraw.{others, Widened, Saved, CutOut, Lowered, savedMoves, SavedAsked, SavedEntered, Withdrawn}
@@ -69,7 +69,7 @@ module _ {c n p k : ℕ} {m m₁ m₂ m₃ : List ℕ} {r : Range} (place : p < 
     tree = settled h (withdrawNode number h es .entries)
 
     o : StrictOrder (Fit c d) (moveBefore d)
-    o = move-order d c (held .dimension)
+    o = move-order d c (held .readable .dimension)
 
     filled : filledTree t ≡ true
     filled = ruled-filled d t (held .rules)
@@ -85,12 +85,13 @@ module _ {c n p k : ℕ} {m m₁ m₂ m₃ : List ℕ} {r : Range} (place : p < 
     range =
         ap (rangeOf number) (sym (held .line))
         ∙ ap₂ (λ (f q : ℕ). line.widened f 0 (record { from = q; to = suc q }) (lineFrom c d n m)) (heightAt-line c d n m 0 (omega arith)) (sym (held-place held p place))
-        ∙ sym (g .is d)
+        ∙ ap (line.widenedAmong (heightIn c m 0) 0 (record { from = p; to = suc p })) (heightsIn-line c d n m)
+        ∙ sym (g .is)
 
     tree-line : lineFrom c d left m₃ ≡ lineOf tree
     unfolding lineOf
     tree-line =
-        let rows = line-over-work c d n (s .frame) (held .rows) (held .dimension) (held .numbers) ∙ held .line in
+        let rows = line-over-work c d n (s .frame) (held .readable .rows) (held .readable .dimension) (held .readable .numbers) ∙ held .line in
         l .line d
         ∙ ap (λ (rs : List Placed). line.lowered (heightAt rs 0) rs) (e .line d ∙ ap₂ line.cutOut (sym range) rows)
         ∙ sym (flat-remove-own number h es filled one)
@@ -119,10 +120,13 @@ module _ {c n p k : ℕ} {m m₁ m₂ m₃ : List ℕ} {r : Range} (place : p < 
     tree-held : RowsHold c d left m₃ tree
     tree-held =
         record {
-          room = room-over c later (room-over c (s .frame) (held .room));
-          rows = omega (arith, held .rows);
-          dimension = held .dimension;
-          numbers = fit-numbers c d left m₃ tree tree-line tree-fits;
+          readable =
+              record {
+                room = room-over c later (room-over c (s .frame) (held .readable .room));
+                rows = omega (arith, held .readable .rows);
+                numbers = fit-numbers c d left m₃ tree tree-line tree-fits;
+                dimension = held .readable .dimension;
+              };
           line = tree-line;
           rules = tree-rules;
           fits = tree-fits;
@@ -148,7 +152,7 @@ module _ {c n p k : ℕ} {m m₁ m₂ m₃ : List ℕ} {r : Range} (place : p < 
     unfolding moveIn
     made-row i b =
         ap (λ (cs : List ℕ). record { number = numberIn c m i; costs = cs })
-        (costs-over-rows c later d (numberIn c m i) ∙ costs-over-work c (s .frame) d (numberIn c m i) (held .dimension) (held .numbers i b))
+        (costs-over-rows c later d (numberIn c m i) ∙ costs-over-work c (s .frame) d (numberIn c m i) (held .readable .dimension) (held .readable .numbers i b))
 
     saved-again : savedMoves c d k m₃ ≡ without number (w .between)
     unfolding savedMoves others without
@@ -204,7 +208,7 @@ module _ {c n p k : ℕ} {m m₁ m₂ m₃ : List ℕ} {r : Range} (place : p < 
       let a = removal d (t .tree) (t .holds) in
       record {
         tree = record { tree = a .tree; holds = a .holds };
-        space = omega (arith, s .few, g .order, g .within, t .holds .rows);
+        space = omega (arith, s .few, g .order, g .within, t .holds .readable .rows);
         enterable = λ u h j b.
             subst (λ (x : Move). Enterable c d x m₃ u) (sym (getD-tab (savedMove c d m₃) noMove k j b))
             (record {

@@ -25,21 +25,22 @@ use Rattle.model.specs.Laws.Basics.{any-select}
 use Rattle.model.specs.Laws.Loading.{size-most}
 use Rattle.model.specs.Laws.Tree.{ruled-filled}
 use Rattle.model.specs.Laws.Nodes.{listed-enough-corner}
-use Rattle.line.specs.Line.{Placed, none, lineOf, movesIn}
+use Rattle.line.specs.Line.{Placed, none, lineOf, movesIn, heightsIn}
 use Rattle.line.specs.Places.{moveAt, heightAt, nodeEnd}
 use Rattle.line.specs.Search.{nearAt, passedAt, openedFrom, openedPast}
 use Rattle.line.specs.Laws.Line.{WholeTree, tree-whole}
-use Rattle.line.specs.Laws.Places.{end-high}
+use Rattle.line.specs.Laws.Places.{height-among, length-heights, end-high}
 use Rattle.line.specs.Laws.Opened.{first-height, opened-all, opened-end, opened-upper, opened-leaf, opened-passed}
 use Rattle.promises.specs.Layout.{sizeIn, dimensionIn, countIn, numberIn, markIn, costsIn, moveIn, placedIn, lineFrom, lineIn, boardIn, keptFrom, keptIn}
 use Rattle.promises.specs.Sound.{Stands}
 use Rattle.promises.specs.Run.{Bytes}
 use Rattle.promises.specs.Laws.Stands.{stands-dimension, stands-moves, stands-order, stands-fit}
-use Rattle.memory.specs.Room.{Room, Numbers}
+use Rattle.memory.specs.Room.{ReadableRows}
 use Rattle.memory.specs.Tests.{anyTo, allTo, isListed}
 use Rattle.memory.specs.Laws.Places.{anyTo-more, anyTo-found, any-tab, tab-each}
 use Rattle.memory.specs.Laws.Lines.{length-line, lineIn-line, moveAt-line, heightAt-line, movesIn-line}
 use Rattle.tree.specs.Rows.{NodeEnd}
+use Rattle.tree.specs.Laws.Heights.{end-line}
 use Rattle.tree.specs.Search.{cornerDominated, nearCorner, LevelAt, SoundAt, Opened}
 
 -- ---- nodes counted
@@ -91,10 +92,7 @@ near-corner c d m i e p q f g = ap₂ (λ (x y : ℕ). nearOf d (costsIn c d m x
 
 -- What the search uses of it.
 pub record Searchable (c d n : ℕ) (m : List ℕ) : Type 0 where
-  pub room : Room c m
-  pub rows : n ≤ c
-  pub numbers : Numbers c n m
-  pub dimension : d ≤ rowCosts
+  pub readable : ReadableRows c d n m
   pub fits : Each (Fit c d) (movesIn (lineFrom c d n m))
   pub order : ordered d (movesIn (lineFrom c d n m)) ≡ true
   pub kept : keptFrom c m (movesIn (lineFrom c d n m)) ≡ skyline d (movesIn (lineFrom c d n m))
@@ -113,10 +111,13 @@ stands-searchable : (m : List ℕ) (t : Tree) → Stands m t → Bytes m → Sea
 unfolding lineIn lineFrom placedIn moveIn boardIn keptIn memoryNeed
 stands-searchable m t s b =
     record {
-      room = (s .room, size-most (sizeIn m) (s .size));
-      rows = s .count;
-      numbers = λ i h. tab-each (placedIn (sizeIn m) (dimensionIn m) m) (λ r. r .move .number < sizeIn m) (countIn m) i h (s .numbers);
-      dimension = stands-dimension m t s;
+      readable =
+          record {
+            room = (s .room, size-most (sizeIn m) (s .size));
+            rows = s .count;
+            numbers = λ i h. tab-each (placedIn (sizeIn m) (dimensionIn m) m) (λ r. r .move .number < sizeIn m) (countIn m) i h (s .numbers);
+            dimension = stands-dimension m t s;
+          };
       fits = stands-fit m t s b;
       order = stands-order m t s;
       kept = s .kept ∙ ap (skyline (dimensionIn m)) (stands-moves m t s);
@@ -155,7 +156,7 @@ module _ {c d n : ℕ} {m : List ℕ} (s : Searchable c d n m) where
       ∙ ap (any (λ x. listed x && by x)) (sym (movesIn-line c d n m))
       ∙ sym (any-select by listed moves)
       ∙ ap (any by) (s .kept)
-      ∙ sym (listed-enough-corner d c (s .dimension) moves (s .fits) (s .order) q k)
+      ∙ sym (listed-enough-corner d c (s .readable .dimension) moves (s .fits) (s .order) q k)
     where
       moves : List Move
       moves = movesIn (lineFrom c d n m)
@@ -181,7 +182,7 @@ module _ {c d n : ℕ} {m : List ℕ} (s : Searchable c d n m) where
     near-place =
         ap₂ (λ (x y : Move). nearOf d (x .costs) (y .costs))
         (sym (moveAt-line c d n m i h))
-        (sym (moveAt-line c d n m (e - 1) (omega arith)) ∙ ap (λ (k : ℕ). moveAt (lineFrom c d n m) (k - 1)) (f .is d))
+        (sym (moveAt-line c d n m (e - 1) (omega arith)) ∙ ap (λ (k : ℕ). moveAt (lineFrom c d n m) (k - 1)) (end-line d f))
 
     -- The place is one of the line's.
     placed : i < length (lineFrom c d n m)
@@ -202,9 +203,9 @@ module _ {c d n : ℕ} {m : List ℕ} (s : Searchable c d n m) where
         let high = level-height c d n m e k v in
         record {
           inside = f .within;
-          level = λ j. omega (arith, w .level h, high, ap (heightAt rs) (f .is d), f .is d, end-high l rs i (omega (arith, f .is d, length-line c d n m)));
+          level = λ j. omega (arith, w .level h, high, ap (heightAt rs) (end-line d f), end-line d f, end-high l (heightsIn rs) i (omega (arith, end-line d f, length-heights rs, length-line c d n m)), height-among rs (nodeEnd l i rs));
           few = omega (arith, w .level h);
-          total = omega (arith, g, ap (openedPast d rs) (f .is d), ap (openedFrom d rs e) high);
+          total = omega (arith, g, ap (openedPast d rs) (end-line d f), ap (openedFrom d rs e) high);
         }
 
     module _ (corner : List ℕ) (near : corner ≡ nearCorner c d m i e) (passed : Bool) (p : passed ≡ cornerDominated c d n m corner) where
@@ -213,7 +214,7 @@ module _ {c d n : ℕ} {m : List ℕ} (s : Searchable c d n m) where
       passed-place =
           p
           ∙ ap (cornerDominated c d n m) (near ∙ near-place)
-          ∙ listed-corner (nearAt d (lineFrom c d n m) i l) (near-row d _ _ (s .dimension))
+          ∙ listed-corner (nearAt d (lineFrom c d n m) i l) (near-row d _ _ (s .readable .dimension))
 
       -- A node that is passed by, or a leaf that is opened.
       pub search-on : (passed ≡ true) ⊎ (l ≡ 1) → (k : ℕ) → LevelAt c n m e k → k < 256 → Searching c d n m (opened + cond passed 0 1) e k
@@ -221,7 +222,7 @@ module _ {c d n : ℕ} {m : List ℕ} (s : Searchable c d n m) where
           after (cond passed 0 1) k v b (condCases (λ (x : ℕ). x ≤ 1) passed (λ q. omega arith) (λ q. omega arith))
           (byCases passed
           (λ q.
-          opened-passed rs i placed d c (s .dimension) (s .fits) (s .order) l (sym passed-place ∙ q)
+          opened-passed rs i placed d c (s .readable .dimension) (s .fits) (s .order) l (sym passed-place ∙ q)
           ∙ sym (ap (λ (x : Bool). cond x 0 1 + left) q ∙ zero-add left))
           (λ q.
           leaf-opened (⊎-elim (λ r. both-ways r q) (λ r. r) one) (sym passed-place ∙ q)

@@ -1,4 +1,4 @@
--- A step of each loop over the places of a line: what is left from a place, from what is left after it.
+-- A step of each loop over the places of a line, or its heights: what is left from a place, from what is left after it.
 use Prim.Native.Nat.{ℕ, zero, suc, _+_, _-_, _≤_, _<_}
 use mathlib.Core.Bool.{Bool, true, false, cond}
 use mathlib.Core.List.{List, [], _∷_}
@@ -14,12 +14,12 @@ use Rattle.model.specs.Basics.{select, count}
 use Rattle.model.specs.Laws.Basics.{count-cons}
 use Rattle.model.specs.Moves.{Move, moveBefore}
 use Rattle.line.specs.Line.{Placed, none}
-use Rattle.line.specs.Places.{moveAt, heightAt, lower, nodeStart, nodeEnd, entries, entryAt}
+use Rattle.line.specs.Places.{lowerAmong, startAmong, endAmong, entriesAmong, entryAmong, moveAt}
 use Rattle.line.specs.Enter.{placeFor}
 
--- ---- rows counted until one that ends the count
+-- ---- counted until one that ends the count
 
-module _ (g : List Placed → ℕ) (e : ℕ) (rs : List Placed) where
+module _ {A : Type 0} (g : List A → ℕ) (e : ℕ) (rs : List A) where
   count-here : g (drop e rs) ≡ 0 → e + g (drop e rs) ≡ e
   count-here none-left = ap (λ (k : ℕ). e + k) none-left ∙ add-zero e
 
@@ -34,73 +34,71 @@ module _ (g : List Placed → ℕ) (e : ℕ) (rs : List Placed) where
 
 -- ---- where a node ends
 
-module _ (l e : ℕ) (rs : List Placed) (h : e < length rs) where
-  lower-step : (b : Bool) → leb l (heightAt rs e) ≡ b → lower l (drop e rs) ≡ cond b 0 (suc (lower l (drop (suc e) rs)))
-  unfolding lower heightAt
-  lower-step b test = ap (lower l) (drop-cons rs e none h) ∙ ap (λ (t : Bool). cond t 0 (suc (lower l (drop (suc e) rs)))) test
+module _ (l e : ℕ) (ks : List ℕ) (h : e < length ks) where
+  lower-step : (b : Bool) → leb l (getD ks e 0) ≡ b → lowerAmong l (drop e ks) ≡ cond b 0 (suc (lowerAmong l (drop (suc e) ks)))
+  unfolding lowerAmong
+  lower-step b test = ap (lowerAmong l) (drop-cons ks e 0 h) ∙ ap (λ (t : Bool). cond t 0 (suc (lowerAmong l (drop (suc e) ks)))) test
 
-  pub end-here : l ≤ heightAt rs e → e + lower l (drop e rs) ≡ e
-  end-here g = count-here (lower l) e rs (lower-step true (le-leb l (heightAt rs e) g))
+  pub end-here : l ≤ getD ks e 0 → e + lowerAmong l (drop e ks) ≡ e
+  end-here g = count-here (lowerAmong l) e ks (lower-step true (le-leb l (getD ks e 0) g))
 
-  pub end-later : heightAt rs e < l → e + 1 + lower l (drop (e + 1) rs) ≡ e + lower l (drop e rs)
-  end-later g = count-later (lower l) e rs (lower-step false (lt-leb l (heightAt rs e) g))
+  pub end-later : getD ks e 0 < l → e + 1 + lowerAmong l (drop (e + 1) ks) ≡ e + lowerAmong l (drop e ks)
+  end-later g = count-later (lowerAmong l) e ks (lower-step false (lt-leb l (getD ks e 0) g))
 
-pub end-first : (l p : ℕ) (rs : List Placed) → p + 1 + lower l (drop (p + 1) rs) ≡ nodeEnd l p rs
-unfolding nodeEnd
-end-first l p rs = ap (λ (k : ℕ). k + lower l (drop k rs)) (add-one p)
+pub end-first : (l p : ℕ) (ks : List ℕ) → p + 1 + lowerAmong l (drop (p + 1) ks) ≡ endAmong l p ks
+unfolding endAmong
+end-first l p ks = ap (λ (k : ℕ). k + lowerAmong l (drop k ks)) (add-one p)
 
-pub end-last : (l e : ℕ) (rs : List Placed) → e ≡ length rs → e + lower l (drop e rs) ≡ e
-unfolding lower
-end-last l e rs h = count-last (lower l) e rs refl h
+pub end-last : (l e : ℕ) (ks : List ℕ) → e ≡ length ks → e + lowerAmong l (drop e ks) ≡ e
+unfolding lowerAmong
+end-last l e ks h = count-last (lowerAmong l) e ks refl h
 
 -- ---- where it starts
 
-start-step : (l s : ℕ) (rs : List Placed) → 0 < s → nodeStart l s rs ≡ cond (leb l (heightAt rs s)) s (nodeStart l (s - 1) rs)
-unfolding nodeStart
-start-step l zero rs h = absurd (omega arith)
-start-step l (suc s) rs h =
+start-step : (l s : ℕ) (ks : List ℕ) → 0 < s → startAmong l s ks ≡ cond (leb l (getD ks s 0)) s (startAmong l (s - 1) ks)
+unfolding startAmong
+start-step l zero ks h = absurd (omega arith)
+start-step l (suc s) ks h =
     let back : s ≡ suc s - 1 = omega arith in
-    ap (λ (k : ℕ). cond (leb l (heightAt rs (suc s))) (suc s) (nodeStart l k rs)) back
+    ap (λ (k : ℕ). cond (leb l (getD ks (suc s) 0)) (suc s) (startAmong l k ks)) back
 
-module _ (l s : ℕ) (rs : List Placed) (h : 0 < s) where
-  pub start-here : l ≤ heightAt rs s → s ≡ nodeStart l s rs
-  start-here g = sym (start-step l s rs h ∙ ap (λ (b : Bool). cond b s (nodeStart l (s - 1) rs)) (le-leb l (heightAt rs s) g))
+module _ (l s : ℕ) (ks : List ℕ) (h : 0 < s) where
+  pub start-here : l ≤ getD ks s 0 → s ≡ startAmong l s ks
+  start-here g = sym (start-step l s ks h ∙ ap (λ (b : Bool). cond b s (startAmong l (s - 1) ks)) (le-leb l (getD ks s 0) g))
 
-  pub start-earlier : heightAt rs s < l → nodeStart l (s - 1) rs ≡ nodeStart l s rs
-  start-earlier g = sym (start-step l s rs h ∙ ap (λ (b : Bool). cond b s (nodeStart l (s - 1) rs)) (lt-leb l (heightAt rs s) g))
+  pub start-earlier : getD ks s 0 < l → startAmong l (s - 1) ks ≡ startAmong l s ks
+  start-earlier g = sym (start-step l s ks h ∙ ap (λ (b : Bool). cond b s (startAmong l (s - 1) ks)) (lt-leb l (getD ks s 0) g))
 
-pub start-first : (l s : ℕ) (rs : List Placed) → s ≡ 0 → 0 ≡ nodeStart l s rs
-unfolding nodeStart
-start-first l s rs h = ap (λ (k : ℕ). nodeStart l k rs) (sym h)
+pub start-first : (l s : ℕ) (ks : List ℕ) → s ≡ 0 → 0 ≡ startAmong l s ks
+unfolding startAmong
+start-first l s ks h = ap (λ (k : ℕ). startAmong l k ks) (sym h)
 
 -- ---- how many entries start
 
-module _ (l i e : ℕ) (rs : List Placed) (h : i < e) (k : e ≤ length rs) where
-  entries-step : entries l i e rs ≡ cond (leb l (heightAt rs i)) (suc (entries l (i + 1) e rs)) (entries l (i + 1) e rs)
-  unfolding entries heightAt
+module _ (l i e : ℕ) (ks : List ℕ) (h : i < e) (k : e ≤ length ks) where
+  entries-step : entriesAmong l i e ks ≡ cond (leb l (getD ks i 0)) (suc (entriesAmong l (i + 1) e ks)) (entriesAmong l (i + 1) e ks)
+  unfolding entriesAmong
   entries-step =
       let more : e - i ≡ suc (e - (i + 1)) = omega arith in
-      let p : Placed → Bool = λ r. leb l (r .height) in
-      ap₂ (λ (n : ℕ) (xs : List Placed). count p (take n xs)) more (drop-cons rs i none (omega arith) ∙ ap (λ (j : ℕ). getD rs i none ∷ drop j rs) (sym (add-one i)))
-      ∙ count-cons p (getD rs i none) (take (e - (i + 1)) (drop (i + 1) rs))
+      ap₂ (λ (n : ℕ) (xs : List ℕ). count (leb l) (take n xs)) more (drop-cons ks i 0 (omega arith) ∙ ap (λ (j : ℕ). getD ks i 0 ∷ drop j ks) (sym (add-one i)))
+      ∙ count-cons (leb l) (getD ks i 0) (take (e - (i + 1)) (drop (i + 1) ks))
 
-  pub entry-here : l ≤ heightAt rs i → entries l i e rs ≡ suc (entries l (i + 1) e rs)
-  entry-here g = entries-step ∙ ap (λ (b : Bool). cond b (suc (entries l (i + 1) e rs)) (entries l (i + 1) e rs)) (le-leb l (heightAt rs i) g)
+  pub entry-here : l ≤ getD ks i 0 → entriesAmong l i e ks ≡ suc (entriesAmong l (i + 1) e ks)
+  entry-here g = entries-step ∙ ap (λ (b : Bool). cond b (suc (entriesAmong l (i + 1) e ks)) (entriesAmong l (i + 1) e ks)) (le-leb l (getD ks i 0) g)
 
-  pub entry-none : heightAt rs i < l → entries l i e rs ≡ entries l (i + 1) e rs
-  entry-none g = entries-step ∙ ap (λ (b : Bool). cond b (suc (entries l (i + 1) e rs)) (entries l (i + 1) e rs)) (lt-leb l (heightAt rs i) g)
+  pub entry-none : getD ks i 0 < l → entriesAmong l i e ks ≡ entriesAmong l (i + 1) e ks
+  entry-none g = entries-step ∙ ap (λ (b : Bool). cond b (suc (entriesAmong l (i + 1) e ks)) (entriesAmong l (i + 1) e ks)) (lt-leb l (getD ks i 0) g)
 
-pub entries-end : (l i e : ℕ) (rs : List Placed) → i ≡ e → entries l i e rs ≡ 0
-unfolding entries count select
-entries-end l i e rs h =
-    let p : Placed → Bool = λ r. leb l (r .height) in
+pub entries-end : (l i e : ℕ) (ks : List ℕ) → i ≡ e → entriesAmong l i e ks ≡ 0
+unfolding entriesAmong count select
+entries-end l i e ks h =
     let none-left : e - i ≡ 0 = omega arith in
-    ap (λ (n : ℕ). count p (take n (drop i rs))) none-left
+    ap (λ (n : ℕ). count (leb l) (take n (drop i ks))) none-left
 
-pub entry-turn : (l s k q r : ℕ) (rs : List Placed) → q ≡ entryAt l s k rs → r ≡ nodeEnd l q rs → r ≡ entryAt l s (k + 1) rs
-unfolding entryAt
-entry-turn l s k q r rs here next =
-    next ∙ ap (λ (i : ℕ). nodeEnd l i rs) here ∙ ap (λ (i : ℕ). entryAt l s i rs) (sym (add-one k))
+pub entry-turn : (l s k q r : ℕ) (ks : List ℕ) → q ≡ entryAmong l s k ks → r ≡ endAmong l q ks → r ≡ entryAmong l s (k + 1) ks
+unfolding entryAmong
+entry-turn l s k q r ks here next =
+    next ∙ ap (λ (i : ℕ). endAmong l i ks) here ∙ ap (λ (i : ℕ). entryAmong l s i ks) (sym (add-one k))
 
 -- ---- where a new move goes
 

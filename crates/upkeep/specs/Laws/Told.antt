@@ -32,7 +32,7 @@ use Rattle.memory.specs.Tests.{isListed}
 use Rattle.memory.specs.Laws.Lines.{getD-line, length-line}
 use Rattle.memory.specs.Laws.Held.{held-dimension, held-order, held-listed, held-fit, held-fit-at, held-once}
 use Rattle.numbers.specs.Set.{inSet}
-use Rattle.upkeep.specs.Change.{dropAt, movesAfter, stays, Asked, Upkept}
+use Rattle.upkeep.specs.Change.{dropAt, movesAfter, stays, ChangeAsked, Upkept}
 use Rattle.upkeep.specs.Notice.{moveNumbers, placesIn, rowsAt, noticeRows}
 use Rattle.upkeep.specs.Laws.Places.{each-numbers, each-place, numbers-append}
 use Rattle.upkeep.specs.Laws.Change.{line-places, rest-places}
@@ -74,7 +74,7 @@ rising-places P lt o f t (i ∷ is) es r =
     next)
     (λ _. next)
 
-module _ (c d n : ℕ) (k : Change) (m : List ℕ) (s : SoundAt c d n m) (b : Bytes m) (a : Asked c d n k m)
+module _ (c d n : ℕ) (k : Change) (m : List ℕ) (s : SoundAt c d n m) (b : Bytes m) (a : ChangeAsked c d n k m)
     (other : k .comes ≡ true → k .goes < n → moveIn c d m (k .goes) ≡ asMove (k .coming) → ⊥) where
   abbrev before : List Move
   before = movesIn (lineFrom c d n m)

@@ -10,7 +10,7 @@ use lib.Arith.{digits-lt, digits-div, digits-mod}
 use lib.ListN.{length, getD}
 use lib.Pow.{pow-pos, mod-pow-add, mod-mod-pow, field, shr-lt, high, low}
 use lib.Seq.{ext-getD}
-use Rattle.zorder.specs.Address.{costBits, bit, group, groups, costIn, costsFrom, costsOf}
+use Rattle.zorder.specs.Address.{costBits, bit, group, groups, costFromBits, costsFrom, costsOf}
 use Rattle.zorder.specs.Laws.Address.{Costs, shifted, length-shifted, getD-shifted, bit-lt, bit-shr, group-lt, groups-lt, groups-shr, groups-costs-lt}
 
 -- ---- equal addresses, equal costs
@@ -78,20 +78,20 @@ bit-top k b r h l = ap (λ (x : ℕ). x % 2) (high b k l) ∙ mod-eq-of-lt h
 bit-below : (j k b r : ℕ) → j < k → r < 2 ^ k → bit j (b * 2 ^ k + r) ≡ bit j r
 bit-below j k b r h l = sym (bit-mod j k (b * 2 ^ k + r) h) ∙ ap (bit j) (low b k l)
 
-pub costIn-lt : (d e k a : ℕ) → costIn d e k a < 2 ^ k
-unfolding costIn
-costIn-lt d e zero a = zero-lt-suc 0
-costIn-lt d e (suc k) a = rw (pow-succ' 2 k) (digits-lt (bit-lt (d * k + e) a) (costIn-lt d e k a))
+pub costFromBits-lt : (d e k a : ℕ) → costFromBits d e k a < 2 ^ k
+unfolding costFromBits
+costFromBits-lt d e zero a = zero-lt-suc 0
+costFromBits-lt d e (suc k) a = rw (pow-succ' 2 k) (digits-lt (bit-lt (d * k + e) a) (costFromBits-lt d e k a))
 
-pub bit-costIn : (d e k a j : ℕ) → j < k → bit j (costIn d e k a) ≡ bit (d * j + e) a
-unfolding costIn
-bit-costIn d e zero a j h = absurd (omega arith)
-bit-costIn d e (suc k) a j h =
+pub bit-costFromBits : (d e k a j : ℕ) → j < k → bit j (costFromBits d e k a) ≡ bit (d * j + e) a
+unfolding costFromBits
+bit-costFromBits d e zero a j h = absurd (omega arith)
+bit-costFromBits d e (suc k) a j h =
     let b = bit (d * k + e) a in
-    let r = costIn d e k a in
+    let r = costFromBits d e k a in
     ⊎-elim
-    (λ p. rw p (bit-top k b r (bit-lt (d * k + e) a) (costIn-lt d e k a)))
-    (λ l. bit-below j k b r l (costIn-lt d e k a) ∙ bit-costIn d e k a j l)
+    (λ p. rw p (bit-top k b r (bit-lt (d * k + e) a) (costFromBits-lt d e k a)))
+    (λ l. bit-below j k b r l (costFromBits-lt d e k a) ∙ bit-costFromBits d e k a j l)
     (eq-or-lt-of-le (le-of-suc-le-suc h))
 
 pub length-costsFrom : (d e a : ℕ) → length (costsFrom d e a) ≡ e
@@ -102,7 +102,7 @@ length-costsFrom d (suc e) a = ap suc (length-costsFrom d e a)
 pub costsFrom-lt : (d e a i : ℕ) → getD (costsFrom d e a) i 0 < 2 ^ costBits
 unfolding costsFrom
 costsFrom-lt d zero a i = pow-pos costBits
-costsFrom-lt d (suc e) a zero = costIn-lt d e costBits a
+costsFrom-lt d (suc e) a zero = costFromBits-lt d e costBits a
 costsFrom-lt d (suc e) a (suc i) = costsFrom-lt d e a i
 
 pub costsOf-costs : (d a : ℕ) → Costs d (costsOf d a)
@@ -113,7 +113,7 @@ pub group-costsFrom : (d j e a : ℕ) → j < costBits → group j (costsFrom d 
 unfolding costsFrom group
 group-costsFrom d j zero a h = omega arith
 group-costsFrom d j (suc e) a h =
-    rw (bit-costIn d e costBits a j h, length-costsFrom d e a, group-costsFrom d j e a h, add-comm (d * j) e, bit-shr e (d * j) a)
+    rw (bit-costFromBits d e costBits a j h, length-costsFrom d e a, group-costsFrom d j e a h, add-comm (d * j) e, bit-shr e (d * j) a)
     (sym (mod-pow-suc (a / 2 ^ (d * j)) e))
 
 pub groups-costsOf : (d k a : ℕ) → k ≤ costBits → groups k (costsOf d a) ≡ a % 2 ^ (d * k)

@@ -21,12 +21,12 @@ returns-3 c =
 costs-of-requires : tie.Need-costs-of-requires
 costs-of-requires c κs =
     let p = c .before .before .before .before .before .before .before .pre in
-    (p .room, omega (arith, p .numbers (c .before .node-start .result) (omega arith)), p .dimension)
+    (p .readable .room, omega (arith, p .readable .numbers (c .before .node-start .result) (omega arith)), p .readable .dimension)
 
 costs-of-requires-2 : tie.Need-costs-of-requires-2
 costs-of-requires-2 c κs =
     let p = c .before .before .before .before .before .before .before .before .before .before .pre in
-    (p .room, omega (arith, p .numbers (c .before .node-end .result - 1) (omega arith)), p .dimension)
+    (p .readable .room, omega (arith, p .readable .numbers (c .before .node-end .result - 1) (omega arith)), p .readable .dimension)
 
 returns-4 : tie.Need-returns-4
 returns-4 c =

@@ -8,12 +8,12 @@ use Rattle.tree.proofs.nodes.near_corner.Statement.{statement}
 use Rattle.tree.proofs.nodes.near_corner.Tie as tie
 
 costs-of-requires : tie.Need-costs-of-requires
-costs-of-requires c κs = omega (arith, c .before .before .pre .3 (c .before .before .args .i) (omega arith))
+costs-of-requires c κs = omega (arith, c .before .before .pre .0 .numbers (c .before .before .args .i) (omega arith))
 
 costs-of-requires-2 : tie.Need-costs-of-requires-2
 costs-of-requires-2 c κs =
     let a = c .before .before .before .before .args in
-    omega (arith, c .before .before .before .before .pre .3 (a .e - 1) (omega arith))
+    omega (arith, c .before .before .before .before .pre .0 .numbers (a .e - 1) (omega arith))
 
 returns : tie.Need-returns
 returns c =

@@ -8,6 +8,7 @@ use native.Mathlib.Omega.{arith}
 use borrow.Author.Tests.{eqb-true, eqb-false}
 use Rattle.model.specs.Laws.Bool.{both-ways}
 use Rattle.promises.specs.Run.{Bytes}
+use Rattle.memory.specs.Laws.Held.{fewer-readable}
 use Rattle.tree.specs.Laws.Search.{Searchable, sound-searchable, Searching, search-start, counted-one, counted-none, search-on, search-down, search-opened}
 use Rattle.tree.proofs.nodes.nodes_opened.Statement.{statement}
 use Rattle.tree.proofs.nodes.nodes_opened.Tie as tie
@@ -23,7 +24,7 @@ unfolding Bytes
 level-at-requires c κs =
     let a = c .before .args in
     let s = sound-searchable (a .h .size) (a .h .dimension) (a .h .count) (a .m .now) (c .before .pre) (λ j. omega (arith, c .shared-slice-known .given j)) in
-    (s .room, s .rows)
+    (s .readable .room, s .readable .rows)
 
 loop-holds : tie.Need-loop-holds Inv-loop μ-loop
 unfolding Bytes
@@ -33,19 +34,19 @@ loop-holds c =
     (s, search-start s (c .level-at .result) (c .level-at .ensures) (omega arith))
 
 node-end-requires : tie.Need-node-end-requires Inv-loop μ-loop
-node-end-requires c κs = let s = c .before .loop .inv .0 in (s .room, s .rows, omega arith)
+node-end-requires c κs = let s = c .before .loop .inv .0 in (s .readable .room, s .readable .rows, omega arith)
 
 near-corner-requires : tie.Need-near-corner-requires Inv-loop μ-loop
 near-corner-requires c κs =
     let s = c .before .before .loop .inv .0 in
     let f = c .node-end .ensures in
-    (s .room, f .after, omega arith, λ j h. s .numbers j (omega arith), s .dimension)
+    (fewer-readable (s .readable) (f .within), f .after)
 
 corner-dominated-requires : tie.Need-corner-dominated-requires Inv-loop μ-loop
-corner-dominated-requires c κs = let s = c .before .before .before .loop .inv .0 in record { room = s .room; rows = s .rows; numbers = s .numbers; dimension = s .dimension }
+corner-dominated-requires c κs = c .before .before .before .loop .inv .0 .readable
 
 level-at-requires-2 : tie.Need-level-at-requires-2 Inv-loop μ-loop
-level-at-requires-2 c κs = let s = c .before .before .before .before .before .before .before .loop .inv .0 in (s .room, s .rows)
+level-at-requires-2 c κs = let s = c .before .before .before .before .before .before .before .loop .inv .0 in (s .readable .room, s .readable .rows)
 
 loop-again : tie.Need-loop-again Inv-loop μ-loop
 loop-again c =

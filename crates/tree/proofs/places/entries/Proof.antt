@@ -6,9 +6,9 @@ use mathlib.Core.Path.{_≡_}
 use native.Mathlib.Nat.{zero-add}
 use native.Mathlib.Omega.{arith}
 use borrow.Author.Needs.{needs}
-use Rattle.line.specs.Places.{entries}
-use Rattle.promises.specs.Layout.{lineFrom}
-use Rattle.memory.specs.Laws.Lines.{length-line, heightAt-line}
+use Rattle.line.specs.Places.{entriesAmong}
+use Rattle.promises.specs.Layout.{heightsFrom}
+use Rattle.memory.specs.Laws.Lines.{length-heightsFrom, getD-heightsFrom}
 use Rattle.tree.specs.Laws.Steps.{entry-here, entry-none, entries-end}
 use Rattle.tree.proofs.places.entries.Statement.{statement}
 use Rattle.tree.proofs.places.entries.Tie as tie
@@ -18,13 +18,13 @@ Inv-loop m c l s e k₀ i₀ k i =
     (s ≤ i)
     × (i ≤ e)
     × (k ≤ i - s)
-    × ((d n : ℕ) → e ≤ n → k + entries l i e (lineFrom c d n m) ≡ entries l s e (lineFrom c d n m))
+    × ((n : ℕ) → e ≤ n → k + entriesAmong l i e (heightsFrom c n m) ≡ entriesAmong l s e (heightsFrom c n m))
 
 abbrev μ-loop : tie.MeasureT-loop
 μ-loop m c l s e k₀ i₀ k i = e - i
 
 loop-holds : tie.Need-loop-holds Inv-loop μ-loop
-loop-holds c = (omega arith, omega arith, omega arith, λ d n h. zero-add _)
+loop-holds c = (omega arith, omega arith, omega arith, λ n h. zero-add _)
 
 loop-again : tie.Need-loop-again Inv-loop μ-loop
 loop-again c =
@@ -34,13 +34,13 @@ loop-again c =
       omega arith,
       omega arith,
       ⊎-elim (λ w. omega arith) (λ w. omega arith) (c .if1 .came),
-      λ d n h.
-          let rs = lineFrom (a .c) d n (a .m .now) in
-          let long = length-line (a .c) d n (a .m .now) in
-          let height = heightAt-line (a .c) d n (a .m .now) i (omega arith) in
+      λ n h.
+          let ks = heightsFrom (a .c) n (a .m .now) in
+          let long = length-heightsFrom (a .c) n (a .m .now) in
+          let height = getD-heightsFrom (a .c) n (a .m .now) i (omega arith) in
           ⊎-elim
-          (λ w. omega (arith, inv .3 d n h, entry-here (a .l) i (a .e) rs (omega arith) (omega arith) (omega (arith, height, c .before .height-at .ensures))))
-          (λ w. omega (arith, inv .3 d n h, entry-none (a .l) i (a .e) rs (omega arith) (omega arith) (omega (arith, height, c .before .height-at .ensures))))
+          (λ w. omega (arith, inv .3 n h, entry-here (a .l) i (a .e) ks (omega arith) (omega arith) (omega (arith, height, c .before .height-at .ensures))))
+          (λ w. omega (arith, inv .3 n h, entry-none (a .l) i (a .e) ks (omega arith) (omega arith) (omega (arith, height, c .before .height-at .ensures))))
           (c .if1 .came),
     )
 
@@ -50,7 +50,7 @@ returns c =
     let i = c .before .loop .i in
     let inv = c .before .loop .inv in
     record {
-      is = λ d n h. omega (arith, inv .3 d n h, entries-end (a .l) i (a .e) (lineFrom (a .c) d n (a .m .now)) (omega arith));
+      is = λ n h. omega (arith, inv .3 n h, entries-end (a .l) i (a .e) (heightsFrom (a .c) n (a .m .now)) (omega arith));
       within = omega arith;
     }
 

@@ -2,34 +2,34 @@
 use Prim.Native.Nat.{ℕ, _-_, _≤_}
 use mathlib.Core.Path.{_≡_, refl, ap, _∙_}
 use native.Mathlib.Omega.{arith}
-use Rattle.line.specs.Places.{entryAt}
-use Rattle.promises.specs.Layout.{lineFrom}
+use Rattle.line.specs.Places.{entryAmong}
+use Rattle.promises.specs.Layout.{heightsFrom}
 use Rattle.tree.specs.Laws.Steps.{entry-turn}
 use Rattle.tree.proofs.places.entry_at.Statement.{statement}
 use Rattle.tree.proofs.places.entry_at.Tie as tie
 
 abbrev Inv-loop : tie.InvT-loop
-Inv-loop m c n l s j q₀ k₀ q k = (k ≤ j) × ((d : ℕ) → q ≡ entryAt l s k (lineFrom c d n m))
+Inv-loop m c n l s j q₀ k₀ q k = (k ≤ j) × (q ≡ entryAmong l s k (heightsFrom c n m))
 
 abbrev μ-loop : tie.MeasureT-loop
 μ-loop m c n l s j q₀ k₀ q k = j - k
 
 loop-holds : tie.Need-loop-holds Inv-loop μ-loop
-unfolding entryAt
-loop-holds c = (omega arith, λ d. refl)
+unfolding entryAmong
+loop-holds c = (omega arith, refl)
 
 node-end-requires : tie.Need-node-end-requires Inv-loop μ-loop
 node-end-requires c κs =
     let asked = c .before .before .before .pre in
     let l = c .before .loop in
-    (asked .room, asked .rows, omega (arith, l .inv .1 0, asked .inside 0 (l .k) (l .inv .0)))
+    (asked .room, asked .rows, omega (arith, l .inv .1, asked .inside (l .k) (l .inv .0)))
 
 loop-again : tie.Need-loop-again Inv-loop μ-loop
 loop-again c =
     let a = c .before .before .before .before .args in
     let l = c .before .before .loop in
     let r = c .node-end in
-    (omega arith, λ d. entry-turn (a .l) (a .s) (l .k) (l .q) (r .result) (lineFrom (a .c) d (a .n) (a .m .now)) (l .inv .1 d) (r .ensures .is d))
+    (omega arith, entry-turn (a .l) (a .s) (l .k) (l .q) (r .result) (heightsFrom (a .c) (a .n) (a .m .now)) (l .inv .1) (r .ensures .is))
 
 returns : tie.Need-returns Inv-loop μ-loop
 returns c =
@@ -37,8 +37,8 @@ returns c =
     let l = c .before .loop in
     let all : l .k ≡ a .j = omega arith in
     record {
-      is = λ d. l .inv .1 d ∙ ap (λ (k : ℕ). entryAt (a .l) (a .s) k (lineFrom (a .c) d (a .n) (a .m .now))) all;
-      within = omega (arith, l .inv .1 0, c .before .before .before .pre .inside 0 (l .k) (l .inv .0));
+      is = l .inv .1 ∙ ap (λ (k : ℕ). entryAmong (a .l) (a .s) k (heightsFrom (a .c) (a .n) (a .m .now))) all;
+      within = omega (arith, l .inv .1, c .before .before .before .pre .inside (l .k) (l .inv .0));
     }
 
 pub entry-at-spec : {M : Type 1} → statement M

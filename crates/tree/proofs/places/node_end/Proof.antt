@@ -5,16 +5,16 @@ use mathlib.Core.Path.{_≡_, sym, _∙_}
 use native.Mathlib.Omega.{arith}
 use borrow.Author.Needs.{needs}
 use lib.ListN.{drop}
-use Rattle.line.specs.Places.{lower, nodeEnd}
-use Rattle.promises.specs.Layout.{lineFrom}
-use Rattle.memory.specs.Laws.Lines.{length-line, heightAt-line}
+use Rattle.line.specs.Places.{lowerAmong, endAmong}
+use Rattle.promises.specs.Layout.{heightsFrom}
+use Rattle.memory.specs.Laws.Lines.{length-heightsFrom, getD-heightsFrom}
 use Rattle.tree.specs.Laws.Steps.{end-first, end-here, end-later, end-last}
 use Rattle.tree.proofs.places.node_end.Statement.{statement}
 use Rattle.tree.proofs.places.node_end.Tie as tie
 
 abbrev Inv-loop : tie.InvT-loop
 Inv-loop m c n l p e₀ e =
-    (p < e) × (e ≤ n) × ((d : ℕ) → e + lower l (drop e (lineFrom c d n m)) ≡ nodeEnd l p (lineFrom c d n m))
+    (p < e) × (e ≤ n) × (e + lowerAmong l (drop e (heightsFrom c n m)) ≡ endAmong l p (heightsFrom c n m))
 
 abbrev μ-loop : tie.MeasureT-loop
 μ-loop m c n l p e₀ e = n - e
@@ -22,7 +22,7 @@ abbrev μ-loop : tie.MeasureT-loop
 loop-holds : tie.Need-loop-holds Inv-loop μ-loop
 loop-holds c =
     let a = c .before .args in
-    (omega arith, omega arith, λ d. end-first (a .l) (a .p) (lineFrom (a .c) d (a .n) (a .m .now)))
+    (omega arith, omega arith, end-first (a .l) (a .p) (heightsFrom (a .c) (a .n) (a .m .now)))
 
 returns : tie.Need-returns Inv-loop μ-loop
 returns c =
@@ -30,11 +30,11 @@ returns c =
     let e = c .before .before .before .loop .e in
     let inv = c .before .before .before .loop .inv in
     record {
-      is = λ d.
-          let rs = lineFrom (a .c) d (a .n) (a .m .now) in
-          sym (end-here (a .l) e rs (omega (arith, length-line (a .c) d (a .n) (a .m .now)))
-          (omega (arith, heightAt-line (a .c) d (a .n) (a .m .now) e (omega arith), c .before .height-at .ensures)))
-          ∙ inv .2 d;
+      is =
+          let ks = heightsFrom (a .c) (a .n) (a .m .now) in
+          sym (end-here (a .l) e ks (omega (arith, length-heightsFrom (a .c) (a .n) (a .m .now)))
+          (omega (arith, getD-heightsFrom (a .c) (a .n) (a .m .now) e (omega arith), c .before .height-at .ensures)))
+          ∙ inv .2;
       after = inv .0;
       within = inv .1;
     }
@@ -46,11 +46,10 @@ loop-again c =
     let inv = c .before .before .before .loop .inv in (
       omega arith,
       omega arith,
-      λ d.
-          let rs = lineFrom (a .c) d (a .n) (a .m .now) in
-          end-later (a .l) e rs (omega (arith, length-line (a .c) d (a .n) (a .m .now)))
-          (omega (arith, heightAt-line (a .c) d (a .n) (a .m .now) e (omega arith), c .before .height-at .ensures))
-          ∙ inv .2 d,
+      let ks = heightsFrom (a .c) (a .n) (a .m .now) in
+          end-later (a .l) e ks (omega (arith, length-heightsFrom (a .c) (a .n) (a .m .now)))
+          (omega (arith, getD-heightsFrom (a .c) (a .n) (a .m .now) e (omega arith), c .before .height-at .ensures))
+          ∙ inv .2,
     )
 
 returns-2 : tie.Need-returns-2 Inv-loop μ-loop
@@ -59,9 +58,9 @@ returns-2 c =
     let e = c .before .loop .e in
     let inv = c .before .loop .inv in
     record {
-      is = λ d.
-          let rs = lineFrom (a .c) d (a .n) (a .m .now) in
-          sym (end-last (a .l) e rs (omega (arith, length-line (a .c) d (a .n) (a .m .now)))) ∙ inv .2 d;
+      is =
+          let ks = heightsFrom (a .c) (a .n) (a .m .now) in
+          sym (end-last (a .l) e ks (omega (arith, length-heightsFrom (a .c) (a .n) (a .m .now)))) ∙ inv .2;
       after = inv .0;
       within = inv .1;
     }

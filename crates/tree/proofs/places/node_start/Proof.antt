@@ -5,22 +5,22 @@ use mathlib.Core.Path.{_≡_, refl, _∙_}
 use native.Mathlib.Nat.{le-refl}
 use native.Mathlib.Omega.{arith}
 use borrow.Author.Needs.{needs}
-use Rattle.line.specs.Places.{nodeStart}
-use Rattle.promises.specs.Layout.{lineFrom}
-use Rattle.memory.specs.Laws.Lines.{heightAt-line}
+use Rattle.line.specs.Places.{startAmong}
+use Rattle.promises.specs.Layout.{heightsFrom}
+use Rattle.memory.specs.Laws.Lines.{getD-heightsFrom}
 use Rattle.tree.specs.Laws.Steps.{start-here, start-earlier, start-first}
 use Rattle.tree.proofs.places.node_start.Statement.{statement}
 use Rattle.tree.proofs.places.node_start.Tie as tie
 
 abbrev Inv-loop : tie.InvT-loop
 Inv-loop m c l p s₀ s =
-    (s ≤ p) × ((d n : ℕ) → p < n → nodeStart l s (lineFrom c d n m) ≡ nodeStart l p (lineFrom c d n m))
+    (s ≤ p) × ((n : ℕ) → p < n → startAmong l s (heightsFrom c n m) ≡ startAmong l p (heightsFrom c n m))
 
 abbrev μ-loop : tie.MeasureT-loop
 μ-loop m c l p s₀ s = s
 
 loop-holds : tie.Need-loop-holds Inv-loop μ-loop
-loop-holds c = (le-refl _, λ d n h. refl)
+loop-holds c = (le-refl _, λ n h. refl)
 
 returns : tie.Need-returns Inv-loop μ-loop
 returns c =
@@ -28,10 +28,10 @@ returns c =
     let s = c .before .before .before .loop .s in
     let inv = c .before .before .before .loop .inv in
     record {
-      is = λ d n h.
-          start-here (a .l) s (lineFrom (a .c) d n (a .m .now)) (omega arith)
-          (omega (arith, heightAt-line (a .c) d n (a .m .now) s (omega arith), c .before .height-at .ensures))
-          ∙ inv .1 d n h;
+      is = λ n h.
+          start-here (a .l) s (heightsFrom (a .c) n (a .m .now)) (omega arith)
+          (omega (arith, getD-heightsFrom (a .c) n (a .m .now) s (omega arith), c .before .height-at .ensures))
+          ∙ inv .1 n h;
       within = inv .0;
     }
 
@@ -41,10 +41,10 @@ loop-again c =
     let s = c .before .before .before .loop .s in
     let inv = c .before .before .before .loop .inv in (
       omega arith,
-      λ d n h.
-          start-earlier (a .l) s (lineFrom (a .c) d n (a .m .now)) (omega arith)
-          (omega (arith, heightAt-line (a .c) d n (a .m .now) s (omega arith), c .before .height-at .ensures))
-          ∙ inv .1 d n h,
+      λ n h.
+          start-earlier (a .l) s (heightsFrom (a .c) n (a .m .now)) (omega arith)
+          (omega (arith, getD-heightsFrom (a .c) n (a .m .now) s (omega arith), c .before .height-at .ensures))
+          ∙ inv .1 n h,
     )
 
 returns-2 : tie.Need-returns-2 Inv-loop μ-loop
@@ -53,7 +53,7 @@ returns-2 c =
     let s = c .before .loop .s in
     let inv = c .before .loop .inv in
     record {
-      is = λ d n h. start-first (a .l) s (lineFrom (a .c) d n (a .m .now)) (omega arith) ∙ inv .1 d n h;
+      is = λ n h. start-first (a .l) s (heightsFrom (a .c) n (a .m .now)) (omega arith) ∙ inv .1 n h;
       within = omega arith;
     }
 

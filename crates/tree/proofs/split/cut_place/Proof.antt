@@ -3,8 +3,10 @@
 use Prim.Native.Nat.{_+_, _-_}
 use mathlib.Core.Logic.{⊎-elim}
 use native.Mathlib.Omega.{arith}
+use Rattle.line.specs.Line.{heightsIn}
 use Rattle.promises.specs.Layout.{lineFrom}
 use Rattle.tree.specs.Laws.Steps.{entry-turn}
+use Rattle.tree.specs.Laws.Heights.{end-line, entry-line}
 use Rattle.tree.specs.Laws.Cut.{Tried, nine-entry, nine-cut, tried-first, tried-less, tried-more, tried-all}
 use Rattle.tree.proofs.split.cut_place.Statement.{statement}
 use Rattle.tree.proofs.split.cut_place.Tie as tie
@@ -21,19 +23,19 @@ entry-at-requires c κs = nine-entry (c .before .pre)
 cut-sides-requires : tie.Need-cut-sides-requires Inv-loop μ-loop
 cut-sides-requires c κs =
     let a = c .before .before .args in
-    nine-cut (c .before .before .pre) 3 (omega arith) (omega arith) (c .entry-at .ensures .is (a .h .dimension))
+    nine-cut (c .before .before .pre) 3 (omega arith) (omega arith) (entry-line (a .h .dimension) (c .entry-at .ensures))
 
 loop-holds : tie.Need-loop-holds Inv-loop μ-loop
 loop-holds c =
     let a = c .before .before .before .args in
-    tried-first (c .before .before .before .pre) (c .before .entry-at .ensures .is (a .h .dimension)) (c .cut-sides .ensures)
+    tried-first (c .before .before .before .pre) (entry-line (a .h .dimension) (c .before .entry-at .ensures)) (c .cut-sides .ensures)
 
 node-end-requires : tie.Need-node-end-requires Inv-loop μ-loop
 node-end-requires c κs =
     let p = c .before .before .before .before .before .pre in
     let own = c .before .loop in
     let inside = nine-cut p (own .j) (omega (arith, own .inv .from)) (omega arith) (own .inv .at) in
-    (p .room, p .rows, omega (arith, inside .after, p .ends))
+    (p .readable .room, p .readable .rows, omega (arith, inside .after, p .ends))
 
 cut-sides-requires-2 : tie.Need-cut-sides-requires-2 Inv-loop μ-loop
 cut-sides-requires-2 c κs =
@@ -41,15 +43,15 @@ cut-sides-requires-2 c κs =
     let p = c .before .before .before .before .before .before .pre in
     let own = c .before .before .loop in
     nine-cut p (own .j + 1) (omega arith) (omega arith)
-    (entry-turn (a .l - 1) (a .s) (own .j) (own .q) (c .node-end .result) (lineFrom (a .h .size) (a .h .dimension) (a .h .count) (a .m .now)) (own .inv .at)
-    (c .node-end .ensures .is (a .h .dimension)))
+    (entry-turn (a .l - 1) (a .s) (own .j) (own .q) (c .node-end .result) (heightsIn (lineFrom (a .h .size) (a .h .dimension) (a .h .count) (a .m .now))) (own .inv .at)
+    (end-line (a .h .dimension) (c .node-end .ensures)))
 
 loop-again : tie.Need-loop-again Inv-loop μ-loop
 loop-again c =
     let a = c .before .before .before .before .before .before .before .before .args in
     let p = c .before .before .before .before .before .before .before .before .pre in
     let own = c .before .before .before .before .loop in
-    let next = c .before .before .node-end .ensures .is (a .h .dimension) in
+    let next = end-line (a .h .dimension) (c .before .before .node-end .ensures) in
     let sides = c .before .cut-sides2 .ensures in
     ⊎-elim
     (λ w. tried-less p (own .inv) (omega arith) next sides (omega arith) (w .1) (w .2))

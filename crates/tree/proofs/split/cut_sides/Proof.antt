@@ -10,24 +10,24 @@ side-between-requires : tie.Need-side-between-requires
 side-between-requires c κs =
     let p = c .before .pre in
     record {
-      room = p .room;
+      room = p .readable .room;
       first = omega arith;
       last = omega arith;
-      firstNumber = p .numbers _ (omega arith);
-      lastNumber = p .numbers _ (omega arith);
-      dimension = p .dimension;
+      firstNumber = p .readable .numbers _ (omega arith);
+      lastNumber = p .readable .numbers _ (omega arith);
+      dimension = p .readable .dimension;
     }
 
 side-between-requires-2 : tie.Need-side-between-requires-2
 side-between-requires-2 c κs =
     let p = c .before .before .pre in
     record {
-      room = p .room;
+      room = p .readable .room;
       first = omega arith;
       last = omega arith;
-      firstNumber = p .numbers _ (omega arith);
-      lastNumber = p .numbers _ (omega arith);
-      dimension = p .dimension;
+      firstNumber = p .readable .numbers _ (omega arith);
+      lastNumber = p .readable .numbers _ (omega arith);
+      dimension = p .readable .dimension;
     }
 
 returns : tie.Need-returns

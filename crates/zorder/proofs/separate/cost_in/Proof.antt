@@ -4,22 +4,22 @@ use Prim.Native.Nat.{ℕ, _+_, _-_, _*_, _^_, _≤_, _<_}
 use mathlib.Core.Path.{refl, sym, ap}
 use native.Mathlib.Nat.{one-mul, mul-le-mul}
 use native.Mathlib.Omega.{arith}
-use Rattle.zorder.specs.Address.{rowCosts, bit, costIn}
+use Rattle.zorder.specs.Address.{rowCosts, bit, costFromBits}
 use Rattle.zorder.proofs.Digits.{Digits, Whole, digit-in, digits-end}
 use Rattle.zorder.proofs.separate.cost_in.Statement.{statement}
 use Rattle.zorder.proofs.separate.cost_in.Tie as tie
 
 -- The bits of the cost, as digits of one bit.
-cost-bits : (d e a : ℕ) → Digits 1 (λ (k : ℕ). bit (d * k + e) a) (λ (k : ℕ). costIn d e k a)
-unfolding bit costIn
+cost-bits : (d e a : ℕ) → Digits 1 (λ (k : ℕ). bit (d * k + e) a) (λ (k : ℕ). costFromBits d e k a)
+unfolding bit costFromBits
 cost-bits d e a = record {
   none = refl;
-  more = λ k. ap (λ (n : ℕ). bit (d * k + e) a * 2 ^ n + costIn d e k a) (sym (one-mul k));
+  more = λ k. ap (λ (n : ℕ). bit (d * k + e) a * 2 ^ n + costFromBits d e k a) (sym (one-mul k));
   small = λ k. omega arith;
 }
 
 abbrev Inv-loop : tie.InvT-loop
-Inv-loop d a e c₀ j₀ c j = (j ≤ 16) × Whole 1 (λ (k : ℕ). costIn d e k a) 16 c j
+Inv-loop d a e c₀ j₀ c j = (j ≤ 16) × Whole 1 (λ (k : ℕ). costFromBits d e k a) 16 c j
 
 abbrev μ-loop : tie.MeasureT-loop
 μ-loop d a e c₀ j₀ c j = j

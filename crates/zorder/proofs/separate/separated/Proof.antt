@@ -6,20 +6,20 @@ use mathlib.Core.Path.{_≡_, sym, ap, ap₂, _∙_}
 use native.Mathlib.Nat.{le-of-suc-le-suc}
 use native.Mathlib.Omega.{arith}
 use lib.ListN.{length, getD, set}
-use Rattle.zorder.specs.Address.{rowCosts, costIn, costsFrom, costsOf}
+use Rattle.zorder.specs.Address.{rowCosts, costFromBits, costsFrom, costsOf}
 use Rattle.zorder.specs.Laws.Inverse.{costsOf-costs}
 use Rattle.zorder.proofs.Fill.{filled, filled-none, filled-more, filled-all}
 use Rattle.zorder.proofs.separate.separated.Statement.{statement}
 use Rattle.zorder.proofs.separate.separated.Tie as tie
 
-cost-at : (d n i a : ℕ) → i < n → getD (costsFrom d n a) i 0 ≡ costIn d (n - 1 - i) 16 a
+cost-at : (d n i a : ℕ) → i < n → getD (costsFrom d n a) i 0 ≡ costFromBits d (n - 1 - i) 16 a
 unfolding costsFrom
 cost-at d zero i a h = absurd (omega arith)
-cost-at d (suc n) zero a h = ap (λ (e : ℕ). costIn d e 16 a) (omega arith)
-cost-at d (suc n) (suc i) a h = cost-at d n i a (le-of-suc-le-suc h) ∙ ap (λ (e : ℕ). costIn d e 16 a) (omega arith)
+cost-at d (suc n) zero a h = ap (λ (e : ℕ). costFromBits d e 16 a) (omega arith)
+cost-at d (suc n) (suc i) a h = cost-at d n i a (le-of-suc-le-suc h) ∙ ap (λ (e : ℕ). costFromBits d e 16 a) (omega arith)
 
 -- A turn at e - 1 writes at d - e.
-cost-more : (d a e : ℕ) → 0 < e → e ≤ d → d ≤ rowCosts → set (filled (costsOf d a) (d - e)) (d - 1 - (e - 1)) (costIn d (e - 1) 16 a) ≡ filled (costsOf d a) (d - (e - 1))
+cost-more : (d a e : ℕ) → 0 < e → e ≤ d → d ≤ rowCosts → set (filled (costsOf d a) (d - e)) (d - 1 - (e - 1)) (costFromBits d (e - 1) 16 a) ≡ filled (costsOf d a) (d - (e - 1))
 unfolding costsOf
 cost-more d a e some most room =
     let t : List ℕ = costsOf d a in
@@ -27,7 +27,7 @@ cost-more d a e some most room =
     let at : d - 1 - (e - 1) ≡ d - e = omega arith in
     let next : d - e + 1 ≡ d - (e - 1) = omega arith in
     let place : d - 1 - (d - e) ≡ e - 1 = omega arith in
-    ap₂ (set (filled t (d - e))) at (sym (cost-at d d (d - e) a (omega arith) ∙ ap (λ (n : ℕ). costIn d n 16 a) place))
+    ap₂ (set (filled t (d - e))) at (sym (cost-at d d (d - e) a (omega arith) ∙ ap (λ (n : ℕ). costFromBits d n 16 a) place))
     ∙ filled-more t (d - e) 0 (omega arith) (omega arith)
     ∙ ap (filled t) next
 
