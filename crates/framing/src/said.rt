@@ -6,11 +6,10 @@ use promises::detail_of;
 use promises::number_of;
 use upkeep::Plan;
 ghost use mathlib.Core.Path.{_≡_};
-ghost use mathlib.Core.List.{_++_};
 ghost use Prim.Native.Nat.{_+_, _%_, _≤_};
 ghost use lib.ListN.{length};
-ghost use Rattle.framing.specs.Text.{byteText, wordText, refused, answerText};
-ghost use Rattle.framing.specs.Writing.{TextPut, TextRoom, openedText, planSaid};
+ghost use Rattle.framing.specs.Text.{refused, answerText};
+ghost use Rattle.framing.specs.Writing.{TextPut, TextRoom, headText, openedText, planSaid};
 
 // A number in two bytes.
 fn two_bytes(n: usize) -> u16
@@ -22,7 +21,7 @@ fn two_bytes(n: usize) -> u16
 // The number of a refusal, 0 of an accepted call, and a number of two bytes after it.
 fn put_head(out: &mut [u8], number: u8, n: usize) -> usize
     requires { ⌜ 6 ≤ length (now out) ⌝ }
-    ensures { λ r. ⌜ TextPut (byteText number ++ wordText n) (now (out .entry)) 0 (now (out .exit)) r ⌝ }
+    ensures { λ r. ⌜ TextPut (headText number n) (now (out .entry)) 0 (now (out .exit)) r ⌝ }
 {
     let next = put_byte(out, 0, number as u16);
     put_word(out, next, two_bytes(n))

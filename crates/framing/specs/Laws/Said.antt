@@ -25,8 +25,8 @@ unfolding saidBy answerOf
 accepted-text d v s accepts =
     ap (λ (b : Bool). answerText d (cond b s (refused (numberOf v) (detailOf v)))) (sym (eq-eqb (numberOf v) 0 accepts))
 
-pub head-length : (number n : ℕ) → length (byteText number ++ wordText n) ≡ 6
-unfolding byteText wordText
+pub head-length : (number n : ℕ) → length (headText number n) ≡ 6
+unfolding headText byteText wordText
 head-length number n = refl
 
 pub opened-most : (lists : Bool) (opened : ℕ) → length (openedText lists opened) ≤ 4
@@ -36,10 +36,10 @@ opened-most false opened = omega arith
 
 -- The text of an accepted answer, from its pieces.
 pub plan-text : (d count opened : ℕ) (lists : Bool) (rows : List Row) → length rows ≡ count
-    → ((headText count ++ openedText lists opened) ++ rowsText d rows) ++ lineEnd ∷ [] ≡ answerText d (cond lists (listed opened rows) (notice rows))
+    → ((headText 0 count ++ openedText lists opened) ++ rowsText d rows) ++ lineEnd ∷ [] ≡ answerText d (cond lists (listed opened rows) (notice rows))
 unfolding headText openedText answerText saidText
 plan-text d count opened true rows all =
-    ap (λ (n : ℕ). ((headText n ++ wordText opened) ++ rowsText d rows) ++ lineEnd ∷ []) (sym all)
+    ap (λ (n : ℕ). ((headText 0 n ++ wordText opened) ++ rowsText d rows) ++ lineEnd ∷ []) (sym all)
 plan-text d count opened false rows all =
-    ap (λ (l : List ℕ). (l ++ rowsText d rows) ++ lineEnd ∷ []) (append-nil (headText count))
-    ∙ ap (λ (n : ℕ). (headText n ++ rowsText d rows) ++ lineEnd ∷ []) (sym all)
+    ap (λ (l : List ℕ). (l ++ rowsText d rows) ++ lineEnd ∷ []) (append-nil (headText 0 count))
+    ∙ ap (λ (n : ℕ). (headText 0 n ++ rowsText d rows) ++ lineEnd ∷ []) (sym all)

@@ -7,6 +7,7 @@ use native.Mathlib.Omega.{arith}
 use Rattle.framing.specs.Laws.Put.{put-both, put-as}
 use Rattle.framing.specs.Laws.Texts.{byteText-length, wordText-low}
 use Rattle.framing.specs.Text.{byteText, wordText}
+use Rattle.framing.specs.Writing.{headText}
 use Rattle.framing.proofs.said.put_head.Statement.{statement}
 use Rattle.framing.proofs.said.put_head.Tie as tie
 
@@ -14,6 +15,7 @@ put-word-requires : tie.Need-put-word-requires
 put-word-requires c κs = omega (arith, byteText-length (c .before .before .before .before .before .before .before .args .number))
 
 returns : tie.Need-returns
+unfolding headText
 returns c =
     let a = c .before .before .before .before .before .before .before .before .before .before .args in
     put-as

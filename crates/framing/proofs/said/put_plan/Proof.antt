@@ -8,7 +8,7 @@ use lib.ListN.{length-map, length-set}
 use Rattle.promises.specs.Answers.{resultRow}
 use Rattle.upkeep.specs.Telling.{toldRows}
 use Rattle.framing.specs.Reading.{mostDigits}
-use Rattle.framing.specs.Writing.{headText, planSaid}
+use Rattle.framing.specs.Writing.{planSaid}
 use Rattle.framing.specs.Laws.Put.{put-one, put-both, put-as}
 use Rattle.framing.specs.Laws.Texts.{rowsText-most}
 use Rattle.framing.specs.Laws.Said.{refused-text, accepted-text, head-length, opened-most, plan-text}
@@ -69,7 +69,7 @@ same-length-2 c =
     ∙ c .before .before .before .before .before .before .before .before .before .before .put-head .ensures .kept)
 
 returns-2 : tie.Need-returns-2
-unfolding planSaid headText
+unfolding planSaid
 returns-2 c =
     let a = c .before .before .before .before .before .before .before .before .before .before .before .before .before .before .before .before .before .args in
     let told = toldRows (a .p .telling) (a .m .now) in

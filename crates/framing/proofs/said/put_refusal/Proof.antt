@@ -4,6 +4,7 @@ use native.Mathlib.Omega.{arith}
 use Rattle.framing.specs.Laws.Put.{put-one, put-both}
 use Rattle.framing.specs.Laws.Said.{head-length}
 use Rattle.framing.specs.Text.{saidText, answerText}
+use Rattle.framing.specs.Writing.{headText}
 use Rattle.framing.proofs.said.put_refusal.Statement.{statement}
 use Rattle.framing.proofs.said.put_refusal.Tie as tie
 
@@ -18,7 +19,7 @@ add-result c =
     omega (arith, head-length (a .number) (a .detail))
 
 returns : tie.Need-returns
-unfolding saidText answerText
+unfolding headText saidText answerText
 returns c = put-both (c .before .before .put-head .ensures) (put-one _ _ _ (slice-write-out c))
 
 pub put-refusal-spec : {M : Type 1} → statement M
