@@ -2,17 +2,21 @@
 use crate::expect::Call;
 use crate::plain::Plain;
 use crate::plain::follow;
+use crate::table::RANKED;
+use crate::table::Row;
 use crate::table::Table;
 use crate::table::WANT;
 use crate::table::row_at;
 use crate::table::same_row;
+use crate::table::same_rows;
+use loading::INPUT;
 use promises::Verdict;
 use promises::detail_of;
 use promises::number_of;
 use upkeep::Plan;
-use upkeep::ROW;
 use upkeep::Telling;
 use upkeep::told_next;
+use zorder::COSTS;
 ghost use Prim.Native.Nat.{_<_, _≤_};
 ghost use Rattle.upkeep.specs.Telling.{TellingAsked};
 ghost use Rattle.board.specs.Plan.{Able};
@@ -24,56 +28,72 @@ pub fn spoken(b: Plain, v: Verdict, count: usize, opened: usize) -> Plain {
     said.detail = detail_of(v);
     said.count = count;
     said.opened = opened;
+    said.right = true;
+    said
+}
+
+// Row i of a call.
+fn heard(t: &mut Table, told: Plain, i: usize, r: Row, listens: bool) -> Plain {
+    let mut said = told;
+    said.right = said.right && same_row(r, row_at(t, WANT, i));
+    if listens {
+        said.held = follow(t, said.held, r);
+    }
     said
 }
 
 // The rows of a call, one after another. A holder listens to notices; before there is one, a list is read.
-fn hear(m: &[u8], telling: Telling, count: usize, t: &mut Table, told: Plain, letter: u8) -> Plain
+fn hear(
+    m: &[u8],
+    telling: Telling,
+    count: usize,
+    t: &mut Table,
+    told: Plain,
+    listens: bool,
+) -> Plain
     requires { ⌜ (0 < count → TellingAsked telling (now m)) ⌝ }
 {
-    let change = b'Z' < letter;
-    let listens = told.holding == change && (change || letter == b'Q');
     let mut said = told;
     let mut at = 0;
     let mut i = 0;
     while i < count {
         let step = told_next(m, telling, at);
         let r = step.row;
-        said.right = said.right && same_row(r, row_at(t, WANT, i));
-        if listens {
-            said.held = follow(t, said.held, r);
-        }
+        said = heard(t, said, i, r, listens);
         at = step.next;
         i += 1;
     }
     said
 }
 
+fn costs_of(r: Row) -> [u16; COSTS] {
+    let mut costs = [0u16; COSTS];
+    let mut i = 0;
+    while i < COSTS {
+        costs[i] = r[2 + i];
+        i += 1;
+    }
+    costs
+}
+
 fn plan_change(m: &[u8], k: Call) -> Plan
     ensures { λ r. ⌜ Able r (now (m .entry)) × (0 < r .count → TellingAsked (r .telling) (now (m .entry))) ⌝ }
 {
-    let costs = k.costs;
-    if k.letter == b'w' {
-        return board::plan_withdraw(m, k.number, k.lent);
+    let letter = k.letter;
+    let r = k.row;
+    match letter {
+        b'w' => board::plan_withdraw(m, k.number, k.lent),
+        b'e' => board::plan_enter(m, k.number, costs_of(r), k.lent),
+        _ => board::plan_recost(m, k.number, costs_of(r), k.lent),
     }
-    if k.letter == b'e' {
-        return board::plan_enter(m, k.number, costs, k.lent);
-    }
-    board::plan_recost(m, k.number, costs, k.lent)
 }
 
 fn change(m: &mut [u8], k: Call, t: &mut Table, b: Plain) -> Plain {
     let p = plan_change(m, k);
     let v = p.verdict;
     let telling = p.telling;
-    let said = hear(
-        m,
-        telling,
-        p.count,
-        t,
-        spoken(b, v, p.count, p.opened),
-        k.letter,
-    );
+    let told = spoken(b, v, p.count, p.opened);
+    let said = hear(m, telling, p.count, t, told, b.holding);
     board::carry_out(m, p);
     said
 }
@@ -81,41 +101,28 @@ fn change(m: &mut [u8], k: Call, t: &mut Table, b: Plain) -> Plain {
 fn plan_query(m: &[u8], k: Call) -> Plan
     ensures { λ r. ⌜ (0 < r .count → TellingAsked (r .telling) (now (m .entry))) ⌝ }
 {
-    if k.letter == b'Q' {
-        return listing::plan_list(m, k.lent);
+    let letter = k.letter;
+    match letter {
+        b'Q' => listing::plan_list(m, k.lent),
+        b'B' => query::plan_band(m, k.argument, k.lent),
+        b'K' => query::plan_on_k(m, k.argument, k.lent),
+        _ => query::plan_chosen(m, k.argument, k.lent),
     }
-    if k.letter == b'B' {
-        return query::plan_band(m, k.argument, k.lent);
-    }
-    if k.letter == b'K' {
-        return query::plan_on_k(m, k.argument, k.lent);
-    }
-    query::plan_chosen(m, k.argument, k.lent)
 }
 
 fn query(m: &[u8], k: Call, t: &mut Table, b: Plain) -> Plain {
     let p = plan_query(m, k);
     let v = p.verdict;
     let telling = p.telling;
+    let told = spoken(b, v, p.count, p.opened);
     hear(
         m,
         telling,
         p.count,
         t,
-        spoken(b, v, p.count, p.opened),
-        k.letter,
+        told,
+        !b.holding & (k.letter == b'Q'),
     )
-}
-
-fn ranked_right(t: &Table, rows: &[[u16; ROW]], count: usize) -> bool {
-    let mut i = 0;
-    while i < count {
-        if i < rows.len() && !same_row(rows[i], row_at(t, WANT, i)) {
-            return false;
-        }
-        i += 1;
-    }
-    true
 }
 
 pub fn at_most(n: usize, bound: usize) -> usize
@@ -124,26 +131,46 @@ pub fn at_most(n: usize, bound: usize) -> usize
     if n <= bound { n } else { bound }
 }
 
-fn rank(m: &[u8], k: Call, t: &Table, b: Plain, rows: &mut [[u16; ROW]]) -> Plain {
+fn rank(m: &[u8], k: Call, b: Plain, rows: &mut [Row]) -> Plain {
     let lent = at_most(k.lent, rows.len());
     let a = query::rank(m, k.argument, &mut rows[..lent]);
     let v = a.verdict;
-    let mut said = spoken(b, v, a.count, a.opened);
-    said.right = ranked_right(t, rows, a.count);
+    spoken(b, v, a.count, a.opened)
+}
+
+fn ranked(m: &[u8], k: Call, t: &mut Table, b: Plain) -> Plain {
+    let mut said = rank(m, k, b, t);
+    said.right = same_rows(t, RANKED, WANT, said.count);
     said
+}
+
+// The first n rows loaded.
+pub fn load(m: &mut [u8], c: usize, d: usize, rows: &[[u16; INPUT]], n: usize) -> Verdict {
+    let k = at_most(n, rows.len());
+    loading::load(m, c, d, &rows[..k])
+}
+
+// A load to be refused: C out of range, or of the board's own C and a row with a number too large.
+fn reload(m: &mut [u8], k: Call, b: Plain) -> Plain {
+    let c = if k.argument % 2 == 0 { b.c } else { 4097 };
+    spoken(b, load(m, c, b.d, &[[65535u16; INPUT]], 1), 0, 0)
 }
 
 fn read(m: &[u8], k: Call, t: &mut Table, b: Plain) -> Plain {
     if k.letter == b'R' {
-        return rank(m, k, t, b, &mut [[0u16; ROW]; 4100]);
+        ranked(m, k, t, b)
+    } else {
+        query(m, k, t, b)
     }
-    query(m, k, t, b)
 }
 
 // The call on the memory of the board b; what it said, and how many rows the holder then holds.
 pub fn ask(m: &mut [u8], k: Call, t: &mut Table, b: Plain) -> Plain {
     if b'Z' < k.letter {
-        return change(m, k, t, b);
+        change(m, k, t, b)
+    } else if k.letter == b'L' {
+        reload(m, k, b)
+    } else {
+        read(m, k, t, b)
     }
-    read(m, k, t, b)
 }

@@ -1,23 +1,26 @@
 // What each call is to answer, judged on the plain board and the rows lent.
-use crate::plain::NONE;
 use crate::plain::Plain;
 use crate::plain::exchange;
 use crate::plain::find;
 use crate::plain::kept;
 use crate::plain::listed;
+use crate::plain::notice;
 use crate::plain::rank_all;
-use crate::plain::tell;
+use crate::rules::ALL;
 use crate::rules::Test;
+use crate::table::NONE;
 use crate::table::Row;
 use crate::table::Table;
 use crate::table::WANT;
-use zorder::COSTS;
+use crate::table::mark_of;
+use upkeep::ROW;
 
-// A call: e enter, w withdraw, c re-cost; Q list, B band, R rank, K on k, S chosen. What it is given, and the rows lent.
+// A call: e enter, w withdraw, c re-cost, with the row that is to stand; Q list, B band, R rank, K on k, S chosen, and L a load
+// to be refused, with an argument. Then the rows lent.
 pub struct Call {
     pub letter: u8,
     pub number: u16,
-    pub costs: [u16; COSTS],
+    pub row: Row,
     pub argument: usize,
     pub lent: usize,
 }
@@ -31,81 +34,123 @@ pub fn answer(b: Plain, refusal: usize, detail: usize, count: usize) -> Plain {
     after
 }
 
-// What turns a change down, but for 3 and 8; `old` is the row of its number.
-fn judge(b: Plain, k: Call, old: Row) -> usize {
-    let costs = k.costs;
+// Whether a cost past the first d is not zero.
+fn costs_past(d: usize, r: Row) -> bool {
+    let mut i = 2 + d % ROW;
+    while i < ROW && r[i] == 0 {
+        i += 1;
+    }
+    i < ROW
+}
+
+// What turns a change down, but for 3 and 8.
+fn judge(b: Plain, k: Call, present: bool) -> usize {
+    let r = k.row;
+    let enters = k.letter == b'e';
     if b.c <= (k.number as usize) {
-        return 4;
+        4
+    } else if k.letter != b'w' && costs_past(b.d, r) {
+        7
+    } else if enters != present {
+        0
+    } else if enters {
+        5
+    } else {
+        6
     }
-    if k.letter != b'w' && ((b.d < 3 && costs[2] != 0) || (b.d < 4 && costs[3] != 0)) {
-        return 7;
-    }
-    if (k.letter == b'e') == (old[0] == NONE) {
-        return 0;
-    }
-    if k.letter == b'e' { 5 } else { 6 }
 }
 
 // The change made on the plain board, and undone where too few rows are lent for its notice.
-fn change(b: Plain, t: &mut Table, k: Call) -> Plain {
-    let old = find(t, b.n, k.number);
-    let refusal = judge(b, k, old);
-    if 0 < refusal {
-        return answer(b, refusal, 0, 0);
-    }
-    let c = k.costs;
-    let mark = if k.letter == b'w' { NONE } else { 0 };
-    let new = [mark, k.number, c[0], c[1], c[2], c[3]];
+fn make(b: Plain, t: &mut Table, k: Call, old: Row) -> Plain {
+    let new = k.row;
     let n = exchange(t, b.n, old, new);
     let after = listed(b, t, n);
-    let left = tell(t, b, after, 1, 0);
-    let need = tell(t, after, b, 2, left);
+    let need = notice(t, b, after);
     if need <= k.lent {
-        return answer(after, 0, 0, need);
+        answer(after, 0, 0, need)
+    } else {
+        exchange(t, n, new, old);
+        answer(b, 8, need, 0)
     }
-    exchange(t, n, new, old);
-    answer(b, 8, need, 0)
+}
+
+fn change(b: Plain, t: &mut Table, k: Call) -> Plain {
+    let old = find(t, b.n, k.number);
+    let refusal = judge(b, k, mark_of(old) != NONE);
+    if refusal == 0 {
+        make(b, t, k, old)
+    } else {
+        answer(b, refusal, 0, 0)
+    }
 }
 
 // Whether a list's argument is out of range.
 fn is_bad(d: usize, letter: u8, x: usize) -> bool {
     match letter {
-        b'Q' => false,
         b'B' => 4095 < x,
         b'R' => x < 1 || 4096 < x,
         b'K' => x < 1 || d < x,
-        _ => x < 1 || (1usize << (d % 8)) <= x,
+        b'S' => x < 1 || (1usize << (d % 64)) <= x,
+        _ => false,
     }
+}
+
+// What turns any other call down, but for 8, and a change where there is no board.
+fn refused(b: Plain, k: Call) -> usize {
+    if k.letter == b'L' {
+        if (k.argument % 2 == 0) & (0 < b.c) {
+            4
+        } else {
+            2
+        }
+    } else if b.c == 0 {
+        3
+    } else if is_bad(b.d, k.letter, k.argument) {
+        7
+    } else {
+        0
+    }
+}
+
+fn test(d: usize, letter: u8, x: usize) -> Test {
+    match letter {
+        b'K' => Test::BeatsOn((x % 65536) as u32, d),
+        b'S' => Test::Beats(x),
+        _ => Test::Beats(ALL),
+    }
+}
+
+// How many may beat a move that is listed.
+fn most(letter: u8, x: usize) -> usize {
+    if letter == b'B' { x } else { 0 }
 }
 
 // The rows of a list among the wanted ones; how many they are.
 fn rows(b: Plain, t: &mut Table, letter: u8, x: usize) -> usize {
-    match letter {
-        b'Q' => kept(t, b.n, Test::Beats(15), 0, WANT),
-        b'B' => kept(t, b.n, Test::Beats(15), x, WANT),
-        b'K' => kept(t, b.n, Test::BeatsOn(x, b.d), 0, WANT),
-        b'S' => kept(t, b.n, Test::Beats(x), 0, WANT),
-        _ => {
-            rank_all(t, b);
-            if b.listed < x { b.listed } else { x }
-        }
+    if letter == b'R' {
+        rank_all(t, b, x)
+    } else {
+        kept(t, b.n, test(b.d, letter, x), most(letter, x), WANT)
+    }
+}
+
+fn list(b: Plain, t: &mut Table, k: Call) -> Plain {
+    let need = rows(b, t, k.letter, k.argument);
+    if need <= k.lent {
+        answer(b, 0, 0, need)
+    } else {
+        answer(b, 8, need, 0)
     }
 }
 
 // The plain board after the call, with its answer.
 pub fn expect(b: Plain, t: &mut Table, k: Call) -> Plain {
-    if b.c == 0 {
-        return answer(b, 3, 0, 0);
+    let refusal = refused(b, k);
+    if 0 < refusal {
+        answer(b, refusal, 0, 0)
+    } else if b'Z' < k.letter {
+        change(b, t, k)
+    } else {
+        list(b, t, k)
     }
-    if b'Z' < k.letter {
-        return change(b, t, k);
-    }
-    if is_bad(b.d, k.letter, k.argument) {
-        return answer(b, 7, 0, 0);
-    }
-    let need = rows(b, t, k.letter, k.argument);
-    if k.lent < need {
-        return answer(b, 8, need, 0);
-    }
-    answer(b, 0, 0, need)
 }

@@ -1,6 +1,6 @@
 // The board beside a plain all-pairs program: many boards, loaded and then changed and read through the public calls, each
 // answer held against one that is made from document 01's words alone, and a holder who follows the notices. Prints what was
-// compared, and the first calls where the two disagree. The word `long` makes a longer run.
+// compared, and each call where the two disagree. The word `long` makes a longer run.
 use upkeep::ROW;
 
 mod ask;
@@ -17,16 +17,15 @@ mod tally;
 fn boards_asked() -> usize {
     let mut word = [0u8; 8];
     if os::arg(1, &mut word) == 0 {
-        300
+        1200
     } else {
-        10000
+        40000
     }
 }
 
 fn main() {
     let mut t = [[0u16; ROW]; table::TABLE];
-    let mut u = [0u64; tally::CELLS];
-    let mut m = [0u8; 263168];
-    boards::all(&mut t, &mut u, &mut m, boards_asked());
+    let mut m = [0u8; boards::MEMORY];
+    let u = boards::all(&mut t, &mut m, boards_asked());
     tally::put_all(&u);
 }

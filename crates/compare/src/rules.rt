@@ -1,48 +1,55 @@
 // Definitions 1, 5 and 7 on rows, and the rows selected by them.
+use crate::table::NONE;
 use crate::table::Row;
 use crate::table::Table;
+use crate::table::mark_of;
 use crate::table::put_row;
 use crate::table::row_at;
 use crate::table::same_row;
+use zorder::COSTS;
+
+// The set of all costs.
+pub const ALL: usize = (1 << COSTS) - 1;
 
 // How one row stands to another: it beats it on a set of costs, bit i for cost i; on some k of the first d costs; it is
 // beaten; it is the same.
 pub enum Test {
     Beats(usize),
-    BeatsOn(usize, usize),
+    BeatsOn(u32, usize),
     Beaten,
     Same,
 }
 
 fn nowhere_greater(set: usize, p: Row, q: Row) -> bool {
-    (set % 2 == 0 || p[2] <= q[2])
-        && (set / 2 % 2 == 0 || p[3] <= q[3])
-        && (set / 4 % 2 == 0 || p[4] <= q[4])
-        && (set / 8 % 2 == 0 || p[5] <= q[5])
+    let mut i = 0;
+    while i < COSTS && ((set >> i) % 2 == 0 || p[2 + i] <= q[2 + i]) {
+        i += 1;
+    }
+    i == COSTS
 }
 
 fn beats(set: usize, p: Row, q: Row) -> bool {
     nowhere_greater(set, p, q) && !nowhere_greater(set, q, p)
 }
 
-fn beats_on(k: usize, d: usize, p: Row, q: Row) -> bool {
-    let sets = 1usize << (d % 8);
+fn is_on(k: u32, set: usize, p: Row, q: Row) -> bool {
+    usize::count_ones(set) == k && beats(set, p, q)
+}
+
+fn beats_on(k: u32, d: usize, p: Row, q: Row) -> bool {
+    let sets = 1usize << (d % 64);
     let mut set = 0;
-    while set < sets {
-        let ones = set % 2 + set / 2 % 2 + set / 4 % 2 + set / 8 % 2;
-        if ones == k && beats(set, p, q) {
-            return true;
-        }
+    while set < sets && !is_on(k, set, p, q) {
         set += 1;
     }
-    false
+    set < sets
 }
 
 fn stands(test: Test, p: Row, q: Row) -> bool {
     match test {
         Test::Beats(set) => beats(set, p, q),
         Test::BeatsOn(k, d) => beats_on(k, d, p, q),
-        Test::Beaten => beats(15, q, p),
+        Test::Beaten => beats(ALL, q, p),
         Test::Same => same_row(p, q),
     }
 }
@@ -55,9 +62,10 @@ pub struct Part {
 
 // How many rows of a part stand so to a row; counted no further than one past `most`.
 pub fn count(t: &Table, part: Part, test: Test, r: Row, most: usize) -> usize {
+    let n = part.count;
     let mut k: usize = 0;
     let mut i = 0;
-    while i < part.count && k <= most {
+    while i < n && k <= most {
         if stands(test, row_at(t, part.area, i), r) {
             k = k % 5000 + 1;
         }
@@ -76,16 +84,24 @@ pub struct Pick {
     pub at: usize,
 }
 
-// How many stand in that area then.
-pub fn select(t: &mut Table, part: Part, by: Pick) -> usize {
+// A row with its new mark.
+fn marked(t: &Table, area: usize, i: usize, by: Pick) -> Row {
     let against = by.against;
     let test = by.test;
+    let mut r = row_at(t, area, i);
+    let n = count(t, against, test, r, by.most);
+    r[0] = if n <= by.most { by.mark } else { NONE };
+    r
+}
+
+// How many stand in that area then.
+pub fn select(t: &mut Table, part: Part, by: Pick) -> usize {
+    let n = part.count;
     let mut k = by.at;
     let mut i = 0;
-    while i < part.count {
-        let mut r = row_at(t, part.area, i);
-        if count(t, against, test, r, by.most) <= by.most {
-            r[0] = by.mark;
+    while i < n {
+        let r = marked(t, part.area, i, by);
+        if mark_of(r) != NONE {
             put_row(t, by.to, k, r);
             k = k % 5000 + 1;
         }

@@ -1,10 +1,7 @@
-// The mixed run of calls on a board, each made on both: a change, the list, another list, at times a load to be refused.
+// The mixed run of calls on a board, each made on both: a change, the list, another list or at times a load to be refused.
 use crate::ask::ask;
-use crate::ask::spoken;
 use crate::dice;
-use crate::dice::roll;
 use crate::expect::Call;
-use crate::expect::answer;
 use crate::expect::expect;
 use crate::plain::Plain;
 use crate::table::HELD;
@@ -12,77 +9,52 @@ use crate::table::Table;
 use crate::table::same_rows;
 use crate::tally::Tally;
 use crate::tally::count;
-use crate::tally::judge;
-use promises::Verdict;
 
-// The holder has the list. Of a list call, every leaf with a listed move was opened, and no node is without moves; no other
-// call opens any.
-fn is_right(b: Plain, t: &Table, letter: u8, opened: usize) -> bool {
-    if b.holding && (b.held != b.listed || !same_rows(t, HELD, b.list, b.held)) {
-        return false;
-    }
-    if letter != b'Q' || 0 < b.refusal {
-        return opened == 0;
-    }
-    (b.listed % 5000 + 7) / 8 <= opened && opened <= b.n
+// The holder has the list.
+fn holds(b: Plain, t: &Table) -> bool {
+    !b.holding || (b.held == b.listed && same_rows(t, HELD, b.list, b.held))
 }
 
-fn call(b: Plain, t: &mut Table, u: &mut Tally, m: &mut [u8], k: Call) -> Plain {
-    let mut want = expect(b, t, k);
+// Of a list call, every leaf with a listed move was opened, and no node is without moves; no other call opens any.
+fn is_opened(b: Plain, letter: u8) -> bool {
+    if letter == b'Q' && b.refusal == 0 {
+        ((b.listed % 5000 + 7) / 8 <= b.opened) & (b.opened <= b.n)
+    } else {
+        b.opened == 0
+    }
+}
+
+// The plain board after a call, with what the board said of it.
+pub fn judged(want: Plain, said: Plain, t: &Table, letter: u8) -> Plain {
+    let mut b = want;
+    b.held = said.held;
+    b.holding = said.holding | ((letter == b'Q') & (said.refusal == 0));
+    b.opened = said.opened;
+    let same = (want.refusal == said.refusal)
+        & (want.detail == said.detail)
+        & (want.count == said.count);
+    b.right = said.right & same & is_opened(b, letter) & holds(b, t);
+    b
+}
+
+fn call(b: Plain, t: &mut Table, m: &mut [u8], k: Call) -> Plain {
+    let want = expect(b, t, k);
     let said = ask(m, k, t, b);
-    want.held = said.held;
-    want.holding = b.holding || (k.letter == b'Q' && said.refusal == 0);
-    let right = is_right(want, t, k.letter, said.opened);
-    want.right = right;
-    count(u, k.letter, want, said.opened);
-    judge(u, k.letter, want, said);
-    want
+    judged(want, said, t, k.letter)
 }
 
-// A load that is to be answered so.
-pub fn judge_load(want: Plain, u: &mut Tally, v: Verdict) {
-    count(u, b'L', want, 0);
-    judge(u, b'L', want, spoken(want, v, 0, 0));
-}
-
-// At times a load: C out of range, or a row with a number too large.
-fn refused_load(b: Plain, u: &mut Tally, m: &mut [u8]) {
-    let kind = roll(u, 40);
-    if b.c == 0 || 1 < kind {
-        return;
-    }
-    let c = if kind == 0 { 4097 } else { b.c };
-    let v = loading::load(m, c, b.d, &[[65535, 0, 0, 0, 0]]);
-    judge_load(answer(b, if kind == 0 { 2 } else { 4 }, 0, 0), u, v);
-}
-
-fn read(b: Plain, t: &mut Table, u: &mut Tally, m: &mut [u8]) -> Plain {
-    let first = dice::reading(b, u, b'Q');
-    let listed = call(b, t, u, m, first);
-    let second = dice::query(listed, u);
-    call(listed, t, u, m, second)
-}
-
-fn step(
-    b: Plain,
-    t: &mut Table,
-    u: &mut Tally,
-    m: &mut [u8],
-    style: usize,
-    growing: bool,
-) -> Plain {
-    let k = dice::change(b, t, u, style, growing);
-    let after = call(b, t, u, m, k);
-    refused_load(after, u, m);
-    read(after, t, u, m)
-}
-
-// Boards grow for 24 changes, then shrink for as many.
-pub fn run(b: Plain, t: &mut Table, u: &mut Tally, m: &mut [u8], style: usize, steps: usize) {
+pub fn run(b: Plain, t: &mut Table, m: &mut [u8], u: Tally, seed: usize, calls: usize) -> Tally {
     let mut after = b;
+    let mut counts = u;
+    let mut s = seed;
     let mut i = 0;
-    while i < steps {
-        after = step(after, t, u, m, style, i / 24 % 2 == 0);
+    while i < calls {
+        let k = dice::drawn(after, t, s, i);
+        after = call(after, t, m, k);
+        let more = count(counts, k.letter, after);
+        counts = more;
+        s = dice::next(s);
         i += 1;
     }
+    counts
 }

@@ -2,29 +2,13 @@
 use crate::plain::Plain;
 use libc::STDOUT_FILENO;
 
-// The first cell has the dice.
-pub const CELLS: usize = 128;
+pub type Tally = [u64; 128];
 
-pub type Tally = [u64; CELLS];
-
-pub fn add(u: &mut Tally, name: u8, v: usize) {
+pub fn add(u: Tally, name: u8, v: usize) -> Tally {
     let i = (name % 128) as usize;
-    u[i] = u[i] % 1000000000000 + (v as u64) % 1000000;
-}
-
-// A call counted by its answer; rows that are no notice and no list go to a cell without a line.
-pub fn count(u: &mut Tally, letter: u8, want: Plain, opened: usize) {
-    let refused = (want.refusal % 9) as u8;
-    let name = if b'Z' < letter { b'c' } else { letter };
-    add(u, if refused == 0 { name } else { 48 + refused }, 1);
-    let told = match name {
-        b'c' => b'n',
-        b'Q' => b'l',
-        _ => b'.',
-    };
-    add(u, told, want.count);
-    add(u, b'o', opened);
-    add(u, b'h', if want.holding { 1 } else { 0 });
+    let mut after = u;
+    after[i] = u[i] % 1000000000000 + (v as u64) % 1000000;
+    after
 }
 
 fn put(n: u64) {
@@ -32,24 +16,52 @@ fn put(n: u64) {
     io::print_decimal(STDOUT_FILENO, n);
 }
 
-// The answers of both boards. A disagreement is counted, and the first few written out, since one that is left behind brings
-// others: the call's letter, the board's number, both refusals.
-pub fn judge(u: &mut Tally, letter: u8, want: Plain, said: Plain) {
-    if want.refusal == said.refusal
-        && want.detail == said.detail
-        && want.count == said.count
-        && want.right
-        && said.right
-    {
-        return;
+// The cell of a call by its answer; its rows have the cell of the other case, which may be one without a line.
+fn cell(letter: u8, refusal: usize) -> u8 {
+    if 0 < refusal {
+        48 + (refusal % 9) as u8
+    } else if b'Z' < letter {
+        b'c'
+    } else {
+        letter
     }
-    add(u, b'!', 1);
-    if u[b'!' as usize] <= 3 {
-        io::write_all(STDOUT_FILENO, &[letter]);
-        put(u[b'b' as usize]);
-        put(want.refusal as u64);
-        put(said.refusal as u64);
-        io::write_all(STDOUT_FILENO, b"\n");
+}
+
+// The letter of a call where the two disagree, and the board's number.
+fn put_wrong(u: &Tally, letter: u8) {
+    io::write_all(STDOUT_FILENO, &[letter]);
+    put(u[b'#' as usize]);
+    io::write_all(STDOUT_FILENO, b"\n");
+}
+
+fn judge(u: Tally, letter: u8, right: bool) -> Tally {
+    if right {
+        u
+    } else {
+        put_wrong(&u, letter);
+        add(u, b'!', 1)
+    }
+}
+
+pub fn count(u: Tally, letter: u8, b: Plain) -> Tally {
+    let name = cell(letter, b.refusal);
+    let called = add(u, name, 1);
+    let told = add(called, name ^ 32, b.count);
+    let opened = add(told, b'o', b.opened);
+    let heard = add(opened, b'h', if b.holding { 1 } else { 0 });
+    judge(heard, letter, b.right)
+}
+
+// A byte of the names; the first of a line is its cell. The cell after it.
+fn put_byte(u: &Tally, cell: u8, b: u8) -> u8 {
+    if b == b'\n' {
+        put(u[(cell % 128) as usize]);
+    }
+    if cell == 0 {
+        b
+    } else {
+        io::write_all(STDOUT_FILENO, &[b]);
+        if b == b'\n' { 0 } else { cell }
     }
 }
 
@@ -57,18 +69,7 @@ fn put_named(u: &Tally, names: &[u8]) {
     let mut cell = 0u8;
     let mut i = 0;
     while i < names.len() {
-        let b = names[i];
-        if b == b'\n' {
-            put(u[(cell % 128) as usize]);
-        }
-        if cell == 0 {
-            cell = b;
-        } else {
-            io::write_all(STDOUT_FILENO, &[b]);
-        }
-        if b == b'\n' {
-            cell = 0;
-        }
+        cell = put_byte(u, cell, names[i]);
         i += 1;
     }
 }
@@ -76,11 +77,11 @@ fn put_named(u: &Tally, names: &[u8]) {
 pub fn put_all(u: &Tally) {
     put_named(
         u,
-        b"bboards\n^of size 4096\nLloads\ncchanges\nnrows of their notices\nQlists\n",
+        b"#boards\n^of size 4096\nLloads\ncchanges\nCrows of their notices\nQlists\n",
     );
     put_named(
         u,
-        b"lrows listed\nonodes opened\nBbands\nRranks\nKon k\nSchosen\n",
+        b"qrows listed\nonodes opened\nBbands\nRranks\nKon k\nSchosen\n",
     );
     put_named(
         u,

@@ -1,16 +1,16 @@
 -- `boards::fill` meets its contract: one row after another. Assumes nothing.
-use Prim.Native.Nat.{_-_}
 use mathlib.Core.Path.{_≡_}
+use Prim.Native.Nat.{_-_}
 use lib.ListN.{length}
 use borrow.Author.Needs.{needs}
 use Rattle.compare.proofs.boards.fill.Statement.{statement}
 use Rattle.compare.proofs.boards.fill.Tie as tie
 
 abbrev Inv-loop : tie.InvT-loop
-Inv-loop b t₀ u₀ input₀ style n i₀ t u input i = length input ≡ length input₀
+Inv-loop b t₀ input₀ seed n s₀ i₀ t input s i = length input ≡ length input₀
 
 abbrev μ-loop : tie.MeasureT-loop
-μ-loop b t₀ u₀ input₀ style n i₀ t u input i = n - i
+μ-loop b t₀ input₀ seed n s₀ i₀ t input s i = n - i
 
 pub fill-spec : {M : Type 1} → statement M
 fill-spec =
@@ -19,6 +19,11 @@ fill-spec =
     Inv-loop
     μ-loop
     (λ c. search needs)
+    (λ c. search needs)
+    (λ c. search needs)
+    (λ c. search needs)
+    (λ c κs. search needs)
+    (λ c κs. search needs)
     (λ c κs. search needs)
     (λ c κs. search needs)
     (λ c. search needs)

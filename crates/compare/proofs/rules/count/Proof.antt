@@ -5,10 +5,10 @@ use Rattle.compare.proofs.rules.count.Statement.{statement}
 use Rattle.compare.proofs.rules.count.Tie as tie
 
 abbrev Inv-loop : tie.InvT-loop
-Inv-loop t part test r most k₀ i₀ k i = Unit {0}
+Inv-loop t part test r most n k₀ i₀ k i = Unit {0}
 
 abbrev μ-loop : tie.MeasureT-loop
-μ-loop t part test r most k₀ i₀ k i = part .count - i
+μ-loop t part test r most n k₀ i₀ k i = n - i
 
 pub count-spec : {M : Type 1} → statement M
 count-spec =

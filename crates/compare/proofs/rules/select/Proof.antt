@@ -5,10 +5,10 @@ use Rattle.compare.proofs.rules.select.Statement.{statement}
 use Rattle.compare.proofs.rules.select.Tie as tie
 
 abbrev Inv-loop : tie.InvT-loop
-Inv-loop t₀ part by against test k₀ i₀ t k i = Unit {0}
+Inv-loop t₀ part by n k₀ i₀ t k i = Unit {0}
 
 abbrev μ-loop : tie.MeasureT-loop
-μ-loop t₀ part by against test k₀ i₀ t k i = part .count - i
+μ-loop t₀ part by n k₀ i₀ t k i = n - i
 
 pub select-spec : {M : Type 1} → statement M
 select-spec =
@@ -17,7 +17,6 @@ select-spec =
     Inv-loop
     μ-loop
     (λ c. search needs)
-    (λ c κs. search needs)
     (λ c κs. search needs)
     (λ c. search needs)
     (λ c κs. search needs)

@@ -1,16 +1,16 @@
--- `runs::run` meets its contract: one step after another. Assumes nothing but what `libc` says of its calls.
-use Prim.Native.Nat.{_-_}
+-- `runs::run` meets its contract: one call after another. Assumes nothing but what `libc` says of its calls.
 use mathlib.Core.Path.{_≡_}
+use Prim.Native.Nat.{_-_}
 use lib.ListN.{length}
 use borrow.Author.Needs.{needs}
 use Rattle.compare.proofs.runs.run.Statement.{statement}
 use Rattle.compare.proofs.runs.run.Tie as tie
 
 abbrev Inv-loop : tie.InvT-loop
-Inv-loop t₀ u₀ m₀ style steps after₀ i₀ t u m after i = length m ≡ length m₀
+Inv-loop t₀ m₀ seed calls after₀ counts₀ s₀ i₀ t m after counts s i = length m ≡ length m₀
 
 abbrev μ-loop : tie.MeasureT-loop
-μ-loop t₀ u₀ m₀ style steps after₀ i₀ t u m after i = steps - i
+μ-loop t₀ m₀ seed calls after₀ counts₀ s₀ i₀ t m after counts s i = calls - i
 
 pub run-spec : {M : Type 1} → statement M
 run-spec =
@@ -19,6 +19,9 @@ run-spec =
     Inv-loop
     μ-loop
     (λ c. search needs)
+    (λ c κs. search needs)
+    (λ c κs. search needs)
+    (λ c κs. search needs)
     (λ c κs. search needs)
     (λ c. search needs)
     (λ c. search needs)

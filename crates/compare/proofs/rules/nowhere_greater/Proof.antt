@@ -1,17 +1,17 @@
--- `table::before` meets its contract: one bit after another. Assumes nothing.
+-- `rules::nowhere_greater` meets its contract: one cost after another. Assumes nothing.
 use Prim.Native.Nat.{_-_}
 use borrow.Author.Needs.{needs}
-use Rattle.compare.proofs.table.before.Statement.{statement}
-use Rattle.compare.proofs.table.before.Tie as tie
+use Rattle.compare.proofs.rules.nowhere_greater.Statement.{statement}
+use Rattle.compare.proofs.rules.nowhere_greater.Tie as tie
 
 abbrev Inv-loop : tie.InvT-loop
-Inv-loop p q k₀ k = Unit {0}
+Inv-loop set p q i₀ i = Unit {0}
 
 abbrev μ-loop : tie.MeasureT-loop
-μ-loop p q k₀ k = 64 - k
+μ-loop set p q i₀ i = 4096 - i
 
-pub before-spec : {M : Type 1} → statement M
-before-spec =
+pub nowhere-greater-spec : {M : Type 1} → statement M
+nowhere-greater-spec =
     tie.close
     (tie.spec
     Inv-loop
@@ -21,9 +21,6 @@ before-spec =
     (λ c. search needs)
     (λ c. search needs)
     (λ c. search needs)
-    (λ c. search needs)
-    (λ c κs. search needs)
-    (λ c κs. search needs)
     (λ c. search needs)
     (λ c. search needs)
     (λ c. search needs)
