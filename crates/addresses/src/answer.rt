@@ -1,5 +1,6 @@
 // One line answered.
 use crate::line::Line;
+use crate::line::VALUES;
 use libc::STDOUT_FILENO;
 use zorder::COSTS;
 use zorder::Verdict;
@@ -19,19 +20,30 @@ fn put(n: u64) {
 }
 
 fn put_costs(costs: [u16; COSTS]) {
-    put(costs[0] as u64);
-    put(costs[1] as u64);
-    put(costs[2] as u64);
-    put(costs[3] as u64);
+    let mut i = 0;
+    while i < COSTS {
+        put(costs[i] as u64);
+        i += 1;
+    }
 }
 
 fn narrow(n: u64) -> u16 {
     (n % 65536) as u16
 }
 
-fn address(d: u64, a: u64, b: u64, c: u64, e: u64) {
+// The costs after a line's first number.
+fn costs_in(values: [u64; VALUES]) -> [u16; COSTS] {
+    let mut costs = [0u16; COSTS];
+    let mut i = 0;
+    while i < COSTS {
+        costs[i] = narrow(values[1 + i]);
+        i += 1;
+    }
+    costs
+}
+
+fn address(d: u64, costs: [u16; COSTS]) {
     io::write_all(STDOUT_FILENO, b"A");
-    let costs = [narrow(a), narrow(b), narrow(c), narrow(e)];
     put(d);
     put_costs(costs);
     io::write_all(STDOUT_FILENO, b" =");
@@ -76,7 +88,7 @@ pub fn answer(line: Line) {
     let letter = line.letter;
     let v = line.values;
     match letter {
-        b'A' => address(v[0], v[1], v[2], v[3], v[4]),
+        b'A' => address(v[0], costs_in(v)),
         b'U' => costs(v[0], v[1]),
         b'R' => region(v[0], v[1], v[2]),
         _ => {}

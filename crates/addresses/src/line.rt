@@ -1,7 +1,12 @@
 // A line of the input as far as it was read: a letter, then numbers, up to the sign `=`.
+use zorder::COSTS;
+
+// d and a row's costs; no line has more numbers.
+pub const VALUES: usize = 1 + COSTS;
+
 pub struct Line {
     pub letter: u8,
-    pub values: [u64; 8],
+    pub values: [u64; VALUES],
     pub count: usize,
     pub value: u64,
     pub open: bool,
@@ -12,7 +17,7 @@ impl Line {
     pub fn new() -> Self {
         Line {
             letter: 0,
-            values: [0u64; 8],
+            values: [0u64; VALUES],
             count: 0,
             value: 0,
             open: false,
@@ -33,7 +38,7 @@ impl Line {
         }
         if l.open {
             let n = l.count;
-            if n < 8 {
+            if n < VALUES {
                 l.values[n] = l.value;
                 l.count = n + 1;
             }

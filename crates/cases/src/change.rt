@@ -5,6 +5,7 @@ use crate::words::costs;
 use crate::words::narrow;
 use crate::words::value;
 use upkeep::Plan;
+use zorder::COSTS;
 ghost use Prim.Native.Nat.{_<_};
 ghost use Rattle.upkeep.specs.Telling.{TellingAsked};
 ghost use Rattle.board.specs.Plan.{Able};
@@ -16,7 +17,7 @@ fn planned(letter: u8, memory: &[u8], values: &[u64]) -> Plan
     if letter == b'W' {
         return board::plan_withdraw(memory, number, value(values, 1) as usize);
     }
-    let lent = value(values, 5) as usize;
+    let lent = value(values, 1 + COSTS) as usize;
     if letter == b'C' {
         return board::plan_recost(memory, number, costs(values, 1), lent);
     }

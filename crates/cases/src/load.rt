@@ -1,7 +1,6 @@
 // A load, its rows read from the numbers of the line.
 use crate::print::put_verdict;
 use crate::words::at_most;
-use crate::words::costs;
 use crate::words::narrow;
 use crate::words::value;
 use loading::INPUT;
@@ -9,14 +8,18 @@ use promises::Verdict;
 
 const ROWS: usize = 400;
 
-// Row i of a load: its number stands at place 4 + 5 i, its costs after it.
+// The longest line is a load of so many rows.
+pub const VALUES: usize = 4 + INPUT * ROWS;
+
+// Row i of a load, below ROWS: its number and costs stand from place 4 + INPUT i on.
 fn row(values: &[u64], i: usize) -> [u16; INPUT] {
-    if ROWS <= i {
-        return [0u16; INPUT];
+    let mut r = [0u16; INPUT];
+    let mut j = 0;
+    while j < INPUT {
+        r[j] = narrow(value(values, 4 + INPUT * (i % ROWS) + j));
+        j += 1;
     }
-    let at = 4 + 5 * i;
-    let c = costs(values, at + 1);
-    [narrow(value(values, at)), c[0], c[1], c[2], c[3]]
+    r
 }
 
 fn read_rows(values: &[u64], input: &mut [[u16; INPUT]]) {

@@ -26,12 +26,11 @@ pub fn put_told(v: Verdict, count: usize) {
 }
 
 pub fn put_row(r: [u16; ROW]) {
-    put(r[0] as u64);
-    put(r[1] as u64);
-    put(r[2] as u64);
-    put(r[3] as u64);
-    put(r[4] as u64);
-    put(r[5] as u64);
+    let mut i = 0;
+    while i < ROW {
+        put(r[i] as u64);
+        i += 1;
+    }
 }
 
 // The rows of a telling, of which there are so many.

@@ -53,12 +53,13 @@ pub fn costs(values: &[u64], i: usize) -> [u16; COSTS] {
     if values.len() <= i {
         return [0u16; COSTS];
     }
-    [
-        narrow(value(values, i)),
-        narrow(value(values, i + 1)),
-        narrow(value(values, i + 2)),
-        narrow(value(values, i + 3)),
-    ]
+    let mut costs = [0u16; COSTS];
+    let mut j = 0;
+    while j < COSTS {
+        costs[j] = narrow(value(values, i + j));
+        j += 1;
+    }
+    costs
 }
 
 fn put_value(values: &mut [u64], i: usize, v: u64) {

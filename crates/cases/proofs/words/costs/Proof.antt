@@ -1,0 +1,29 @@
+-- `words::costs` meets its contract: one cost after another. Assumes nothing.
+use Prim.Native.Nat.{_-_}
+use borrow.Author.Needs.{needs}
+use Rattle.cases.proofs.words.costs.Statement.{statement}
+use Rattle.cases.proofs.words.costs.Tie as tie
+
+abbrev Inv-loop : tie.InvT-loop
+Inv-loop values i costs₀ j₀ costs j = Unit {0}
+
+abbrev μ-loop : tie.MeasureT-loop
+μ-loop values i costs₀ j₀ costs j = 4096 - j
+
+pub costs-spec : {M : Type 1} → statement M
+costs-spec =
+    tie.close
+    (tie.spec
+    Inv-loop
+    μ-loop
+    (λ c. search needs)
+    (λ c. search needs)
+    (λ c. search needs)
+    (λ c κs. search needs)
+    (λ c κs. search needs)
+    (λ c. search needs)
+    (λ c. search needs)
+    (λ c. search needs)
+    (λ c. search needs)
+    (λ c. search needs)
+    (λ c. search needs))
