@@ -4,7 +4,7 @@ use mathlib.Core.Bool.{Bool, true, false, cond, _&&_, _||_}
 use mathlib.Core.List.{List, [], _∷_, map}
 use lib.Dec.{leb, ltb, eqb}
 use lib.ListN.{length}
-use Rattle.model.specs.Moves.{Move, inZOrder}
+use Rattle.model.specs.Moves.{Move}
 use Rattle.line.specs.Line.{Placed}
 
 -- Whether entry j of n starts a group: the first; each eighth that leaves a group of 3; the third from the end where fewer

@@ -1,10 +1,10 @@
 -- Nodes and entries by places of a line. The node at level l that starts at a place ends at the next place with height l or
 -- more; its entries start at its places with height l-1 or more.
-use Prim.Native.Nat.{ℕ, zero, suc, _+_, _-_, max}
+use Prim.Native.Nat.{ℕ, zero, suc, _+_, _-_}
 use mathlib.Core.Bool.{cond}
 use mathlib.Core.List.{List, [], _∷_, _++_}
 use lib.Dec.{leb}
-use lib.ListN.{length, take, drop, getD}
+use lib.ListN.{take, drop, getD}
 use Rattle.zorder.specs.Between.{sideOf}
 use Rattle.model.specs.Basics.{count}
 use Rattle.model.specs.Moves.{Move}

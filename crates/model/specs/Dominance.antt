@@ -1,5 +1,5 @@
 -- Dominance: Definitions 1, 5 and 7 of Z-SKY, in document 01's words. "Less is better."
-use Prim.Native.Nat.{ℕ, zero}
+use Prim.Native.Nat.{ℕ}
 use mathlib.Core.Bool.{Bool, true, false, not, _&&_, _||_}
 use mathlib.Core.List.{List, [], _∷_, map}
 use lib.Dec.{ltb}

@@ -2,9 +2,8 @@
 use Prim.Native.Nat.{ℕ, zero, suc}
 use mathlib.Core.Bool.{Bool, not}
 use mathlib.Core.List.{List, [], _∷_, flatMap}
-use lib.ListN.{length}
 use Rattle.zorder.specs.Between.{nearOf, farOf}
-use Rattle.model.specs.Basics.{select, any, count, firstOr, lastOr}
+use Rattle.model.specs.Basics.{any, count, firstOr, lastOr}
 use Rattle.model.specs.Moves.{Move, noMove}
 use Rattle.model.specs.Dominance.{dominates}
 use Rattle.model.specs.Tree.{Entry, Tree, empty, rooted, movesUnder, movesOf}

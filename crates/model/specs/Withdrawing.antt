@@ -4,8 +4,8 @@ use mathlib.Core.Bool.{Bool, cond, not}
 use mathlib.Core.List.{List, [], _∷_, _++_}
 use lib.Dec.{ltb, eqb}
 use lib.ListN.{length}
-use Rattle.model.specs.Basics.{select, any, equal}
-use Rattle.model.specs.Moves.{Move, noMove, inZOrder}
+use Rattle.model.specs.Basics.{select, equal}
+use Rattle.model.specs.Moves.{Move, inZOrder}
 use Rattle.model.specs.Tree.{Entry, Tree, empty, rooted, movesUnder, movesOf}
 use Rattle.model.specs.Entering.{enterTree}
 

@@ -1,6 +1,6 @@
 -- Document 01's number and detail for each verdict, and what lent rows hold.
 use Prim.Native.Nat.{ℕ, zero, suc}
-use mathlib.Core.List.{List, _++_, map}
+use mathlib.Core.List.{List, _++_}
 use lib.ListN.{length, getD, drop}
 use Rattle.model.specs.Moves.{InputRow, Row}
 use Rattle.model.specs.Calls as calls

@@ -7,11 +7,10 @@ use mathlib.Core.Path.{_≡_}
 use lib.ListN.{length}
 use Rattle.zorder.specs.Refusal.{costCountBad}
 use Rattle.model.specs.Basics.{Each}
-use Rattle.model.specs.Moves.{Move}
 use Rattle.model.specs.Lists.{skyline}
 use Rattle.model.specs.Tree.{Tree, movesOf, ruled}
 use Rattle.model.specs.Calls.{Board, sizeBad, memoryNeed}
-use Rattle.line.specs.Line.{Placed, lineOf}
+use Rattle.line.specs.Line.{lineOf}
 use Rattle.promises.specs.Layout.{sizeIn, dimensionIn, countIn, lineIn, boardIn, keptIn}
 
 -- A tree that keeps document 01's rules stands in the memory.

@@ -12,7 +12,7 @@ use memory::number_at;
 use memory::set_height;
 use zorder::side_of;
 ghost use mathlib.Core.Path.{_≡_};
-ghost use Prim.Native.Nat.{_≤_, _<_};
+ghost use Prim.Native.Nat.{_<_};
 ghost use Rattle.dominance.specs.Move.{asMove};
 ghost use Rattle.tree.specs.Enter as enter;
 

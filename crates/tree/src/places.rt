@@ -3,10 +3,7 @@ use memory::costs_of;
 use memory::height_at;
 use memory::number_at;
 use zorder::side_of;
-ghost use mathlib.Core.Path.{_≡_};
-ghost use Prim.Native.Nat.{ℕ, _≤_, _<_};
-ghost use Rattle.line.specs.Places as definition;
-ghost use Rattle.promises.specs.Layout.{lineFrom};
+ghost use Prim.Native.Nat.{_≤_, _<_};
 ghost use Rattle.memory.specs.Room.{Room};
 ghost use Rattle.tree.specs.Rows.{NodeEnd, NodeStart, Entries, EntryAt, SideAt, SideAsked, EntryAsked};
 

@@ -2,7 +2,7 @@
 use memory::height_at;
 use memory::set_height;
 ghost use mathlib.Core.Path.{_≡_};
-ghost use Prim.Native.Nat.{ℕ, _+_, _≤_, _<_};
+ghost use Prim.Native.Nat.{_+_, _≤_, _<_};
 ghost use Rattle.line.specs.Load as definition;
 ghost use Rattle.memory.specs.Room.{Room};
 ghost use Rattle.tree.specs.Rows.{Raised, RaisedAll};

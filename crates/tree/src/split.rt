@@ -7,8 +7,7 @@ use crate::places::side_between;
 use memory::Head;
 use memory::height_at;
 use memory::set_height;
-ghost use mathlib.Core.Path.{_≡_};
-ghost use Prim.Native.Nat.{_≤_, _<_};
+ghost use Prim.Native.Nat.{_<_};
 ghost use Rattle.tree.specs.Split as split;
 
 // The sum of the two sides if the node from s to e is cut before place q.

@@ -14,7 +14,7 @@ use memory::set_number;
 use memory::set_work;
 use memory::work_at;
 ghost use mathlib.Core.Path.{_≡_};
-ghost use Prim.Native.Nat.{_≤_, _<_};
+ghost use Prim.Native.Nat.{_<_};
 ghost use Rattle.tree.specs.Withdraw as withdraw;
 
 // Rows from a place up to another.

@@ -1,6 +1,6 @@
 -- What a change does to the list. `Upkept` says it by the definition: who is in the list of the moves afterwards; the
 -- definitions before it are what the steps compute.
-use Prim.Native.Nat.{ℕ, suc, _+_, _<_, _≤_}
+use Prim.Native.Nat.{ℕ, suc, _<_, _≤_}
 use mathlib.Core.Bool.{Bool, true, false, cond, not, _&&_, _||_}
 use mathlib.Core.Path.{_≡_}
 use mathlib.Core.List.{List, _++_}

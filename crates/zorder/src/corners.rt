@@ -9,7 +9,7 @@ use crate::separate::too_large;
 ghost use mathlib.Core.Path.{_≡_};
 ghost use mathlib.Core.List.{map};
 ghost use Prim.Native.Nat.{_≤_, _<_, _*_, _^_};
-ghost use lib.ListN.{take, drop};
+ghost use lib.ListN.{take};
 ghost use Rattle.zorder.specs.Address.{rowCosts, padded};
 ghost use Rattle.zorder.specs.Region as definition;
 ghost use Rattle.zorder.specs.Promise.{RegionPromise, RefusedRegion};

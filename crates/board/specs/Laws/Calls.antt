@@ -6,7 +6,6 @@ use mathlib.Core.Path.{_≡_, refl, sym, ap, ap₂, _∙_}
 use native.Mathlib.Omega.{arith}
 use borrow.Author.Tests.{ltb-true, lt-ltb, le-ltb, ltb-false}
 use lib.Dec.{ltb}
-use lib.ListN.{length}
 use Rattle.model.specs.Moves as model
 use Rattle.model.specs.Moves.{insert}
 use Rattle.model.specs.Withdrawing.{without}

@@ -1,5 +1,5 @@
 -- The refusal of a change, from the answers of its checks on sound memory.
-use Prim.Native.Nat.{ℕ, zero, suc, zero-le, suc-le-suc}
+use Prim.Native.Nat.{ℕ, suc, zero-le, suc-le-suc}
 use mathlib.Core.Bool.{Bool, true, false, cond, not, _&&_, _||_}
 use mathlib.Core.List.{List, [], _∷_}
 use mathlib.Core.Path.{_≡_, refl, sym, ap, ap₂, _∙_}
@@ -12,7 +12,7 @@ use Rattle.model.specs.Calls as calls
 use Rattle.model.specs.Calls.{onBoard, changeRefusal, refusedWith}
 use Rattle.line.specs.Line.{Placed, movesIn}
 use Rattle.line.specs.Withdraw.{placeOf}
-use Rattle.promises.specs.Layout.{boardIn, lineFrom, lineIn}
+use Rattle.promises.specs.Layout.{boardIn, lineFrom}
 use Rattle.promises.specs.Answers.{answerOf}
 use Rattle.promises.specs.declared.Verdict.{Verdict}
 use Rattle.memory.specs.Held.{SoundAt}

@@ -1,5 +1,5 @@
 -- The end of every change: rows that hold the new tree, marks that say who is in its list, and then the count.
-use Prim.Native.Nat.{ℕ, _-_, _<_}
+use Prim.Native.Nat.{ℕ, _<_}
 use mathlib.Core.Bool.{not}
 use mathlib.Core.List.{List}
 use mathlib.Core.Path.{_≡_, sym, ap, ap₂, _∙_, subst, subst₃}

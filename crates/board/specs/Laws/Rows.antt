@@ -22,7 +22,6 @@ use Rattle.promises.specs.Sound.{Stands}
 use Rattle.promises.specs.Run.{Bytes}
 use Rattle.memory.specs.Room.{Numbers, ReadableRows}
 use Rattle.memory.specs.Held.{SoundAt}
-use Rattle.memory.specs.declared.sound.Head.{Head}
 use Rattle.memory.specs.Stores.{setCosts}
 use Rattle.memory.specs.Frame.{DifferWithin, MarksOnly}
 use Rattle.memory.specs.Laws.Frames.{room-over}

@@ -4,11 +4,10 @@ use Prim.Native.Nat.{ℕ}
 use mathlib.Core.List.{List, [], _∷_}
 use mathlib.Core.Path.{_≡_, refl, sym, ap, ap₂, _∙_, subst}
 use lib.ListN.{length, take}
-use Rattle.model.specs.Moves.{Row}
 use Rattle.model.specs.Calls as calls
 use Rattle.model.specs.Calls.{loaded}
-use Rattle.model.specs.Holder.{change, listCall, other, Event, Demand3}
-use Rattle.promises.specs.Answers.{answerOf, numberOf, detailOf}
+use Rattle.model.specs.Holder.{change, listCall, other, Demand3}
+use Rattle.promises.specs.Answers.{answerOf}
 use Rattle.promises.specs.Run as run
 use Rattle.promises.specs.Run.{Step, History, eventOf, runOf, EachRun}
 use Rattle.promises.specs.Laws.Demand3.{each-run}

@@ -12,7 +12,7 @@ use lib.ListN.{length}
 use Rattle.model.specs.Basics.{Each, consIf, all, within}
 use Rattle.model.specs.Tree.{Entry, Tree, empty, rooted, firstMove, filled, rootLeast, filledTree}
 use Rattle.model.specs.Laws.Bool.{testCases, and-left, and-right, and-both}
-use Rattle.model.specs.Laws.Basics.{each-mono, all-each, each-all}
+use Rattle.model.specs.Laws.Basics.{each-mono}
 use Rattle.line.specs.Line.{Placed, lineOf, heightsIn}
 use Rattle.line.specs.Heights.{firstHighest, countsFrom, countsAt, rootCount, levelsRight, heightsRight}
 use Rattle.line.specs.Laws.Line.{row, Low, tree-whole, tree-depth, restAt, rest-low, line-cons}

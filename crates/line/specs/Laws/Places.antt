@@ -17,7 +17,7 @@ use Rattle.model.specs.Laws.Bool.{testCases, condCases}
 use Rattle.model.specs.Laws.Basics.{each-mono, count-none, count-map}
 use Rattle.line.specs.Line.{Placed, none, heightsIn}
 use Rattle.line.specs.Laws.Line.{row, Low}
-use Rattle.line.specs.Places.{lowerAmong, startAmong, endAmong, entriesAmong, entryAmong, moveAt, heightAt, lower, nodeStart, nodeEnd, entries, entryAt, setHeight, insertAt}
+use Rattle.line.specs.Places.{lowerAmong, startAmong, endAmong, entriesAmong, entryAmong, moveAt, heightAt, lower, nodeStart, nodeEnd, entries, setHeight, insertAt}
 
 -- Nothing follows, or a row with height l or more.
 abbrev pub FirstAtLeast : ℕ → List Placed → Type 0

@@ -11,7 +11,7 @@ use native.Mathlib.Omega.{arith}
 use borrow.Author.Tests.{not-false}
 use lib.Dec.{eqb}
 use lib.ListN.{length, List·getD-eq-default}
-use Rattle.zorder.specs.Between.{rowCosts, RowCosts, nearOf}
+use Rattle.zorder.specs.Between.{RowCosts, nearOf}
 use Rattle.zorder.specs.Laws.Between.{near-row}
 use Rattle.model.specs.Basics.{Each, any, within}
 use Rattle.model.specs.Moves.{Move, ordered}

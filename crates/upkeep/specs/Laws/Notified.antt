@@ -1,15 +1,15 @@
 -- The rows that the steps choose are the notice: the difference of the lists before and after the change.
-use Prim.Native.Nat.{ℕ, _<_, _≤_}
+use Prim.Native.Nat.{ℕ}
 use mathlib.Core.Bool.{Bool, true, false, not, cond, _&&_}
 use mathlib.Core.List.{List, [], _∷_, _++_, map, map-append, List·Memᴰ, Memᴰ·map, Memᴰ·of-map}
 use mathlib.Core.Path.{_≡_, refl, sym, ap, ap₂, _∙_, subst}
 use lib.Dec.{eqb}
-use Rattle.model.specs.Basics.{Each, select, rising, insertBy, numbersFrom}
-use Rattle.model.specs.Moves.{Move, moveBefore, insert, ordered}
+use Rattle.model.specs.Basics.{Each, select, rising, insertBy}
+use Rattle.model.specs.Moves.{Move, moveBefore}
 use Rattle.model.specs.Lists.{hidden, skyline}
-use Rattle.model.specs.Laws.Bool.{byCases, testCases, same-test, and-both, and-left, and-right, not-flip, not-back, both-ways}
-use Rattle.model.specs.Laws.Basics.{mem-each, each-mem, select-mem, select-ext, select-select, select-map, select-append, each-select}
-use Rattle.model.specs.Laws.Sorting.{StrictOrder, BeforeEach, select-insert, insert-append-right, insert-before}
+use Rattle.model.specs.Laws.Bool.{byCases, testCases, same-test, and-both, and-left, and-right, not-flip, not-back}
+use Rattle.model.specs.Laws.Basics.{mem-each, select-mem, select-ext, select-select, select-map, select-append}
+use Rattle.model.specs.Laws.Sorting.{StrictOrder, select-insert, insert-append-right, insert-before}
 use Rattle.model.specs.Laws.Skyline.{skyline-mem, mem-skyline}
 use Rattle.model.specs.Laws.Notice.{among, gone, mem-among, among-mem}
 

@@ -6,17 +6,16 @@ use mathlib.Core.Logic.{⊎-elim}
 use mathlib.Core.Path.{_≡_, refl, sym, ap, ap₂, _∙_, subst}
 use native.Mathlib.Nat.{sub-zero, zero-add, add-sub-of-le, eq-or-lt-of-le}
 use native.Mathlib.Omega.{arith}
-use borrow.Author.Tests.{eqb-true, eqb-false, eq-eqb}
+use borrow.Author.Tests.{eqb-true, eqb-false}
 use lib.Dec.{eqb}
 use lib.ListN.{length, length-append, length-map, getD}
 use Rattle.model.specs.Basics.{Each, consIf, select, count, rising, insertBy, numbersFrom}
 use Rattle.model.specs.Moves.{Move, Row, rowOf, moveBefore, insert, ordered, left, entered}
 use Rattle.model.specs.Lists.{hidden, skyline}
 use Rattle.model.specs.Notice.{noticeOf}
-use Rattle.model.specs.Calls.{onBoard}
 use Rattle.model.specs.Sound.{Fit}
-use Rattle.model.specs.Laws.Bool.{byCases, testCases, both-ways, and-left, and-right, not-back, not-flip}
-use Rattle.model.specs.Laws.Basics.{mem-each, each-mem, each-map, select-mem, mem-select, select-ext, select-append, each-select}
+use Rattle.model.specs.Laws.Bool.{byCases, testCases, and-left, and-right, not-back, not-flip}
+use Rattle.model.specs.Laws.Basics.{mem-each, each-mem, select-mem, mem-select, select-ext, select-append}
 use Rattle.model.specs.Laws.Order.{move-order, off-board}
 use Rattle.model.specs.Laws.Sorting.{StrictOrder, insert-mem, mem-insert-old, asym, connex, rising-cons, rising-tail, rising-head}
 use Rattle.model.specs.Laws.Skyline.{skyline-mem}

@@ -8,7 +8,6 @@ use borrow.Author.Needs.{needs}
 use Rattle.zorder.specs.Address.{rowCosts}
 use Rattle.zorder.specs.Laws.Address.{Costs}
 use Rattle.zorder.proofs.Row.{row-costs}
-use Rattle.promises.specs.Answers.{numberOf}
 use Rattle.promises.specs.Run.{Bytes}
 use Rattle.promises.specs.declared.Verdict.{Verdict}
 use Rattle.dominance.specs.declared.Move.{Move}

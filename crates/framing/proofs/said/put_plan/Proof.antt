@@ -1,5 +1,4 @@
 -- `said::put_plan` meets its contract. Assumes nothing.
-use borrow.Author.Needs.{needs}
 use Prim.Native.Nat.{ℕ, _+_, _*_, _≤_}
 use mathlib.Core.List.{map}
 use mathlib.Core.Path.{sym, _∙_}
