@@ -29,7 +29,7 @@ exportedEvent (changes x lent lent' r bytes p) =
     record { call = change x; lent = length lent; answer = answered r; rows = take (r .count) lent' }
 exportedEvent (lists lent lent' r p) =
     record { call = listCall; lent = length lent; answer = answered r; rows = take (r .count) lent' }
-exportedEvent (queries q lent lent' r p) = record { call = other; lent = 0; answer = record { number = 0; detail = 0 }; rows = [] }
+exportedEvent (queries q lent lent' r p) = record { call = other; lent = 0; answer = answered r; rows = [] }
 exportedEvent (loadRefused c d rows r p refused) = record { call = other; lent = 0; answer = answered r; rows = [] }
 
 -- Any calls on one memory, whatever it holds at first.

@@ -18,7 +18,7 @@ use promises::number_of;
 use upkeep::Plan;
 use upkeep::nothing;
 ghost use Rattle.framing.specs.Frames as frames;
-ghost use Rattle.framing.specs.Serving.{HoldsState, Lent, CallAsked, Served, RespondAsked, PlanServed, ChangePlan, Answers};
+ghost use Rattle.framing.specs.Serving.{HoldsState, Lent, CallAsked, Served, ChangedAsked, PlanServed, ChangePlan, Answers};
 
 // How many bytes the answer has, and the number of costs from now on: 0 before the first accepted load.
 pub struct Response {
@@ -49,7 +49,7 @@ fn loaded(m: &mut [u8], d: usize, asked: usize, out: &mut [u8]) -> Response
 
 // A change told, then made: its rows are read from the board as it was.
 fn changed(m: &mut [u8], d: usize, p: Plan, out: &mut [u8]) -> usize
-    requires { ⌜ RespondAsked d p (now m) (now out) ⌝ }
+    requires { ⌜ ChangedAsked d p (now m) (now out) ⌝ }
     ensures { λ r. ⌜ PlanServed d p (now (m .entry)) (now (out .entry)) r (now (m .exit)) (now (out .exit)) ⌝ }
 {
     let count = put_plan(out, m, d, false, p);

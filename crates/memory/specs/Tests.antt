@@ -33,15 +33,19 @@ numbersRight c n m = allTo (λ i. ltb (numberIn c m i) c) n
 unfoldable pub orderRight : ℕ → ℕ → ℕ → List ℕ → Bool
 orderRight c d n m = allTo (λ i. moveBefore d (moveIn c d m i) (moveIn c d m (suc i))) (n - 1)
 
-unfoldable pub isListed : ℕ → ℕ → List ℕ → ℕ → Bool
-isListed c d m i = eqb (markIn c m (moveIn c d m i .number)) 1
+-- Whether the move with a number is listed, and the one at place i.
+abbrev pub isMarked : ℕ → List ℕ → ℕ → Bool
+isMarked c m k = eqb (markIn c m k) 1
+
+unfoldable pub isListed : ℕ → List ℕ → ℕ → Bool
+isListed c m i = isMarked c m (numberIn c m i)
 
 -- A listed move at a place before i hides x.
 unfoldable pub hiddenBefore : ℕ → ℕ → List ℕ → ℕ → Move → Bool
-hiddenBefore c d m i x = anyTo (λ j. isListed c d m j && hides d (moveIn c d m j) x) i
+hiddenBefore c d m i x = anyTo (λ j. isListed c m j && hides d (moveIn c d m j) x) i
 
 unfoldable pub marksRight : ℕ → ℕ → ℕ → List ℕ → Bool
-marksRight c d n m = allTo (λ i. Bool·beq (isListed c d m i) (not (hiddenBefore c d m i (moveIn c d m i)))) n
+marksRight c d n m = allTo (λ i. Bool·beq (isListed c m i) (not (hiddenBefore c d m i (moveIn c d m i)))) n
 
 -- The answer says whether the memory is sound.
 pub record Decides (r : Bool) (m : List ℕ) : Type 0 where

@@ -5,6 +5,7 @@ use mathlib.Core.List.{List, [], _∷_}
 use mathlib.Core.Path.{_≡_}
 use lib.ListN.{length, take, getD}
 use Rattle.model.specs.Moves.{InputRow, Row}
+use Rattle.model.specs.Calls as calls
 use Rattle.model.specs.Calls.{Change, list, loaded}
 use Rattle.model.specs.Holder.{change, listCall, other, Event, Demand3}
 use Rattle.promises.specs.Answers.{answerOf, numberOf}
@@ -16,12 +17,13 @@ use Rattle.promises.specs.declared.Answer.{Answer}
 unfoldable pub Bytes : List ℕ → Type 0
 Bytes m = (i : ℕ) → getD m i 0 < 256
 
--- One call, from the memory before it to the memory after it. Rows are lent anew to each call, any number of them.
+-- One call, from the memory before it to the memory after it. Rows are lent anew to each call, any number of them. Last, any
+-- call that leaves the memory, whatever it answers.
 pub data Step : List ℕ → List ℕ → Type 0 where
   changes : (x : Change) (lent lent' : List Row) (r : Answer) {m m' : List ℕ} → Bytes m' → ChangePromise x m lent r m' lent' → Step m m'
   lists : (lent lent' : List Row) (r : Answer) {m : List ℕ} → QueryPromise list m lent r lent' → Step m m
   loadRefused : (c d : ℕ) (rows : List InputRow) (v : Verdict) {m m' : List ℕ} → LoadPromise c d rows m v m' → (numberOf v ≡ 0 → ⊥) → Step m m'
-  leaves : {m : List ℕ} → Step m m
+  leaves : (answer : calls.Answer) {m : List ℕ} → Step m m
 
 -- "Each call gets the whole memory as the last one left it."
 pub data Steps : List ℕ → List ℕ → Type 0 where
@@ -35,7 +37,7 @@ eventOf (changes x lent lent' r bytes p) =
 eventOf (lists lent lent' r p) =
     record { call = listCall; lent = length lent; answer = answerOf (r .verdict); rows = take (r .count) lent' }
 eventOf (loadRefused c d rows v p refused) = record { call = other; lent = 0; answer = answerOf v; rows = [] }
-eventOf leaves = record { call = other; lent = 0; answer = record { number = 0; detail = 0 }; rows = [] }
+eventOf (leaves answer) = record { call = other; lent = 0; answer = answer; rows = [] }
 
 unfoldable pub eventsOf : {m m' : List ℕ} → Steps m m' → List Event
 eventsOf done = []

@@ -1,5 +1,5 @@
 -- The bytes in use. All others are free: no answer depends on them (memory/specs/Laws/Answers).
-use Prim.Native.Nat.{ℕ}
+use Prim.Native.Nat.{ℕ, _+_}
 use mathlib.Core.Bool.{Bool, true, _||_}
 use mathlib.Core.List.{List}
 use mathlib.Core.Path.{_≡_}
@@ -7,12 +7,12 @@ use lib.Dec.{eqb, leb}
 use lib.ListN.{length, getD}
 use Rattle.model.specs.Basics.{any}
 use Rattle.model.specs.Calls.{memoryNeed}
-use Rattle.promises.specs.Layout.{numberPlace, heightPlace, markPlace, costPlace, sizeIn, dimensionIn, countIn, numberIn, tab}
+use Rattle.promises.specs.Layout.{sizePlace, dimensionPlace, countPlace, numberPlace, heightPlace, markPlace, costPlace, sizeIn, dimensionIn, countIn, numberIn, tab}
 use Rattle.promises.specs.Written.{inArea}
 
 -- C, d and the count.
 unfoldable pub headUse : ℕ → Bool
-headUse i = inArea 0 3 i || inArea 4 6 i
+headUse i = inArea sizePlace (dimensionPlace + 1) i || inArea countPlace (countPlace + 2) i
 
 -- Numbers and heights at the first n places.
 unfoldable pub rowsUse : ℕ → ℕ → ℕ → Bool

@@ -13,7 +13,7 @@ use Rattle.memory.specs.Tests.{anyTo, isListed}
 pub use Rattle.memory.specs.Held.{SoundAt}
 
 unfoldable pub cornerDominated : ℕ → ℕ → ℕ → List ℕ → List ℕ → Bool
-cornerDominated c d n m corner = anyTo (λ j. isListed c d m j && dominates d (moveIn c d m j .costs) corner) n
+cornerDominated c d n m corner = anyTo (λ j. isListed c m j && dominates d (moveIn c d m j .costs) corner) n
 
 unfoldable pub nearCorner : ℕ → ℕ → List ℕ → ℕ → ℕ → List ℕ
 nearCorner c d m i e = nearOf d (moveIn c d m i .costs) (moveIn c d m (e - 1) .costs)

@@ -31,7 +31,7 @@ beq-opposite false = refl
 -- Moves and the marks of the first n places alike.
 module _ (c d n : ℕ) (m m' : List ℕ) (moves : (i : ℕ) → i < n → moveIn c d m' i ≡ moveIn c d m i)
     (marks : (i : ℕ) → i < n → markIn c m' (numberIn c m i) ≡ markIn c m (numberIn c m i)) where
-  listed-ext : (i : ℕ) → i < n → isListed c d m' i ≡ isListed c d m i
+  listed-ext : (i : ℕ) → i < n → isListed c m' i ≡ isListed c m i
   unfolding isListed moveIn
   listed-ext i h =
       ap (λ (x : Move). eqb (markIn c m' (x .number)) 1) (moves i h) ∙ ap (λ (v : ℕ). eqb v 1) (marks i h)
@@ -40,14 +40,14 @@ module _ (c d n : ℕ) (m m' : List ℕ) (moves : (i : ℕ) → i < n → moveIn
   unfolding hiddenBefore anyTo
   hidden-ext i x h =
       ap not
-      (allTo-ext (λ j. not (isListed c d m' j && hides d (moveIn c d m' j) x)) (λ j. not (isListed c d m j && hides d (moveIn c d m j) x)) i
+      (allTo-ext (λ j. not (isListed c m' j && hides d (moveIn c d m' j) x)) (λ j. not (isListed c m j && hides d (moveIn c d m j) x)) i
       (λ j l. ap₂ (λ (b : Bool) (y : Move). not (b && hides d y x)) (listed-ext j (omega arith)) (moves j (omega arith))))
 
   marks-ext : marksRight c d n m' ≡ marksRight c d n m
   unfolding marksRight
   marks-ext =
-      allTo-ext (λ i. Bool·beq (isListed c d m' i) (not (hiddenBefore c d m' i (moveIn c d m' i))))
-      (λ i. Bool·beq (isListed c d m i) (not (hiddenBefore c d m i (moveIn c d m i)))) n
+      allTo-ext (λ i. Bool·beq (isListed c m' i) (not (hiddenBefore c d m' i (moveIn c d m' i))))
+      (λ i. Bool·beq (isListed c m i) (not (hiddenBefore c d m i (moveIn c d m i)))) n
       (λ i l. ap₂ (λ (a b : Bool). Bool·beq a (not b)) (listed-ext i l)
       (ap (hiddenBefore c d m' i) (moves i l) ∙ hidden-ext i (moveIn c d m i) (omega arith)))
 

@@ -41,10 +41,10 @@ pub record ChangeAsked (c d n : ℕ) (k : Change) (m : List ℕ) : Type 0 where
 
 -- Who leaves the list and who enters it, by the list of the moves afterwards.
 pub record Upkept (c d n : ℕ) (k : Change) (m : List ℕ) (u : Upkeep) : Type 0 where
-  pub leaving : (i : ℕ) → i < n → inSet (u .leaving) (numberIn c m i) ≡ (isListed c d m i && not (stays c d n k m i))
-  pub entering : (i : ℕ) → i < n → inSet (u .entering) (numberIn c m i) ≡ (not (isListed c d m i) && stays c d n k m i)
-  pub left : u .left ≡ count (λ i. isListed c d m i && not (stays c d n k m i)) (numbersFrom 0 n)
-  pub entered : u .entered ≡ count (λ i. not (isListed c d m i) && stays c d n k m i) (numbersFrom 0 n)
+  pub leaving : (i : ℕ) → i < n → inSet (u .leaving) (numberIn c m i) ≡ (isListed c m i && not (stays c d n k m i))
+  pub entering : (i : ℕ) → i < n → inSet (u .entering) (numberIn c m i) ≡ (not (isListed c m i) && stays c d n k m i)
+  pub left : u .left ≡ count (λ i. isListed c m i && not (stays c d n k m i)) (numbersFrom 0 n)
+  pub entered : u .entered ≡ count (λ i. not (isListed c m i) && stays c d n k m i) (numbersFrom 0 n)
   pub listed : u .listed ≡ (k .comes && not (hidden d (movesAfter d k (movesIn (lineFrom c d n m))) (asMove (k .coming))))
 
 -- What the steps compute.
@@ -57,7 +57,7 @@ hiddenByComing d k x = k .comes && hides d (asMove (k .coming)) x
 unfoldable pub comesUp : ℕ → ℕ → ℕ → Change → Move → List ℕ → Bool
 comesUp c d n k x m =
     ltb (k .goes) n
-    && isListed c d m (k .goes)
+    && isListed c m (k .goes)
     && hides d (moveIn c d m (k .goes)) x
     && not (hiddenByComing d k x)
     && not (hiddenByOthers c d n (k .goes) x m)
@@ -66,10 +66,10 @@ unfoldable pub leaves : ℕ → Change → ℕ → Move → Bool
 leaves d k i x = eqb i (k .goes) || hiddenByComing d k x
 
 unfoldable pub leavesAt : ℕ → ℕ → Change → List ℕ → ℕ → Bool
-leavesAt c d k m i = isListed c d m i && leaves d k i (moveIn c d m i)
+leavesAt c d k m i = isListed c m i && leaves d k i (moveIn c d m i)
 
 unfoldable pub entersAt : ℕ → ℕ → ℕ → Change → List ℕ → ℕ → Bool
-entersAt c d n k m i = not (isListed c d m i) && (not (eqb i (k .goes)) && comesUp c d n k (moveIn c d m i) m)
+entersAt c d n k m i = not (isListed c m i) && (not (eqb i (k .goes)) && comesUp c d n k (moveIn c d m i) m)
 
 -- The numbers of the moves at places below e that pass a test, and how many they are.
 pub record Passing (c : ℕ) (m : List ℕ) (test : ℕ → Bool) (e : ℕ) (ws : List ℕ) (k : ℕ) : Type 0 where

@@ -3,7 +3,6 @@ use Prim.Native.Nat.{ℕ, _≤_, _<_}
 use mathlib.Core.Bool.{Bool, false}
 use mathlib.Core.Path.{_≡_}
 use mathlib.Core.List.{List, [], map}
-use lib.Dec.{eqb}
 use lib.ListN.{length}
 use Rattle.model.specs.Basics.{select, count, numbersFrom}
 use Rattle.model.specs.Moves.{Move, Row, listed}
@@ -13,7 +12,7 @@ use Rattle.model.specs.Calls as calls
 use Rattle.model.specs.Calls.{Query, queryRefusal, queryAnswer, queryRows}
 use Rattle.model.specs.Opening.{queryOpens}
 use Rattle.line.specs.Line.{movesIn}
-use Rattle.promises.specs.Layout.{dimensionIn, numberIn, markIn, lineFrom, boardIn}
+use Rattle.promises.specs.Layout.{dimensionIn, numberIn, lineFrom, boardIn}
 use Rattle.promises.specs.Sound.{Stands, Sound}
 use Rattle.promises.specs.Answers.{answerOf, numberOf, counted, resultRow}
 use Rattle.promises.specs.declared.Verdict.{Verdict}
@@ -26,10 +25,6 @@ use Rattle.upkeep.specs.Telling.{TellingAsked, toldRows}
 use Rattle.upkeep.specs.declared.found.Found.{Found}
 use Rattle.upkeep.specs.declared.plan.Plan.{Plan}
 use Rattle.upkeep.specs.declared.telling.Telling.{Telling}
-
--- Whether the move with this number is listed.
-abbrev pub isMarked : ℕ → List ℕ → ℕ → Bool
-isMarked c m k = eqb (markIn c m k) 1
 
 -- Of the first n moves, those whose number passes a test.
 pub record Finds (c n : ℕ) (test : ℕ → Bool) (m : List ℕ) (r : Found) : Type 0 where

@@ -10,6 +10,7 @@ use numbers::add;
 use numbers::empty;
 use zorder::COSTS;
 ghost use Rattle.memory.specs.Room.{Readable};
+ghost use Rattle.memory.specs.Tests.{isMarked};
 ghost use Rattle.upkeep.specs.Planned as spec;
 
 // The numbers, and how many they are.
@@ -21,7 +22,7 @@ pub struct Found {
 // The listed ones.
 pub fn find_listed(m: &[u8], h: Head) -> Found
     requires { ⌜ Readable h (now m) ⌝ }
-    ensures { λ r. ⌜ spec.Finds (h .size) (h .count) (spec.isMarked (h .size) (now (m .entry))) (now (m .entry)) r ⌝ }
+    ensures { λ r. ⌜ spec.Finds (h .size) (h .count) (isMarked (h .size) (now (m .entry))) (now (m .entry)) r ⌝ }
 {
     let n = h.count;
     let mut numbers = empty();

@@ -116,8 +116,8 @@ module _ {c d n : ℕ} {k : Change} {m : List ℕ} {u : Upkeep} (up : Upkept c d
   then-stays : (i : ℕ) → i < n → listedThen c (u .leaving) (u .entering) m i ≡ stays c d n k m i
   unfolding listedThen isListed moveIn
   then-stays i l =
-      ap₂ (λ (p q : Bool). cond p false (cond q true (isListed c d m i))) (up .leaving i l) (up .entering i l)
-      ∙ mark-test (isListed c d m i) (stays c d n k m i)
+      ap₂ (λ (p q : Bool). cond p false (cond q true (isListed c m i))) (up .leaving i l) (up .entering i l)
+      ∙ mark-test (isListed c m i) (stays c d n k m i)
 
   marks-stay : {m₁ : List ℕ} → SetMarks c n (u .leaving) (u .entering) m m₁ → (i : ℕ) → i < n → eqb (markIn c m₁ (numberIn c m i)) 1 ≡ stays c d n k m i
   marks-stay set i l = set .marks i l ∙ then-stays i l

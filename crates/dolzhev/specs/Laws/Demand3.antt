@@ -19,7 +19,7 @@ use Rattle.dolzhev.specs.declared.answer.Answer.{Answer}
 stepOf : {m m' : List ℕ} → ExportedStep m m' → Step m m'
 stepOf (changes x lent lent' r bytes p) = run.changes x lent lent' (p .answer) bytes (p .promise)
 stepOf (lists lent lent' r p) = run.lists lent lent' (p .answer) (p .promise)
-stepOf (queries q lent lent' r p) = run.leaves
+stepOf (queries q lent lent' r p) = run.leaves (answered r)
 stepOf (loadRefused c d rows r p refused) = run.loadRefused c d rows (p .verdict) (p .promise) (λ e. refused (p .handed .refusal ∙ e))
 
 historyOf : {m m' : List ℕ} → ExportedHistory m m' → History m m'

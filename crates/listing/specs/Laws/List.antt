@@ -11,7 +11,8 @@ use Rattle.memory.specs.Held.{SoundAt}
 use Rattle.memory.specs.Laws.Held.{held-kept}
 use Rattle.tree.specs.Search.{Opened}
 use Rattle.memory.specs.declared.sound.Head.{Head}
-use Rattle.upkeep.specs.Planned.{isMarked, Finds, QueryPlanned, foundMoves, PlansFound}
+use Rattle.memory.specs.Tests.{isMarked}
+use Rattle.upkeep.specs.Planned.{Finds, QueryPlanned, foundMoves, PlansFound}
 use Rattle.upkeep.specs.Laws.Found.{board-line}
 use Rattle.upkeep.specs.declared.found.Found.{Found}
 use Rattle.upkeep.specs.declared.plan.Plan.{Plan}

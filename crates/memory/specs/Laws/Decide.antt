@@ -50,13 +50,13 @@ module _ (c d n : ℕ) (m : List ℕ) where
     listed x = eqb (markIn c m (x .number)) 1
 
     marks-right : marksRight c d n m ≡ true → keptFrom c m (movesIn (lineFrom c d n m)) ≡ skyline d (movesIn (lineFrom c d n m))
-    unfolding marksRight isListed hiddenBefore keptFrom listed
+    unfolding marksRight isListed hiddenBefore keptFrom listed moveIn
     marks-right e =
         subst (λ (ms : List Move). select listed ms ≡ skyline d ms) (sym (movesIn-line c d n m))
         (marks-kept d c l listed (moveIn c d m) n moves-fit in-order e)
 
     right-marks : keptFrom c m (movesIn (lineFrom c d n m)) ≡ skyline d (movesIn (lineFrom c d n m)) → marksRight c d n m ≡ true
-    unfolding marksRight isListed hiddenBefore keptFrom listed
+    unfolding marksRight isListed hiddenBefore keptFrom listed moveIn
     right-marks e =
         kept-marks d c l listed (moveIn c d m) n moves-fit in-order
         (subst (λ (ms : List Move). select listed ms ≡ skyline d ms) (movesIn-line c d n m) e)

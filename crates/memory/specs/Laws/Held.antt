@@ -85,8 +85,8 @@ module _ (c d n : ℕ) (m : List ℕ) (s : SoundAt c d n m) where
       (stands .kept ∙ ap (skyline (dimensionIn m)) (stands-moves m (s .sound .tree) stands))
 
   -- The marks say who is in the list.
-  pub held-listed : (i : ℕ) → i < n → isListed c d m i ≡ not (hidden d (movesIn (lineFrom c d n m)) (moveIn c d m i))
-  unfolding isListed keptFrom skyline
+  pub held-listed : (i : ℕ) → i < n → isListed c m i ≡ not (hidden d (movesIn (lineFrom c d n m)) (moveIn c d m i))
+  unfolding isListed keptFrom skyline moveIn
   held-listed i h =
       tab-each (moveIn c d m) Right n i h (subst (Each Right) (movesIn-line c d n m) (select-same _ _ (movesIn (lineFrom c d n m)) held-kept))
     where

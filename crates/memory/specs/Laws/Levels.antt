@@ -15,7 +15,8 @@ use Rattle.model.specs.Laws.Bool.{and-both, and-false-right}
 use Rattle.line.specs.Heights.{firstHighest, countsFrom, countsAt, rootCount, levelsRight, heightsRight}
 use Rattle.promises.specs.Layout.{heightIn, tab, heightsFrom}
 use Rattle.memory.specs.Tests.{allTo}
-use Rattle.promises.specs.Laws.Tab.{tab-cons, length-tab, getD-tab}
+use Rattle.promises.specs.Laws.Tab.{tab-cons}
+use Rattle.memory.specs.Laws.Lines.{length-heightsFrom, getD-heightsFrom}
 use Rattle.memory.specs.Laws.Places.{allTo-fails, allTo-next, all-tab}
 
 -- The place after i is lower than the first.
@@ -36,14 +37,12 @@ module _ (c : ℕ) (m : List ℕ) where
   line-first n = tab-cons (heightIn c m) n
 
   drop-line : (n i : ℕ) → i < n → drop i (heightsFrom c n m) ≡ heightIn c m i ∷ drop (i + 1) (heightsFrom c n m)
-  unfolding heightsFrom
   drop-line n i l =
-      drop-cons (heightsFrom c n m) i 0 (omega (arith, length-tab (heightIn c m) n))
-      ∙ ap₂ (λ (k j : ℕ). k ∷ drop j (heightsFrom c n m)) (getD-tab (heightIn c m) 0 n i l) (sym (add-one i))
+      drop-cons (heightsFrom c n m) i 0 (omega (arith, length-heightsFrom c n m))
+      ∙ ap₂ (λ (k j : ℕ). k ∷ drop j (heightsFrom c n m)) (getD-heightsFrom c n m i l) (sym (add-one i))
 
   drop-all : (n : ℕ) → drop n (heightsFrom c n m) ≡ []
-  unfolding heightsFrom
-  drop-all n = ap (λ (k : ℕ). drop k (heightsFrom c n m)) (sym (length-tab (heightIn c m) n)) ∙ drop-length (heightsFrom c n m)
+  drop-all n = ap (λ (k : ℕ). drop k (heightsFrom c n m)) (sym (length-heightsFrom c n m)) ∙ drop-length (heightsFrom c n m)
 
   -- ---- the first is the highest
 

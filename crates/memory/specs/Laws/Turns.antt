@@ -5,14 +5,14 @@ use mathlib.Core.List.{List}
 use mathlib.Core.Logic.{_⊎_, ⊎-elim}
 use mathlib.Core.Path.{_≡_, refl, sym, ap, ap₂, _∙_}
 use native.Mathlib.Omega.{arith}
-use lib.Dec.{ltb, eqb}
+use lib.Dec.{ltb}
 use borrow.Author.Tests.{ltb-true, lt-ltb, le-ltb}
 use Rattle.model.specs.Moves.{Move, moveBefore}
 use Rattle.model.specs.Dominance.{hides}
 use Rattle.model.specs.Laws.Bool.{and-both, and-false-right}
-use Rattle.promises.specs.Layout.{numberIn, markIn, moveIn}
+use Rattle.promises.specs.Layout.{numberIn, moveIn}
 use Rattle.memory.specs.Room.{Numbers}
-use Rattle.memory.specs.Tests.{allTo, anyTo, numbersRight, orderRight, isListed, hiddenBefore, marksRight}
+use Rattle.memory.specs.Tests.{allTo, anyTo, numbersRight, orderRight, isMarked, isListed, hiddenBefore, marksRight}
 use Rattle.memory.specs.Laws.Places.{allTo-at, allTo-all, allTo-more, allTo-next, allTo-fails, anyTo-more, anyTo-found}
 
 beq-not : (a b : Bool) → Bool·beq a (not b) ≡ not (Bool·beq a b)
@@ -24,6 +24,10 @@ beq-not false false = refl
 -- ---- numbers
 
 module _ (c : ℕ) (m : List ℕ) where
+  pub listed-at : (i n : ℕ) → n ≡ numberIn c m i → isListed c m i ≡ isMarked c m n
+  unfolding isListed
+  listed-at i n e = ap (isMarked c m) (sym e)
+
   below : ℕ → Bool
   below i = ltb (numberIn c m i) c
 
@@ -79,42 +83,41 @@ module _ (c d : ℕ) (m : List ℕ) where
   unfolding moveIn
   number-of i x e = ap (λ (y : Move). y .number) e
 
-  pub listed-at : (i n : ℕ) → n ≡ numberIn c m i → isListed c d m i ≡ eqb (markIn c m n) 1
-  unfolding isListed moveIn
-  listed-at i n e = ap (λ (k : ℕ). eqb (markIn c m k) 1) (sym e)
+  pub listed-move : (i : ℕ) {x : Move} → x ≡ moveIn c d m i → isListed c m i ≡ isMarked c m (x .number)
+  listed-move i {x} e = listed-at c m i (x .number) (number-of i x e)
 
   module _ (x : Move) where
     hider : ℕ → Bool
-    hider j = isListed c d m j && hides d (moveIn c d m j) x
+    hider j = isListed c m j && hides d (moveIn c d m j) x
 
     pub hidden-none : hiddenBefore c d m 0 x ≡ false
     unfolding hiddenBefore anyTo allTo
     hidden-none = refl
 
-    pub hidden-more : (j : ℕ) → hiddenBefore c d m j x ≡ false → (isListed c d m j ≡ false) ⊎ (hides d (moveIn c d m j) x ≡ false) → hiddenBefore c d m (j + 1) x ≡ false
+    pub hidden-more : (j : ℕ) → hiddenBefore c d m j x ≡ false → (isListed c m j ≡ false) ⊎ (hides d (moveIn c d m j) x ≡ false) → hiddenBefore c d m (j + 1) x ≡ false
     unfolding hiddenBefore hider
     hidden-more j h e =
         anyTo-more hider j h
-        (⊎-elim (ap (λ (b : Bool). b && hides d (moveIn c d m j) x)) (and-false-right (isListed c d m j) (hides d (moveIn c d m j) x)) e)
+        (⊎-elim (ap (λ (b : Bool). b && hides d (moveIn c d m j) x)) (and-false-right (isListed c m j) (hides d (moveIn c d m j) x)) e)
 
-    pub hidden-found : (i j : ℕ) → j < i → isListed c d m j ≡ true → hides d (moveIn c d m j) x ≡ true → hiddenBefore c d m i x ≡ true
+    pub hidden-found : (i j : ℕ) → j < i → isListed c m j ≡ true → hides d (moveIn c d m j) x ≡ true → hiddenBefore c d m i x ≡ true
     unfolding hiddenBefore hider
-    hidden-found i j l h e = anyTo-found hider i j l (and-both (isListed c d m j) (hides d (moveIn c d m j) x) h e)
+    hidden-found i j l h e = anyTo-found hider i j l (and-both (isListed c m j) (hides d (moveIn c d m j) x) h e)
 
   markRight : ℕ → Bool
-  markRight i = Bool·beq (isListed c d m i) (not (hiddenBefore c d m i (moveIn c d m i)))
+  markRight i = Bool·beq (isListed c m i) (not (hiddenBefore c d m i (moveIn c d m i)))
 
   pub marks-none : marksRight c d 0 m ≡ true
   unfolding marksRight allTo
   marks-none = refl
 
-  pub marks-more : (i : ℕ) → marksRight c d i m ≡ true → (listed hidden : Bool) → isListed c d m i ≡ listed → hiddenBefore c d m i (moveIn c d m i) ≡ hidden
+  pub marks-more : (i : ℕ) → marksRight c d i m ≡ true → (listed hidden : Bool) → isListed c m i ≡ listed → hiddenBefore c d m i (moveIn c d m i) ≡ hidden
       → Bool·beq listed hidden ≡ false → marksRight c d (i + 1) m ≡ true
   unfolding marksRight markRight
   marks-more i h listed hidden e f g =
       allTo-more markRight i h (ap₂ (λ (a b : Bool). Bool·beq a (not b)) e f ∙ beq-not listed hidden ∙ ap not g)
 
-  pub marks-fail : (n i : ℕ) → i < n → (listed hidden : Bool) → isListed c d m i ≡ listed → hiddenBefore c d m i (moveIn c d m i) ≡ hidden
+  pub marks-fail : (n i : ℕ) → i < n → (listed hidden : Bool) → isListed c m i ≡ listed → hiddenBefore c d m i (moveIn c d m i) ≡ hidden
       → Bool·beq listed hidden ≡ true → marksRight c d n m ≡ false
   unfolding marksRight markRight
   marks-fail n i l listed hidden e f g =

@@ -127,7 +127,7 @@ unfolding eventOf Answered Reads heldAfter plainNext
 step-keeps {m} {m'} (changes x lent lent' r k p) b a = change-keeps x m m' lent lent' r p b a k
 step-keeps {m} (lists lent lent' r p) b a = list-keeps m lent lent' r p b a
 step-keeps (loadRefused c d rows v p f) b a = record { answered = tt; reads = tt; held = refl }
-step-keeps leaves b a = record { answered = tt; reads = tt; held = refl }
+step-keeps (leaves answer) b a = record { answered = tt; reads = tt; held = refl }
 
 step-at : {m m' : List ℕ} (s : Step m m') (b : Board) → At m b → At m' (plainNext b (eventOf s .call) (eventOf s .lent))
 unfolding eventOf plainNext
@@ -136,7 +136,7 @@ step-at {m} {m'} (changes x lent lent' r k p) b a =
 step-at (lists lent lent' r p) b a = a
 step-at {m} {m'} (loadRefused c d rows v p f) b a =
     subst (λ (m : List ℕ). At m b) (sym (left-refused (loadWrites c) m m' (loaded c d rows) (loadTree d (map moveOf rows)) (numberOf v) f (p .left))) a
-step-at leaves b a = a
+step-at (leaves answer) b a = a
 
 load-at : (c d : ℕ) (rows : List InputRow) (v : Verdict) {m m' : List ℕ} → LoadPromise c d rows m v m' → numberOf v ≡ 0 → Bytes m' → At m' (loaded c d rows)
 load-at c d rows v {m} {m'} p e k = left-accepted (loadWrites c) m m' (loaded c d rows) (loadTree d (map moveOf rows)) (numberOf v) e (p .left) k

@@ -60,7 +60,7 @@ module _ (c d : ℕ) (m corner : List ℕ) where
   by n = eqb (markIn c m n) 1 && dominates d (costsIn c d m n) corner
 
   at : ℕ → Bool
-  at j = isListed c d m j && dominates d (moveIn c d m j .costs) corner
+  at j = isListed c m j && dominates d (moveIn c d m j .costs) corner
 
   at-number : (j n : ℕ) → n ≡ numberIn c m j → at j ≡ by n
   unfolding at by isListed moveIn
@@ -150,7 +150,7 @@ level-height c d n m i k v = go (decLt i n)
 module _ {c d n : ℕ} {m : List ℕ} (s : Searchable c d n m) where
   -- The marks are the list, and it is enough to hold a corner against the listed moves.
   listed-corner : (q : List ℕ) → RowCosts d q → cornerDominated c d n m q ≡ any (λ x. dominates d (x .costs) q) (movesIn (lineFrom c d n m))
-  unfolding cornerDominated isListed keptFrom
+  unfolding cornerDominated isListed keptFrom moveIn
   listed-corner q k =
       sym (any-tab (moveIn c d m) (λ x. listed x && by x) n)
       ∙ ap (any (λ x. listed x && by x)) (sym (movesIn-line c d n m))

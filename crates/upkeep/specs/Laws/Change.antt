@@ -103,17 +103,17 @@ module _ (c d n : ℕ) (k : Change) (m : List ℕ) (s : SoundAt c d n m) (b : By
   unfolding stays
   stays-rest i = ap (λ (t : Bool). not (eqb i (k .goes)) && not t) (changed-hidden d k before (moveIn c d m i))
 
-  pub leaves-law : (i : ℕ) → i < n → leavesAt c d k m i ≡ (isListed c d m i && not (stays c d n k m i))
+  pub leaves-law : (i : ℕ) → i < n → leavesAt c d k m i ≡ (isListed c m i && not (stays c d n k m i))
   unfolding leavesAt leaves
   leaves-law i h =
       let x = moveIn c d m i in
-      leave-test (isListed c d m i) (eqb i (k .goes)) (hiddenByComing d k x) (hidden d rest x)
+      leave-test (isListed c m i) (eqb i (k .goes)) (hiddenByComing d k x) (hidden d rest x)
       (λ e. held-listed c d n m s i h ∙ ap not (rest-hides c d n m (k .goes) x e))
-      ∙ ap (λ (t : Bool). isListed c d m i && not t) (sym (stays-rest i))
+      ∙ ap (λ (t : Bool). isListed c m i && not t) (sym (stays-rest i))
 
   -- What no move left hides was hidden by the going one, and that one was listed.
-  went : (i : ℕ) → i < n → isListed c d m i ≡ false → hidden d rest (moveIn c d m i) ≡ false
-      → (ltb (k .goes) n && isListed c d m (k .goes) && hides d (moveIn c d m (k .goes)) (moveIn c d m i)) ≡ true
+  went : (i : ℕ) → i < n → isListed c m i ≡ false → hidden d rest (moveIn c d m i) ≡ false
+      → (ltb (k .goes) n && isListed c m (k .goes) && hides d (moveIn c d m (k .goes)) (moveIn c d m i)) ≡ true
   went i h unlisted shown = by-place (eqb j (k .goes)) refl
     where
       x : Move
@@ -138,15 +138,15 @@ module _ (c d n : ℕ) (k : Change) (m : List ℕ) (s : SoundAt c d n m) (b : By
       hides-x : hides d (moveIn c d m j) x ≡ true
       hides-x = ap (λ (y : Move). hides d y x) (at .2) ∙ hider .hiding
 
-      is-listed : isListed c d m j ≡ true
+      is-listed : isListed c m j ≡ true
       is-listed =
           held-listed c d n m s j on-board
           ∙ ap not (ap (hidden d before) (at .2) ∙ skyline-mem d before (hider .listed) .1)
 
-      by-place : (t : Bool) → eqb j (k .goes) ≡ t → (ltb (k .goes) n && isListed c d m (k .goes) && hides d (moveIn c d m (k .goes)) x) ≡ true
+      by-place : (t : Bool) → eqb j (k .goes) ≡ t → (ltb (k .goes) n && isListed c m (k .goes) && hides d (moveIn c d m (k .goes)) x) ≡ true
       by-place true e =
-          subst (λ (g : ℕ). (ltb g n && isListed c d m g && hides d (moveIn c d m g) x) ≡ true) (eqb-true j (k .goes) e)
-          (and-both (ltb j n && isListed c d m j) (hides d (moveIn c d m j) x) (and-both (ltb j n) (isListed c d m j) (lt-ltb j n on-board) is-listed) hides-x)
+          subst (λ (g : ℕ). (ltb g n && isListed c m g && hides d (moveIn c d m g) x) ≡ true) (eqb-true j (k .goes) e)
+          (and-both (ltb j n && isListed c m j) (hides d (moveIn c d m j) x) (and-both (ltb j n) (isListed c m j) (lt-ltb j n on-board) is-listed) hides-x)
       by-place false e =
           both-ways
           (hidden-rest c d n m (k .goes) x
@@ -154,14 +154,14 @@ module _ (c d n : ℕ) (k : Change) (m : List ℕ) (s : SoundAt c d n m) (b : By
           (and-both (not (eqb j (k .goes))) (hides d (moveIn c d m j) x) (ap not e) hides-x))
           shown
 
-  pub enters-law : (i : ℕ) → i < n → entersAt c d n k m i ≡ (not (isListed c d m i) && stays c d n k m i)
+  pub enters-law : (i : ℕ) → i < n → entersAt c d n k m i ≡ (not (isListed c m i) && stays c d n k m i)
   unfolding entersAt comesUp
   enters-law i h =
       let x = moveIn c d m i in
-      let hid = ltb (k .goes) n && isListed c d m (k .goes) && hides d (moveIn c d m (k .goes)) x in
-      ap (λ (t : Bool). not (isListed c d m i) && (not (eqb i (k .goes)) && (hid && not (hiddenByComing d k x) && not t))) (others-hide c d n m (k .goes) x)
-      ∙ enter-test (isListed c d m i) (eqb i (k .goes)) hid (hiddenByComing d k x) (hidden d rest x) (went i h)
-      ∙ ap (λ (t : Bool). not (isListed c d m i) && t) (sym (stays-rest i))
+      let hid = ltb (k .goes) n && isListed c m (k .goes) && hides d (moveIn c d m (k .goes)) x in
+      ap (λ (t : Bool). not (isListed c m i) && (not (eqb i (k .goes)) && (hid && not (hiddenByComing d k x) && not t))) (others-hide c d n m (k .goes) x)
+      ∙ enter-test (isListed c m i) (eqb i (k .goes)) hid (hiddenByComing d k x) (hidden d rest x) (went i h)
+      ∙ ap (λ (t : Bool). not (isListed c m i) && t) (sym (stays-rest i))
 
   -- The coming move's test, whether one comes or not.
   abbrev comingListed : Bool
@@ -192,7 +192,7 @@ module _ (c d n : ℕ) (k : Change) (m : List ℕ) (s : SoundAt c d n m) (b : By
       record {
         leaving = λ i h. set-at (leavesAt c d k m) (looked .leaving) i h ∙ leaves-law i h;
         entering = λ i h. set-at (entersAt c d n k m) (looked .entering) i h ∙ enters-law i h;
-        left = looked .leaving .counts ∙ count-at (leavesAt c d k m) (λ i. isListed c d m i && not (stays c d n k m i)) leaves-law;
-        entered = looked .entering .counts ∙ count-at (entersAt c d n k m) (λ i. not (isListed c d m i) && stays c d n k m i) enters-law;
+        left = looked .leaving .counts ∙ count-at (leavesAt c d k m) (λ i. isListed c m i && not (stays c d n k m i)) leaves-law;
+        entered = looked .entering .counts ∙ count-at (entersAt c d n k m) (λ i. not (isListed c m i) && stays c d n k m i) enters-law;
         listed = e;
       }

@@ -100,7 +100,7 @@ module _ (c d n : ℕ) (k : Change) (m : List ℕ) (s : SoundAt c d n m) (b : By
       subst (List·Memᴰ (moveIn c d m i)) (sym (rest-places c d n m (k .goes)))
       (Memᴰ·map (moveIn c d m) (mem-select (λ j. not (eqb j (k .goes))) h (not-flip (eqb i (k .goes)) e)))
 
-  pub places : Places d (moveIn c d m) (numbersFrom 0 n) (k .goes) after (isListed c d m)
+  pub places : Places d (moveIn c d m) (numbersFrom 0 n) (k .goes) after (isListed c m)
   unfolding movesAfter insert
   places =
       record {
@@ -118,7 +118,7 @@ module _ (c d n : ℕ) (k : Change) (m : List ℕ) (s : SoundAt c d n m) (b : By
   stayAt = stay d (moveIn c d m) (k .goes) after
 
   abbrev enters : ℕ → Bool
-  enters i = not (isListed c d m i) && stayAt i
+  enters i = not (isListed c m i) && stayAt i
 
   order : StrictOrder (Fit c d) (moveBefore d)
   order = move-order d c (held-dimension c d n m s)
@@ -181,7 +181,7 @@ module _ (c d n : ℕ) (k : Change) (m : List ℕ) (s : SoundAt c d n m) (b : By
       unfolding stay ordered
       upper i g t =
           let q = each-mem (λ i. (p ≤ i) × (i < n)) (each-numbers (λ i. (p ≤ i) × (i < n)) p (n - p) (λ i u v. (u, omega arith))) g in
-          let away : eqb i (k .goes) ≡ false = not-back (eqb i (k .goes)) (and-left (not (eqb i (k .goes))) (not (hidden d after (moveIn c d m i))) (and-right (not (isListed c d m i)) (stayAt i) t)) in
+          let away : eqb i (k .goes) ≡ false = not-back (eqb i (k .goes)) (and-left (not (eqb i (k .goes))) (not (hidden d after (moveIn c d m i))) (and-right (not (isListed c m i)) (stayAt i) t)) in
           connex (Fit c d) (moveBefore d) order (moveIn c d m i) x (held-fit-at c d n m s b i (q .1)) (a .fit e)
           (subst (λ (y : Move). moveBefore d y x ≡ false) (at-place i (q .1))
           (place-high d x (Fit c d) order (a .fit e) (lineFrom c d n m) (held-fit c d n m s b) (held-order c d n m s) i
@@ -193,10 +193,10 @@ module _ (c d n : ℕ) (k : Change) (m : List ℕ) (s : SoundAt c d n m) (b : By
 
   -- ---- both parts of the notice
 
-  left-part : gone (skyline d before) (skyline d after) ≡ map (moveIn c d m) (select (λ i. isListed c d m i && not (stayAt i)) (numbersFrom 0 n))
+  left-part : gone (skyline d before) (skyline d after) ≡ map (moveIn c d m) (select (λ i. isListed c m i && not (stayAt i)) (numbersFrom 0 n))
   left-part =
       ap (λ (ms : List Move). gone (skyline d ms) (skyline d after)) (line-places c d n m)
-      ∙ left-places d (moveIn c d m) (numbersFrom 0 n) (k .goes) after (isListed c d m) places
+      ∙ left-places d (moveIn c d m) (numbersFrom 0 n) (k .goes) after (isListed c m) places
 
   module _ (p : ℕ) (f : p ≤ n) (at : k .comes ≡ true → p ≡ placeFor d x (lineFrom c d n m)) where
     abbrev first : List Move
@@ -208,7 +208,7 @@ module _ (c d n : ℕ) (k : Change) (m : List ℕ) (s : SoundAt c d n m) (b : By
     coming-part : k .comes ≡ true → gone (skyline d after) (skyline d (map (moveIn c d m) (numbersFrom 0 n))) ≡ first ++ (cond (k .comes && not (hidden d after x)) (x ∷ []) [] ++ last)
     unfolding movesAfter insert
     coming-part e =
-        entered-coming d (moveIn c d m) (numbersFrom 0 n) (k .goes) after (isListed c d m) places (Fit c d) order x (a .fit e) rest
+        entered-coming d (moveIn c d m) (numbersFrom 0 n) (k .goes) after (isListed c m) places (Fit c d) order x (a .fit e) rest
         (sym (rest-places c d n m (k .goes))) rest-fits rest-rising
         (ap (λ (t : Bool). cond t (insertBy (moveBefore d) x rest) rest) e)
         (absent e) (numbersFrom 0 p) (numbersFrom p (n - p)) (whole p f) (lower e p f (at e)) (upper e p f (at e))
@@ -219,10 +219,10 @@ module _ (c d n : ℕ) (k : Change) (m : List ℕ) (s : SoundAt c d n m) (b : By
     plain-part e =
         let is = numbersFrom 0 n in
         let q = places in
-        entered-after d (moveIn c d m) is (k .goes) after (isListed c d m) q
+        entered-after d (moveIn c d m) is (k .goes) after (isListed c m) q
         ∙ ap (select (λ y. not (hidden d after y) && not (among y (skyline d (map (moveIn c d m) is)))))
         (ap (λ (t : Bool). cond t (insertBy (moveBefore d) x rest) rest) e ∙ rest-places c d n m (k .goes))
-        ∙ entered-rest d (moveIn c d m) is (k .goes) after (isListed c d m) q
+        ∙ entered-rest d (moveIn c d m) is (k .goes) after (isListed c m) q
         ∙ ap (λ (js : List ℕ). map (moveIn c d m) (select enters js)) (whole p f)
         ∙ ap (map (moveIn c d m)) (select-append enters (numbersFrom 0 p) (numbersFrom p (n - p)))
         ∙ map-append (moveIn c d m) (select enters (numbersFrom 0 p)) (select enters (numbersFrom p (n - p)))
@@ -241,11 +241,11 @@ module _ (c d n : ℕ) (k : Change) (m : List ℕ) (s : SoundAt c d n m) (b : By
           select-ext (λ i. inSet ws (numberIn c m i)) t (numbersFrom i (j - i))
           (each-numbers (λ i. inSet ws (numberIn c m i) ≡ t i) i (j - i) (λ q _ g. h q (omega arith)))
 
-      left-chosen : placesIn c 0 n (u .leaving) m ≡ select (λ i. isListed c d m i && not (stayAt i)) (numbersFrom 0 n)
+      left-chosen : placesIn c 0 n (u .leaving) m ≡ select (λ i. isListed c m i && not (stayAt i)) (numbersFrom 0 n)
       unfolding stays stay
       left-chosen =
-          chosen-places (u .leaving) (λ i. isListed c d m i && not (stayAt i)) (v .leaving) 0 n (omega arith) (omega arith)
-          ∙ ap (λ (q : ℕ). select (λ i. isListed c d m i && not (stayAt i)) (numbersFrom 0 q)) (sub-zero n)
+          chosen-places (u .leaving) (λ i. isListed c m i && not (stayAt i)) (v .leaving) 0 n (omega arith) (omega arith)
+          ∙ ap (λ (q : ℕ). select (λ i. isListed c m i && not (stayAt i)) (numbersFrom 0 q)) (sub-zero n)
 
       first-chosen : placesIn c 0 p (u .entering) m ≡ select enters (numbersFrom 0 p)
       unfolding stays stay

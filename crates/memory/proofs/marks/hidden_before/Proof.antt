@@ -8,7 +8,7 @@ use Rattle.model.specs.Moves.{Move}
 use Rattle.model.specs.Dominance.{hides}
 use Rattle.dominance.specs.Move.{asMove}
 use Rattle.memory.specs.Tests.{hiddenBefore}
-use Rattle.memory.specs.Laws.Turns.{number-of, listed-at, hidden-none, hidden-more, hidden-found}
+use Rattle.memory.specs.Laws.Turns.{number-of, listed-move, hidden-none, hidden-more, hidden-found}
 use Rattle.memory.proofs.marks.hidden_before.Statement.{statement}
 use Rattle.memory.proofs.marks.hidden_before.Tie as tie
 
@@ -37,7 +37,7 @@ returns c =
     let at = c .before .before .before .before .move-at in
     sym
     (hidden-found (a .h .size) (a .h .dimension) (a .m .now) (asMove (a .x)) (a .i) j (omega arith)
-    (listed-at (a .h .size) (a .h .dimension) (a .m .now) j (at .result .number) (number-of (a .h .size) (a .h .dimension) (a .m .now) j (asMove (at .result)) (at .ensures)) ∙ sym (c .before .before .before .is-listed .ensures) ∙ c .before .before .if1 .taken)
+    (listed-move (a .h .size) (a .h .dimension) (a .m .now) j (at .ensures) ∙ sym (c .before .before .before .is-listed .ensures) ∙ c .before .before .if1 .taken)
     (ap (λ (p : Move). hides (a .h .dimension) p (asMove (a .x))) (sym (at .ensures)) ∙ sym (c .before .hides .ensures) ∙ c .if2 .taken))
 
 loop-again : tie.Need-loop-again Inv-loop μ-loop
@@ -45,7 +45,7 @@ loop-again c =
     let a = c .before .before .before .before .before .before .args in
     let own = c .before .before .before .before .loop in
     let at = c .before .before .move-at in
-    let listed = listed-at (a .h .size) (a .h .dimension) (a .m .now) (own .j) (at .result .number) (number-of (a .h .size) (a .h .dimension) (a .m .now) (own .j) (asMove (at .result)) (at .ensures)) ∙ sym (c .before .is-listed .ensures) in (
+    let listed = listed-move (a .h .size) (a .h .dimension) (a .m .now) (own .j) (at .ensures) ∙ sym (c .before .is-listed .ensures) in (
       omega arith,
       hidden-more (a .h .size) (a .h .dimension) (a .m .now) (asMove (a .x)) (own .j) (own .inv .1)
           (⊎-elim

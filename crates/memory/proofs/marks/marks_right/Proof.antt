@@ -33,7 +33,7 @@ returns c =
     let a = c .before .before .before .before .before .before .before .before .args in
     let own = c .before .before .before .before .before .before .loop in
     let number = c .before .before .before .number-at in
-    let listed = listed-at (a .h .size) (a .h .dimension) (a .m .now) (own .i) (number .result) (number .ensures) ∙ sym (c .before .before .is-listed .ensures) in
+    let listed = listed-at (a .h .size) (a .m .now) (own .i) (number .result) (number .ensures) ∙ sym (c .before .before .is-listed .ensures) in
     let hidden = ap (hiddenBefore (a .h .size) (a .h .dimension) (a .m .now) (own .i)) (sym (c .before .before .before .before .move-at .ensures)) ∙ sym (c .before .hidden-before .ensures) in
     sym
     (marks-fail (a .h .size) (a .h .dimension) (a .m .now) (a .h .count) (own .i) (omega arith) (c .before .before .is-listed .result) (c .before .hidden-before .result) listed hidden
@@ -44,7 +44,7 @@ loop-again c =
     let a = c .before .before .before .before .before .before .before .before .args in
     let own = c .before .before .before .before .before .before .loop in
     let number = c .before .before .before .number-at in
-    let listed = listed-at (a .h .size) (a .h .dimension) (a .m .now) (own .i) (number .result) (number .ensures) ∙ sym (c .before .before .is-listed .ensures) in
+    let listed = listed-at (a .h .size) (a .m .now) (own .i) (number .result) (number .ensures) ∙ sym (c .before .before .is-listed .ensures) in
     let hidden = ap (hiddenBefore (a .h .size) (a .h .dimension) (a .m .now) (own .i)) (sym (c .before .before .before .before .move-at .ensures)) ∙ sym (c .before .hidden-before .ensures) in (
       omega arith,
       marks-more (a .h .size) (a .h .dimension) (a .m .now) (own .i) (own .inv .1) (c .before .before .is-listed .result) (c .before .hidden-before .result) listed hidden

@@ -14,13 +14,13 @@ use Rattle.dominance.specs.Move.{asMove}
 use Rattle.memory.specs.Tests.{isListed}
 use Rattle.upkeep.specs.Change.{hiddenByOthers, hiddenByComing, comesUp}
 use Rattle.upkeep.specs.declared.change.Change.{Change}
-use Rattle.upkeep.proofs.Read.{number-read, listed-read}
+use Rattle.memory.specs.Laws.Turns.{number-of, listed-move}
 use Rattle.upkeep.proofs.change.comes_up.Statement.{statement}
 use Rattle.upkeep.proofs.change.comes_up.Tie as tie
 
 by-tests : (c d n : ℕ) (k : Change) (x : Move) (m : List ℕ) {past listed hid coming others : Bool}
     → ltb (k .goes) n ≡ past
-    → isListed c d m (k .goes) ≡ listed
+    → isListed c m (k .goes) ≡ listed
     → hides d (moveIn c d m (k .goes)) x ≡ hid
     → hiddenByComing d k x ≡ coming
     → hiddenByOthers c d n (k .goes) x m ≡ others
@@ -45,14 +45,14 @@ is-listed-requires c κs =
     let a = c .before .before .before .before .args in
     let pre = c .before .before .before .before .pre in
     let on-board : a .k .goes < a .h .count = omega arith in
-    (pre .room, omega (arith, pre .numbers (a .k .goes) on-board, number-read (a .h .size) (a .h .dimension) (a .m .now) (a .k .goes) (c .move-at .ensures)))
+    (pre .room, omega (arith, pre .numbers (a .k .goes) on-board, number-of (a .h .size) (a .h .dimension) (a .m .now) (a .k .goes) _ (c .move-at .ensures)))
 
 returns-2 : tie.Need-returns-2
 returns-2 c =
     let a = c .before .before .before .before .before .before .args in
     by-tests (a .h .size) (a .h .dimension) (a .h .count) (a .k) (asMove (a .x)) (a .m .now)
     (lt-ltb (a .k .goes) (a .h .count) (omega arith))
-    (listed-read (a .h .size) (a .h .dimension) (a .m .now) (a .k .goes) (c .before .before .move-at .ensures) (c .before .is-listed .ensures) ∙ not-true _ (c .if2 .taken))
+    (listed-move (a .h .size) (a .h .dimension) (a .m .now) (a .k .goes) (c .before .before .move-at .ensures) ∙ sym (c .before .is-listed .ensures) ∙ not-true _ (c .if2 .taken))
     refl refl refl
 
 returns-3 : tie.Need-returns-3
@@ -61,7 +61,7 @@ returns-3 c =
     let same = c .before .before .before .before .move-at .ensures in
     by-tests (a .h .size) (a .h .dimension) (a .h .count) (a .k) (asMove (a .x)) (a .m .now)
     (lt-ltb (a .k .goes) (a .h .count) (omega arith))
-    (listed-read (a .h .size) (a .h .dimension) (a .m .now) (a .k .goes) same (c .before .before .before .is-listed .ensures) ∙ not-false _ (c .before .before .if2 .left))
+    (listed-move (a .h .size) (a .h .dimension) (a .m .now) (a .k .goes) same ∙ sym (c .before .before .before .is-listed .ensures) ∙ not-false _ (c .before .before .if2 .left))
     (ap (λ (y : Move). hides (a .h .dimension) y (asMove (a .x))) (sym same) ∙ sym (c .before .hides .ensures) ∙ not-true _ (c .if3 .taken))
     refl refl
 
@@ -71,7 +71,7 @@ returns-4 c =
     let same = c .before .before .before .before .before .before .move-at .ensures in
     by-tests (a .h .size) (a .h .dimension) (a .h .count) (a .k) (asMove (a .x)) (a .m .now)
     (lt-ltb (a .k .goes) (a .h .count) (omega arith))
-    (listed-read (a .h .size) (a .h .dimension) (a .m .now) (a .k .goes) same (c .before .before .before .before .before .is-listed .ensures) ∙ not-false _ (c .before .before .before .before .if2 .left))
+    (listed-move (a .h .size) (a .h .dimension) (a .m .now) (a .k .goes) same ∙ sym (c .before .before .before .before .before .is-listed .ensures) ∙ not-false _ (c .before .before .before .before .if2 .left))
     (ap (λ (y : Move). hides (a .h .dimension) y (asMove (a .x))) (sym same) ∙ sym (c .before .before .before .hides .ensures) ∙ not-false _ (c .before .before .if3 .left))
     (sym (c .before .hidden-by-coming .ensures) ∙ c .if4 .taken)
     refl
@@ -82,7 +82,7 @@ returns-5 c =
     let same = c .before .before .before .before .before .before .before .move-at .ensures in
     by-tests (a .h .size) (a .h .dimension) (a .h .count) (a .k) (asMove (a .x)) (a .m .now)
     (lt-ltb (a .k .goes) (a .h .count) (omega arith))
-    (listed-read (a .h .size) (a .h .dimension) (a .m .now) (a .k .goes) same (c .before .before .before .before .before .before .is-listed .ensures) ∙ not-false _ (c .before .before .before .before .before .if2 .left))
+    (listed-move (a .h .size) (a .h .dimension) (a .m .now) (a .k .goes) same ∙ sym (c .before .before .before .before .before .before .is-listed .ensures) ∙ not-false _ (c .before .before .before .before .before .if2 .left))
     (ap (λ (y : Move). hides (a .h .dimension) y (asMove (a .x))) (sym same) ∙ sym (c .before .before .before .before .hides .ensures) ∙ not-false _ (c .before .before .before .if3 .left))
     (sym (c .before .before .hidden-by-coming .ensures) ∙ c .before .if4 .left)
     (sym (c .hidden-by-others .ensures))

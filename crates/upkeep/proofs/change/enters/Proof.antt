@@ -17,7 +17,7 @@ use Rattle.upkeep.proofs.change.enters.Statement.{statement}
 use Rattle.upkeep.proofs.change.enters.Tie as tie
 
 by-tests : (c d n : ℕ) (k : Change) (m : List ℕ) (i : ℕ) {listed gone up : Bool}
-    → isListed c d m i ≡ listed
+    → isListed c m i ≡ listed
     → eqb i (k .goes) ≡ gone
     → comesUp c d n k (moveIn c d m i) m ≡ up
     → (not listed && (not gone && up)) ≡ entersAt c d n k m i
@@ -35,12 +35,12 @@ is-listed-requires c κs =
 returns : tie.Need-returns
 returns c =
     let a = c .before .before .before .before .args in
-    by-tests (a .h .size) (a .h .dimension) (a .h .count) (a .k) (a .m .now) (a .i) (listed-at (a .h .size) (a .h .dimension) (a .m .now) (a .i) (c .before .before .number-at .result) (c .before .before .number-at .ensures) ∙ sym (c .before .is-listed .ensures) ∙ c .if1 .taken) refl refl
+    by-tests (a .h .size) (a .h .dimension) (a .h .count) (a .k) (a .m .now) (a .i) (listed-at (a .h .size) (a .m .now) (a .i) (c .before .before .number-at .result) (c .before .before .number-at .ensures) ∙ sym (c .before .is-listed .ensures) ∙ c .if1 .taken) refl refl
 
 returns-2 : tie.Need-returns-2
 returns-2 c =
     let a = c .before .before .before .before .before .before .args in
-    by-tests (a .h .size) (a .h .dimension) (a .h .count) (a .k) (a .m .now) (a .i) (listed-at (a .h .size) (a .h .dimension) (a .m .now) (a .i) (c .before .before .before .before .number-at .result) (c .before .before .before .before .number-at .ensures) ∙ sym (c .before .before .before .is-listed .ensures) ∙ c .before .before .if1 .left) (eq-eqb (a .i) (a .k .goes) (c .if2 .taken)) refl
+    by-tests (a .h .size) (a .h .dimension) (a .h .count) (a .k) (a .m .now) (a .i) (listed-at (a .h .size) (a .m .now) (a .i) (c .before .before .before .before .number-at .result) (c .before .before .before .before .number-at .ensures) ∙ sym (c .before .before .before .is-listed .ensures) ∙ c .before .before .if1 .left) (eq-eqb (a .i) (a .k .goes) (c .if2 .taken)) refl
 
 move-at-requires : tie.Need-move-at-requires
 move-at-requires c κs =
@@ -50,7 +50,7 @@ move-at-requires c κs =
 returns-3 : tie.Need-returns-3
 returns-3 c =
     let a = c .before .before .before .before .before .before .before .before .args in
-    by-tests (a .h .size) (a .h .dimension) (a .h .count) (a .k) (a .m .now) (a .i) (listed-at (a .h .size) (a .h .dimension) (a .m .now) (a .i) (c .before .before .before .before .before .before .number-at .result) (c .before .before .before .before .before .before .number-at .ensures) ∙ sym (c .before .before .before .before .before .is-listed .ensures) ∙ c .before .before .before .before .if1 .left) (ne-eqb (a .i) (a .k .goes) (c .before .before .if2 .left))
+    by-tests (a .h .size) (a .h .dimension) (a .h .count) (a .k) (a .m .now) (a .i) (listed-at (a .h .size) (a .m .now) (a .i) (c .before .before .before .before .before .before .number-at .result) (c .before .before .before .before .before .before .number-at .ensures) ∙ sym (c .before .before .before .before .before .is-listed .ensures) ∙ c .before .before .before .before .if1 .left) (ne-eqb (a .i) (a .k .goes) (c .before .before .if2 .left))
     (ap (λ (x : Move). comesUp (a .h .size) (a .h .dimension) (a .h .count) (a .k) x (a .m .now)) (sym (c .before .move-at .ensures)) ∙ sym (c .comes-up .ensures))
 
 pub enters-spec : {M : Type 1} → statement M

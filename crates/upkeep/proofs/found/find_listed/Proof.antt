@@ -1,21 +1,14 @@
 -- `found::find_listed` meets its contract. The loop's invariant: of the moves passed the listed ones are found. Assumes nothing.
-use Prim.Native.Nat.{ℕ, _-_, _≤_}
-use mathlib.Core.Bool.{Bool}
-use mathlib.Core.List.{List}
+use Prim.Native.Nat.{_-_, _≤_}
 use mathlib.Core.Logic.{⊎-elim}
 use mathlib.Core.Path.{sym, ap, subst, _∙_}
 use native.Mathlib.Omega.{arith}
 use Rattle.numbers.specs.Set.{With}
-use Rattle.upkeep.specs.Planned.{isMarked}
+use Rattle.memory.specs.Tests.{isMarked, isListed}
 use Rattle.upkeep.specs.Laws.Passing.{passing-few, passing-none, passing-takes, passing-passes}
 use Rattle.upkeep.specs.Laws.Found.{FindsTo, finds-all}
-use Rattle.promises.specs.Layout.{numberIn}
 use Rattle.upkeep.proofs.found.find_listed.Statement.{statement}
 use Rattle.upkeep.proofs.found.find_listed.Tie as tie
-
--- Whether the move at place i is listed.
-abbrev listedAt : ℕ → List ℕ → ℕ → Bool
-listedAt c m i = isMarked c m (numberIn c m i)
 
 abbrev Inv-loop : tie.InvT-loop
 Inv-loop m h n numbers₀ count₀ i₀ numbers count i = (i ≤ n) × FindsTo (h .size) m (isMarked (h .size) m) i numbers count
@@ -27,9 +20,10 @@ empty-requires : tie.Need-empty-requires Inv-loop μ-loop
 empty-requires c κs = tt
 
 loop-holds : tie.Need-loop-holds Inv-loop μ-loop
+unfolding isListed
 loop-holds c =
     let a = c .before .before .args in
-    (omega arith, passing-none (a .h .size) (a .m .now) (listedAt (a .h .size) (a .m .now)) (c .empty .result) (c .empty .ensures))
+    (omega arith, passing-none (a .h .size) (a .m .now) (isListed (a .h .size) (a .m .now)) (c .empty .result) (c .empty .ensures))
 
 is-listed-requires : tie.Need-is-listed-requires Inv-loop μ-loop
 is-listed-requires c κs = omega (arith, c .before .before .before .before .before .pre .numbers (c .before .before .loop .i) (omega arith))
@@ -40,11 +34,13 @@ add-requires c κs =
     omega (arith, pre .room .1, pre .numbers (c .before .before .before .before .before .loop .i) (omega arith), c .before .before .before .number-at .ensures)
 
 add-count : tie.Need-add-count Inv-loop μ-loop
+unfolding isListed
 add-count c =
     let a = c .before .before .before .before .before .before .before .before .before .args in
-    omega (arith, passing-few (a .h .size) (a .m .now) (listedAt (a .h .size) (a .m .now)) (c .before .before .before .before .before .before .loop .inv .1))
+    omega (arith, passing-few (a .h .size) (a .m .now) (isListed (a .h .size) (a .m .now)) (c .before .before .before .before .before .before .loop .inv .1))
 
 loop-again : tie.Need-loop-again Inv-loop μ-loop
+unfolding isListed
 loop-again c =
     let a = c .before .before .before .before .before .before .before .args in
     let own = c .before .before .before .before .loop in
@@ -52,9 +48,9 @@ loop-again c =
     let says = ap (isMarked (a .h .size) (a .m .now)) (sym (at .ensures)) ∙ sym (c .before .is-listed .ensures) in (
       omega arith,
       ⊎-elim
-          (λ w. passing-takes (a .h .size) (a .m .now) (listedAt (a .h .size) (a .m .now)) (own .i) (own .inv .1) (says ∙ w .0 .taken) (at .result) (at .ensures)
+          (λ w. passing-takes (a .h .size) (a .m .now) (isListed (a .h .size) (a .m .now)) (own .i) (own .inv .1) (says ∙ w .0 .taken) (at .result) (at .ensures)
           (subst (With (own .numbers) (at .result)) (sym (w .3)) (w .2 .ensures)) (w .4))
-          (λ w. passing-passes (a .h .size) (a .m .now) (listedAt (a .h .size) (a .m .now)) (own .i) (own .inv .1) (says ∙ w .0 .left) (w .1) (w .2))
+          (λ w. passing-passes (a .h .size) (a .m .now) (isListed (a .h .size) (a .m .now)) (own .i) (own .inv .1) (says ∙ w .0 .left) (w .1) (w .2))
           (c .if1 .came),
     )
 
