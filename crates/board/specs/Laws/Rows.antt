@@ -27,8 +27,8 @@ use Rattle.memory.specs.Frame.{DifferWithin, MarksOnly}
 use Rattle.memory.specs.Laws.Frames.{room-over}
 use Rattle.memory.specs.Laws.Stored.{setCosts-frame}
 use Rattle.memory.specs.Laws.Places.{tab-each}
-use Rattle.memory.specs.Laws.Lines.{getD-line, movesIn-line, lineIn-line, line-over-marks, line-setCosts}
-use Rattle.memory.specs.Laws.Held.{held-readable, held-fit, held-once}
+use Rattle.memory.specs.Laws.Lines.{getD-line, movesIn-line, line-over-marks, line-setCosts}
+use Rattle.memory.specs.Laws.Held.{held-readable, held-line, held-fit, held-once}
 use Rattle.tree.specs.Hold.{RowsHold}
 use Rattle.tree.specs.Enter.{EnterAsked}
 use Rattle.upkeep.specs.Mark.{Once}
@@ -36,7 +36,7 @@ use Rattle.upkeep.specs.Mark.{Once}
 -- The rows of sound memory hold every tree that stands in it.
 pub holds-sound : {c d n : ℕ} {m : List ℕ} → SoundAt c d n m → Bytes m → (t : Tree) → Stands m t → RowsHold c d n m t
 holds-sound {c} {d} {n} {m} s b t stands =
-    let line = sym (lineIn-line c d n m (sym (s .size)) (sym (s .dimension)) (sym (s .count))) ∙ stands .line in
+    let line = held-line c d n m s t stands in
     record {
       readable = held-readable s;
       line = line;

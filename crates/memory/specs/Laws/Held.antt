@@ -14,10 +14,11 @@ use Rattle.model.specs.Moves.{Move, ordered}
 use Rattle.model.specs.Lists.{hidden, skyline}
 use Rattle.model.specs.Calls.{memoryNeed}
 use Rattle.model.specs.Sound.{Fit}
+use Rattle.model.specs.Tree.{Tree}
 use Rattle.model.specs.Laws.Loading.{size-most}
 use Rattle.model.specs.Laws.Bool.{and-left, and-right, not-back}
 use Rattle.model.specs.Laws.Basics.{mem-at, select-same, each-mem, any-false}
-use Rattle.line.specs.Line.{Placed, movesIn}
+use Rattle.line.specs.Line.{Placed, lineOf, movesIn}
 use Rattle.promises.specs.Layout.{sizeIn, dimensionIn, countIn, numberIn, markIn, moveIn, placedIn, tab, lineFrom, lineIn, boardIn, keptFrom, keptIn}
 use Rattle.promises.specs.Sound.{Stands, Sound}
 use Rattle.promises.specs.Run.{Bytes}
@@ -27,7 +28,7 @@ use Rattle.memory.specs.Held.{SoundAt, HeldIn}
 use Rattle.memory.specs.Tests.{isListed}
 use Rattle.promises.specs.Laws.Tab.{length-tab, getD-tab, map-tab}
 use Rattle.memory.specs.Laws.Places.{tab-each}
-use Rattle.memory.specs.Laws.Lines.{movesIn-line}
+use Rattle.memory.specs.Laws.Lines.{movesIn-line, lineIn-line}
 use Rattle.memory.specs.declared.sound.Head.{Head}
 use Rattle.memory.specs.declared.sound.Held.{Held}
 use Rattle.memory.specs.declared.sound.Held.the-variants as held
@@ -73,6 +74,10 @@ module _ (c d n : ℕ) (m : List ℕ) (s : SoundAt c d n m) where
   held-numbers =
       own (λ c _ n. Numbers c n m)
       (λ i h. tab-each (placedIn (sizeIn m) (dimensionIn m) m) (λ (r : Placed). r .move .number < sizeIn m) (countIn m) i h (stands .numbers))
+
+  -- The line is that of every tree that stands there.
+  pub held-line : (t : Tree) → Stands m t → lineFrom c d n m ≡ lineOf t
+  held-line t x = sym (lineIn-line c d n m (sym (s .size)) (sym (s .dimension)) (sym (s .count))) ∙ x .line
 
   pub held-order : ordered d (movesIn (lineFrom c d n m)) ≡ true
   unfolding boardIn lineIn

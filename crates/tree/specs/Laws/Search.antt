@@ -18,27 +18,25 @@ use Rattle.model.specs.Moves.{Move, ordered}
 use Rattle.model.specs.Dominance.{dominates}
 use Rattle.model.specs.Lists.{skyline}
 use Rattle.model.specs.Tree.{Tree}
-use Rattle.model.specs.Calls.{memoryNeed}
 use Rattle.model.specs.Sound.{Fit}
 use Rattle.model.specs.Laws.Bool.{byCases, condCases, not-back, and-both, and-false-right, both-ways}
 use Rattle.model.specs.Laws.Basics.{any-select}
-use Rattle.model.specs.Laws.Loading.{size-most}
 use Rattle.model.specs.Laws.Tree.{ruled-filled}
 use Rattle.model.specs.Laws.Nodes.{listed-enough-corner}
-use Rattle.line.specs.Line.{Placed, none, lineOf, movesIn, heightsIn}
+use Rattle.line.specs.Line.{Placed, none, movesIn, heightsIn}
 use Rattle.line.specs.Places.{moveAt, heightAt, nodeEnd}
 use Rattle.line.specs.Search.{nearAt, passedAt, openedFrom, openedPast}
 use Rattle.line.specs.Laws.Line.{WholeTree, tree-whole}
 use Rattle.line.specs.Laws.Places.{height-among, length-heights, end-high}
 use Rattle.line.specs.Laws.Opened.{first-height, opened-all, opened-end, opened-upper, opened-leaf, opened-passed}
-use Rattle.promises.specs.Layout.{sizeIn, dimensionIn, countIn, numberIn, markIn, costsIn, moveIn, placedIn, lineFrom, lineIn, boardIn, keptFrom, keptIn}
+use Rattle.promises.specs.Layout.{dimensionIn, numberIn, markIn, costsIn, moveIn, lineFrom, keptFrom}
 use Rattle.promises.specs.Sound.{Stands}
 use Rattle.promises.specs.Run.{Bytes}
-use Rattle.promises.specs.Laws.Stands.{stands-dimension, stands-moves, stands-order, stands-fit}
 use Rattle.memory.specs.Room.{ReadableRows}
 use Rattle.memory.specs.Tests.{anyTo, allTo, isListed}
-use Rattle.memory.specs.Laws.Places.{anyTo-more, anyTo-found, any-tab, tab-each}
-use Rattle.memory.specs.Laws.Lines.{length-line, lineIn-line, moveAt-line, heightAt-line, movesIn-line}
+use Rattle.memory.specs.Laws.Held.{held-readable, held-line, held-order, held-kept, held-fit}
+use Rattle.memory.specs.Laws.Places.{anyTo-more, anyTo-found, any-tab}
+use Rattle.memory.specs.Laws.Lines.{length-line, moveAt-line, heightAt-line, movesIn-line}
 use Rattle.tree.specs.Rows.{NodeEnd}
 use Rattle.tree.specs.Laws.Heights.{end-line}
 use Rattle.tree.specs.Search.{cornerDominated, nearCorner, LevelAt, SoundAt, Opened}
@@ -101,34 +99,22 @@ pub record Searchable (c d n : ℕ) (m : List ℕ) : Type 0 where
 stands-whole : (m : List ℕ) (t : Tree) → Stands m t → WholeTree t
 stands-whole m t s = tree-whole t (ruled-filled (dimensionIn m) t (s .rules))
 
-stands-first : (m : List ℕ) (t : Tree) → Stands m t → 0 < countIn m → 0 < heightAt (lineIn m) 0
-unfolding lineIn
-stands-first m t s h =
-    subst (λ (rs : List Placed). 0 < heightAt rs 0) (sym (s .line))
-    (first-height t (stands-whole m t s) (omega (arith, ap length (s .line), length-line (sizeIn m) (dimensionIn m) (countIn m) m)))
-
-stands-searchable : (m : List ℕ) (t : Tree) → Stands m t → Bytes m → Searchable (sizeIn m) (dimensionIn m) (countIn m) m
-unfolding lineIn lineFrom placedIn moveIn boardIn keptIn memoryNeed
-stands-searchable m t s b =
-    record {
-      readable =
-          record {
-            room = (s .room, size-most (sizeIn m) (s .size));
-            rows = s .count;
-            numbers = λ i h. tab-each (placedIn (sizeIn m) (dimensionIn m) m) (λ r. r .move .number < sizeIn m) (countIn m) i h (s .numbers);
-            dimension = stands-dimension m t s;
-          };
-      fits = stands-fit m t s b;
-      order = stands-order m t s;
-      kept = s .kept ∙ ap (skyline (dimensionIn m)) (stands-moves m t s);
-      first = λ h. stands-first m t s (omega (arith, h));
-    }
+first-held : {c d n : ℕ} {m : List ℕ} → SoundAt c d n m → 0 < n → 0 < heightAt (lineFrom c d n m) 0
+first-held {c} {d} {n} {m} s h =
+    let t = s .sound .tree in
+    let line = held-line c d n m s t (s .sound .stands) in
+    subst (λ (rs : List Placed). 0 < heightAt rs 0) (sym line)
+    (first-height t (stands-whole m t (s .sound .stands)) (omega (arith, ap length line, length-line c d n m)))
 
 pub sound-searchable : (c d n : ℕ) (m : List ℕ) → SoundAt c d n m → Bytes m → Searchable c d n m
 sound-searchable c d n m s b =
-    subst (λ (x : ℕ). Searchable x d n m) (sym (s .size))
-    (subst (λ (x : ℕ). Searchable (sizeIn m) x n m) (sym (s .dimension))
-    (subst (λ (x : ℕ). Searchable (sizeIn m) (dimensionIn m) x m) (sym (s .count)) (stands-searchable m (s .sound .tree) (s .sound .stands) b)))
+    record {
+      readable = held-readable s;
+      fits = held-fit c d n m s b;
+      order = held-order c d n m s;
+      kept = held-kept c d n m s;
+      first = first-held s;
+    }
 
 -- Where a search stands: at level l of place i, with some nodes opened; these and those that it opens from there on are all.
 pub record Searching (c d n : ℕ) (m : List ℕ) (opened i l : ℕ) : Type 0 where
@@ -252,7 +238,7 @@ search-opened {c} {d} {n} {m} opened i l w h s =
     record {
       is = λ t x.
           let rs = lineFrom c d n m in
-          let line : rs ≡ lineOf t = sym (lineIn-line c d n m (sym (s .size)) (sym (s .dimension)) (sym (s .count))) ∙ x .line in
+          let line = held-line c d n m s t x in
           omega
           (arith, w .total, opened-end d rs i l (omega (arith, length-line c d n m)), ap (λ (ss : List Placed). openedPast d ss 0) line, opened-all d t (stands-whole m t x));
     }
