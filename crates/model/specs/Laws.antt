@@ -1,12 +1,14 @@
 -- What holds of the definitions.
 pub mod Bool
 pub mod Basics
+pub mod Range
 pub mod Sorting
 pub mod Permuted
 pub mod Order
 pub mod Dominance
 pub mod Skyline
 pub mod Queries
+pub mod Chosen
 pub mod Tree
 pub mod Loading
 pub mod Entering

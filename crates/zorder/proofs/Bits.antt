@@ -4,14 +4,14 @@ use Prim.Native.Nat.{ℕ, _+_, _-_, _*_, _/_, _%_, _^_, _≤_, _<_}
 use mathlib.Core.Bool.{Bool, true, false, not}
 use mathlib.Core.Logic.{_↔_}
 use mathlib.Core.Path.{_≡_, refl, sym, ap, subst, _∙_}
-use native.Mathlib.Nat.{mod-eq-of-lt, div-eq-of-lt, div-lt-iff-lt-mul, le-div-iff-mul-le, add-mul, sub-add-cancel, lt-of-lt-of-le, lt-of-not-le, le-of-suc-le-suc, pow-suc}
+use native.Mathlib.Nat.{mod-eq-of-lt, div-eq-of-lt, div-lt-iff-lt-mul, le-div-iff-mul-le, add-mul, sub-add-cancel, lt-of-lt-of-le, lt-of-not-le, le-of-suc-le-suc, pow-suc, one-mul}
 use native.Mathlib.Omega.{arith}
 use borrow.Author.Tests.{leb-true, leb-false, eq-eqb, ne-eqb}
 use lib.Bits.{bitAnd, bitOr, bitXor, and-mask, or-shifted, and-le-l, and-le-r, or-add-and, xor-add-and, xor-self, xor-lt, xor-shr}
 use lib.Count.{leadingZeros, leading-length}
 use lib.Dec.{leb, eqb}
 use lib.Arith.{digits-lt}
-use lib.Pow.{pow-pos, pow-mono, pow-add, shr-lt, ones-lt}
+use lib.Pow.{pow-pos, pow-mono, pow-add, shl-exact, shr-lt, ones-lt}
 
 -- A mask of one bit.
 pub and-one : (n : ℕ) → bitAnd n 1 ≡ n % 2
@@ -20,6 +20,10 @@ and-one n = and-mask n 1
 -- A shift to the left that loses nothing, with the freed bits filled in.
 pub shl-or : (w k a b : ℕ) → a * 2 ^ k < 2 ^ w → b < 2 ^ k → bitOr (a * 2 ^ k % 2 ^ w) b ≡ a * 2 ^ k + b
 shl-or w k a b fits small = ap (λ (x : ℕ). bitOr x b) (mod-eq-of-lt fits) ∙ or-shifted a k b small
+
+-- One bit, shifted within the width.
+pub shl-one : (w k : ℕ) → k < w → 1 * 2 ^ k % 2 ^ w ≡ 2 ^ k
+shl-one w k h = shl-exact {a = 1} 1 k w (omega arith) (omega arith) ∙ one-mul (2 ^ k)
 
 -- A shift to the right leaves 0 of the numbers below the power, and of no others.
 pub lt-of-shr-zero : (a k : ℕ) → a / 2 ^ k ≡ 0 → a < 2 ^ k

@@ -16,6 +16,7 @@ use Rattle.model.specs.Withdrawing.{without}
 use Rattle.model.specs.Calls.{onBoard}
 use Rattle.model.specs.Laws.Bool.{condCases, same-test, both-ways, and-both, not-flip}
 use Rattle.model.specs.Laws.Basics.{each-mem, mem-each, each-map, select-mem, select-map, select-ext, any-map, any-select}
+use Rattle.model.specs.Laws.Range.{each-place}
 use Rattle.model.specs.Laws.Sorting.{each-insert}
 use Rattle.line.specs.Line.{movesIn}
 use Rattle.promises.specs.Layout.{numberIn, markIn, moveIn, lineFrom}
@@ -31,7 +32,7 @@ use Rattle.memory.specs.Laws.Lines.{length-line}
 use Rattle.memory.specs.Laws.Held.{held-room, held-numbers, held-once}
 use Rattle.upkeep.specs.Change.{dropAt, movesAfter, stays, ChangeAsked, Upkept}
 use Rattle.upkeep.specs.Notice.{listedThen, SetMarks}
-use Rattle.upkeep.specs.Laws.Places.{each-place, anyTo-places}
+use Rattle.upkeep.specs.Laws.Places.{anyTo-places}
 use Rattle.upkeep.specs.Laws.Change.{line-places, rest-places}
 use Rattle.upkeep.specs.declared.change.Change.{Change}
 use Rattle.upkeep.specs.declared.change.Upkeep.{Upkeep}

@@ -87,14 +87,3 @@ and-false-right false b e = refl
 pub and-drop-left : (a b : Bool) → a ≡ true → (a && b) ≡ false → b ≡ false
 and-drop-left true b e f = f
 and-drop-left false b e f = absurd (false≢true e)
-
--- One turn of "nowhere greater and somewhere less": greater here, less here, less before, and both for what is left.
-pub less-turn : (s l m : Bool) → (s || (l || m)) ≡ (cond l true s || m)
-less-turn true true m = refl
-less-turn true false m = refl
-less-turn false true m = refl
-less-turn false false m = refl
-
-pub one-turn : (g l s n m : Bool) → ((not g && n) && (s || (l || m))) ≡ cond g false (n && (cond l true s || m))
-one-turn true l s n m = refl
-one-turn false l s n m = ap (λ (b : Bool). n && b) (less-turn s l m)

@@ -16,6 +16,7 @@ use Rattle.model.specs.Dominance.{better, dominates, at, dominatesAt, do
 use Rattle.model.specs.Lists.{skyline, dominators, band, dominated, rankBefore, rank, onK, chosen}
 use Rattle.model.specs.Laws.Bool.{condCases}
 use Rattle.model.specs.Laws.Basics.{each-mem, mem-each, select-ext, any-ext, select-mem, mem-select, count-cons}
+use Rattle.model.specs.Laws.Range.{length-numbers}
 use Rattle.model.specs.Laws.Sorting.{length-sort}
 
 -- The moves that no move dominates.
@@ -59,11 +60,6 @@ at-numbers (suc k) n p h =
 pub dominates-at-all : (d : ℕ) (p q : List ℕ) → d ≤ length p → d ≤ length q → dominatesAt (numbersFrom 0 d) p q ≡ dominates d p q
 unfolding dominatesAt dominates
 dominates-at-all d p q h k = ap₂ better (at-numbers d 0 p (omega arith)) (at-numbers d 0 q (omega arith))
-
-length-numbers : (k n : ℕ) → length (numbersFrom n k) ≡ k
-unfolding numbersFrom
-length-numbers zero n = refl
-length-numbers (suc k) n = ap suc (length-numbers k (suc n))
 
 module _ {A : Type 0} where
   parts-none : (k : ℕ) (xs : List A) → length xs < k → parts k xs ≡ []

@@ -7,6 +7,7 @@ use Rattle.model.specs.Basics.{select, numbersFrom}
 use Rattle.model.specs.Moves.{Move}
 use Rattle.model.specs.Lists.{listedRows}
 use Rattle.model.specs.Laws.Basics.{select-ext, each-map}
+use Rattle.model.specs.Laws.Range.{each-place}
 use Rattle.promises.specs.Layout.{sizeIn, dimensionIn, countIn, moveIn, lineIn, boardIn}
 use Rattle.promises.specs.Sound.{Sound}
 use Rattle.memory.specs.Held.{SoundAt}
@@ -15,7 +16,7 @@ use Rattle.memory.specs.Laws.Held.{held-readable}
 use Rattle.memory.specs.declared.sound.Head.{Head}
 use Rattle.memory.specs.Laws.Lines.{movesIn-line}
 use Rattle.upkeep.specs.Planned.{Finds, foundMoves, PlansFound}
-use Rattle.upkeep.specs.Laws.Places.{each-place, tab-places}
+use Rattle.upkeep.specs.Laws.Places.{tab-places}
 use Rattle.upkeep.specs.Laws.Change.{line-places}
 use Rattle.upkeep.specs.declared.found.Found.{Found}
 use Rattle.upkeep.specs.declared.plan.Plan.{Plan}

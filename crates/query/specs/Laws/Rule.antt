@@ -1,19 +1,23 @@
--- Dominance on a set of costs by tests of its places, and on some k of them by counting.
-use Prim.Native.Nat.{ℕ, zero, suc, _+_, _-_, _/_, _%_, _^_, _≤_, _<_}
-use mathlib.Core.Bool.{Bool, true, false, cond, not, _&&_, _||_, and-true, or-false}
+-- Dominance on some k costs by counting, and on k and chosen costs as tests of the sums.
+use Prim.Native.Nat.{ℕ, zero, suc, _+_, _-_, _%_, _^_, _≤_}
+use mathlib.Core.Bool.{Bool, true, false, cond, not, _&&_, _||_, and-true, and-comm, or-false}
 use mathlib.Core.List.{List, [], _∷_, map}
-use mathlib.Core.Path.{_≡_, refl, sym, ap, ap₂, _∙_, fun-ext}
-use native.Mathlib.Nat.{add-zero}
-use native.Mathlib.Numerals.{add-one}
+use mathlib.Core.Path.{_≡_, refl, sym, ap, ap₂, _∙_, subst, fun-ext}
 use native.Mathlib.Omega.{arith}
 use lib.Dec.{ltb, leb, eqb, leb·zero, leb·suc-zero, leb·suc-suc}
-use lib.ListN.{getD}
+use lib.ListN.{length, getD}
 use borrow.Author.Tests.{leb-true, le-leb, ltb-true, le-ltb}
+use Rattle.zorder.specs.Address.{rowCosts}
 use Rattle.model.specs.Basics.{consIf, select, any, all, count, parts, numbersFrom}
 use Rattle.model.specs.Dominance.{less, nowhereGreater, somewhereLess, better, at, dominatesAt, dominatesOn}
 use Rattle.model.specs.Lists.{chosenCosts}
-use Rattle.model.specs.Laws.Bool.{less-turn, one-turn, same-test, or-cases, or-left, and-left, and-both, both-ways, not-flip, condCases}
+use Rattle.model.specs.Laws.Bool.{same-test, or-cases, or-left, and-left, and-both, both-ways, not-flip}
 use Rattle.model.specs.Laws.Basics.{any-append, any-map, any-witness, count-cons, count-pos}
+use Rattle.model.specs.Laws.Range.{length-numbers}
+use Rattle.model.specs.Laws.Chosen.{chosen-first, chosen-within}
+use Rattle.dominance.specs.Sums.{countLess, Summed}
+use Rattle.dominance.specs.Laws.Sums.{somewhere-sum, sums-dominate}
+use Rattle.dominance.specs.declared.Sums.{Sums}
 
 -- ---- some k entries that all pass one test, and one of which passes another
 
@@ -126,7 +130,7 @@ module _ (p q : List ℕ) where
   somewhere-at [] = refl
   somewhere-at (i ∷ s) = ap (λ (b : Bool). lower i || b) (somewhere-at s)
 
-  pub dominates-at : (s : List ℕ) → dominatesAt s p q ≡ (all fits s && any lower s)
+  dominates-at : (s : List ℕ) → dominatesAt s p q ≡ (all fits s && any lower s)
   unfolding dominatesAt better
   dominates-at s = ap₂ _&&_ (nowhere-at s) (somewhere-at s)
 
@@ -138,113 +142,43 @@ module _ (p q : List ℕ) where
       ap (λ (t : List ℕ → Bool). any t (parts (suc k) (numbersFrom 0 d))) (fun-ext dominates-at)
       ∙ parts-one-passes fits lower lower-fits k (numbersFrom 0 d)
 
--- ---- the costs from cost i on
+-- ---- the tests of the sums
 
-unfoldable pub from : ℕ → ℕ → List ℕ
-from d i = numbersFrom i (d - i)
+fit-turn : (g : Bool) (n m k : ℕ) → n + m ≡ k → cond (not g) (suc n) n + (cond g 1 0 + m) ≡ suc k
+fit-turn true n m k e = omega arith
+fit-turn false n m k e = omega arith
 
-from-all : (d : ℕ) → from d 0 ≡ numbersFrom 0 d
-unfolding from
-from-all d = let e : d - 0 ≡ d = omega arith in ap (numbersFrom 0) e
+module _ (p q : List ℕ) where
+  -- A cost that is not greater fits; every other is counted as greater.
+  fit-sum : (s : List ℕ) → count (fits p q) s + countLess (at s q) (at s p) ≡ length s
+  unfolding count select fits at countLess
+  fit-sum [] = refl
+  fit-sum (i ∷ s) =
+      ap (λ (n : ℕ). n + countLess (at (i ∷ s) q) (at (i ∷ s) p)) (count-cons (fits p q) i s)
+      ∙ fit-turn (less (getD q i 0) (getD p i 0)) (count (fits p q) s) (countLess (at s q) (at s p)) (length s) (fit-sum s)
 
-from-more : (d i : ℕ) → i < d → from d i ≡ i ∷ from d (i + 1)
-unfolding from numbersFrom
-from-more d i h =
-    let e : d - i ≡ suc (d - (i + 1)) = omega arith in
-    ap (numbersFrom i) e ∙ ap (λ (j : ℕ). i ∷ numbersFrom j (d - (i + 1))) (sym (add-one i))
+  module _ (d : ℕ) (r : Sums) (h : d ≤ rowCosts) (t : Summed (chosenCosts rowCosts (2 ^ d - 1)) p q r) where
+    first : Summed (numbersFrom 0 d) p q r
+    first = subst (λ (s : List ℕ). Summed s p q r) (chosen-first rowCosts d h) t
 
-from-end : (d i : ℕ) → d ≤ i → from d i ≡ []
-unfolding from numbersFrom
-from-end d i h = let e : d - i ≡ 0 = omega arith in ap (numbersFrom i) e
+    fitting : count (fits p q) (numbersFrom 0 d) + r .greater ≡ d
+    fitting = omega (arith, first .greater, fit-sum (numbersFrom 0 d), length-numbers d 0)
 
--- ---- on some k costs, counted cost by cost
+    pub greater-few : r .greater ≤ d
+    greater-few = omega (arith, fitting)
 
-fit-turn : (g : Bool) (fit n all : ℕ) → fit + cond (not g) (suc n) n ≡ all → cond g fit (fit + 1) + n ≡ all
-fit-turn true fit n all e = e
-fit-turn false fit n all e = omega arith
+    -- On some k of the first d costs.
+    pub sums-dominate-on : (k : ℕ) → 1 ≤ k → (leb k (d - r .greater) && ltb 0 (r .lesser)) ≡ dominatesOn d k p q
+    sums-dominate-on k l =
+        let fit : d - r .greater ≡ count (fits p q) (numbersFrom 0 d) = omega (arith, fitting) in
+        ap₂ (λ (n m : ℕ). leb k n && ltb 0 m) fit (first .lesser)
+        ∙ ap (λ (b : Bool). leb k (count (fits p q) (numbersFrom 0 d)) && b) (somewhere-sum (at (numbersFrom 0 d) p) (at (numbersFrom 0 d) q) ∙ somewhere-at p q (numbersFrom 0 d))
+        ∙ and-comm (leb k (count (fits p q) (numbersFrom 0 d))) (any (lower p q) (numbersFrom 0 d))
+        ∙ sym (dominates-on p q d k l)
 
-module _ (d : ℕ) (p q : List ℕ) where
-  -- What is found so far, and what is left to find, give the whole.
-  pub record Counted (fit : ℕ) (somewhere : Bool) (i : ℕ) : Type 0 where
-    pub few : fit ≤ i
-    pub fitting : fit + count (fits p q) (from d i) ≡ count (fits p q) (numbersFrom 0 d)
-    pub lesser : (somewhere || any (lower p q) (from d i)) ≡ any (lower p q) (numbersFrom 0 d)
-
-  pub counted-none : Counted 0 false 0
-  counted-none = record { few = omega arith; fitting = omega (arith, ap (count (fits p q)) (from-all d)); lesser = ap (any (lower p q)) (from-all d) }
-
-  module _ (i : ℕ) (h : i < d) where
-    count-more : count (fits p q) (from d i) ≡ cond (fits p q i) (suc (count (fits p q) (from d (i + 1)))) (count (fits p q) (from d (i + 1)))
-    count-more = ap (count (fits p q)) (from-more d i h) ∙ count-cons (fits p q) i (from d (i + 1))
-
-    any-more : any (lower p q) (from d i) ≡ (lower p q i || any (lower p q) (from d (i + 1)))
-    unfolding any
-    any-more = ap (any (lower p q)) (from-more d i h)
-
-    pub counted-more : (fit : ℕ) (somewhere g l : Bool) → less (getD q i 0) (getD p i 0) ≡ g → less (getD p i 0) (getD q i 0) ≡ l → Counted fit somewhere i
-        → Counted (cond g fit (fit + 1)) (cond l true somewhere) (i + 1)
-    unfolding fits lower
-    counted-more fit somewhere g l greater lesser k =
-        record {
-          few = condCases (λ (n : ℕ). n ≤ i + 1) g (λ _. omega (arith, k .few)) (λ _. omega (arith, k .few));
-          fitting = fit-turn g fit n (count (fits p q) (numbersFrom 0 d))
-              (ap (λ (b : Bool). fit + cond (not b) (suc n) n) (sym greater) ∙ ap (λ (j : ℕ). fit + j) (sym count-more) ∙ k .fitting);
-          lesser = sym (less-turn somewhere l m) ∙ ap (λ (b : Bool). somewhere || (b || m)) (sym lesser) ∙ ap (λ (b : Bool). somewhere || b) (sym any-more) ∙ k .lesser;
-        }
-      where
-        n : ℕ
-        n = count (fits p q) (from d (i + 1))
-
-        m : Bool
-        m = any (lower p q) (from d (i + 1))
-
-  pub counted-end : (fit : ℕ) (somewhere : Bool) (i k : ℕ) → d ≤ i → 1 ≤ k → Counted fit somewhere i → dominatesOn d k p q ≡ (somewhere && leb k fit)
-  unfolding any count select
-  counted-end fit somewhere i k h l c =
-      dominates-on p q d k l
-      ∙ ap₂ (λ (b : Bool) (n : ℕ). b && leb k n)
-      (sym (c .lesser) ∙ ap (λ (s : List ℕ). somewhere || any (lower p q) s) (from-end d i h) ∙ or-false somewhere)
-      (sym (c .fitting) ∙ ap (λ (s : List ℕ). fit + count (fits p q) s) (from-end d i h) ∙ add-zero fit)
-
--- ---- on chosen costs, decided cost by cost
-
-module _ (d set : ℕ) (p q : List ℕ) where
-  abbrev chosen : ℕ → Bool
-  chosen i = eqb (set / 2 ^ i % 2) 1
-
-  -- What is left to decide, where a lesser cost was found before or not.
-  pub decided : Bool → ℕ → Bool
-  decided s i = all (fits p q) (select chosen (from d i)) && (s || any (lower p q) (select chosen (from d i)))
-
-  pub decided-none : decided false 0 ≡ dominatesAt (chosenCosts d set) p q
-  unfolding decided chosenCosts
-  decided-none =
-      ap (λ (s : List ℕ). all (fits p q) (select chosen s) && any (lower p q) (select chosen s)) (from-all d)
-      ∙ sym (dominates-at p q (chosenCosts d set))
-
-  module _ (s : Bool) (i : ℕ) (h : i < d) where
-    decided-cons : decided s i ≡ (all (fits p q) (consIf (chosen i) i (select chosen (from d (i + 1)))) && (s || any (lower p q) (consIf (chosen i) i (select chosen (from d (i + 1))))))
-    unfolding decided select
-    decided-cons = ap (λ (l : List ℕ). all (fits p q) (select chosen l) && (s || any (lower p q) (select chosen l))) (from-more d i h)
-
-    -- A cost that is not chosen ..
-    pub decided-passes : chosen i ≡ false → decided s i ≡ decided s (i + 1)
-    unfolding decided
-    decided-passes e =
-        decided-cons
-        ∙ ap (λ (b : Bool). all (fits p q) (consIf b i (select chosen (from d (i + 1)))) && (s || any (lower p q) (consIf b i (select chosen (from d (i + 1)))))) e
-
-    -- .. and one that is, by the answers of its two comparisons.
-    pub decided-more : chosen i ≡ true → (g l : Bool) → less (getD q i 0) (getD p i 0) ≡ g → less (getD p i 0) (getD q i 0) ≡ l
-        → decided s i ≡ cond g false (decided (cond l true s) (i + 1))
-    unfolding decided all any fits lower
-    decided-more e g l greater lesser =
-        let r : List ℕ = select chosen (from d (i + 1)) in
-        decided-cons
-        ∙ ap (λ (b : Bool). all (fits p q) (consIf b i r) && (s || any (lower p q) (consIf b i r))) e
-        ∙ ap₂ (λ (x y : Bool). (not x && all (fits p q) r) && (s || (y || any (lower p q) r))) greater lesser
-        ∙ one-turn g l s (all (fits p q) r) (any (lower p q) r)
-
-  pub decided-end : (s : Bool) (i : ℕ) → d ≤ i → decided s i ≡ s
-  unfolding decided select all any
-  decided-end s i h = ap (λ (l : List ℕ). all (fits p q) (select chosen l) && (s || any (lower p q) (select chosen l))) (from-end d i h) ∙ or-false s
+  -- On those of the first d costs that are in a set.
+  pub sums-dominate-at : (d set : ℕ) (r : Sums) → d ≤ rowCosts → Summed (chosenCosts rowCosts (set % 2 ^ d)) p q r
+      → (eqb (r .greater) 0 && ltb 0 (r .lesser)) ≡ dominatesAt (chosenCosts d set) p q
+  sums-dominate-at d set r h t =
+      sums-dominate (chosenCosts rowCosts (set % 2 ^ d)) p q r t
+      ∙ ap (λ (s : List ℕ). dominatesAt s p q) (chosen-within rowCosts d set h)

@@ -14,6 +14,7 @@ use Rattle.model.specs.Lists.{hidden, skyline}
 use Rattle.model.specs.Sound.{Fit}
 use Rattle.model.specs.Laws.Bool.{testCases, both-ways, and-both, and-right}
 use Rattle.model.specs.Laws.Basics.{each-mem, any-map, any-select, any-mem, any-mono, count-ext}
+use Rattle.model.specs.Laws.Range.{each-place}
 use Rattle.model.specs.Laws.Skyline.{HiderIn, skyline-mem, enter-hidden, skyline-hider, enter-hidden-self}
 use Rattle.line.specs.Line.{movesIn}
 use Rattle.promises.specs.Layout.{numberIn, moveIn, lineFrom}
@@ -25,7 +26,7 @@ use Rattle.memory.specs.Laws.Lines.{movesIn-line}
 use Rattle.memory.specs.Laws.Held.{held-dimension, held-order, held-listed, held-fit, held-fit-at, held-once}
 use Rattle.numbers.specs.Set.{inSet}
 use Rattle.upkeep.specs.Change.{dropAt, movesAfter, stays, hiddenByOthers, hiddenByComing, comesUp, leaves, leavesAt, entersAt, Passing, Looked, Upkept}
-use Rattle.upkeep.specs.Laws.Places.{each-place, tab-places, anyTo-places, drop-places}
+use Rattle.upkeep.specs.Laws.Places.{tab-places, anyTo-places, drop-places}
 use Rattle.upkeep.specs.Laws.Passing.{passing-at}
 use Rattle.upkeep.specs.declared.change.Change.{Change}
 use Rattle.upkeep.specs.declared.change.Upkeep.{Upkeep}

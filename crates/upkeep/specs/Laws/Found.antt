@@ -9,6 +9,7 @@ use Rattle.model.specs.Basics.{select, count, numbersFrom}
 use Rattle.model.specs.Moves.{listed, rowOf}
 use Rattle.model.specs.Lists.{listedRows}
 use Rattle.model.specs.Laws.Basics.{select-ext, select-map}
+use Rattle.model.specs.Laws.Range.{each-place}
 use Rattle.line.specs.Line.{movesIn}
 use Rattle.promises.specs.Layout.{numberIn, moveIn, lineFrom, lineIn, boardIn}
 use Rattle.promises.specs.Answers.{resultRow}
@@ -20,7 +21,6 @@ use Rattle.numbers.specs.Set.{inSet}
 use Rattle.upkeep.specs.Notice.{moveNumbers, placesIn, rowsAt}
 use Rattle.upkeep.specs.Telling.{TellingAsked, toldRows}
 use Rattle.upkeep.specs.Planned.{Finds, TellsNumbers, foundMoves}
-use Rattle.upkeep.specs.Laws.Places.{each-place}
 use Rattle.upkeep.specs.Change.{Passing}
 use Rattle.upkeep.specs.Laws.Passing.{passing-at}
 use Rattle.upkeep.specs.Laws.Change.{line-places}

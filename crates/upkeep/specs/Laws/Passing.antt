@@ -11,12 +11,13 @@ use lib.Dec.{eqb}
 use Rattle.model.specs.Basics.{select, count, numbersFrom}
 use Rattle.model.specs.Laws.Bool.{and-both, and-left, and-right, same-test}
 use Rattle.model.specs.Laws.Basics.{each-mem, any-witness}
+use Rattle.model.specs.Laws.Range.{each-place}
 use Rattle.promises.specs.Layout.{numberIn}
 use Rattle.memory.specs.Tests.{allTo, anyTo}
 use Rattle.memory.specs.Laws.Places.{anyTo-suc, anyTo-found}
 use Rattle.numbers.specs.Set.{inSet, With}
 use Rattle.upkeep.specs.Change.{Passing}
-use Rattle.upkeep.specs.Laws.Places.{each-place, anyTo-places, count-more, count-le}
+use Rattle.upkeep.specs.Laws.Places.{anyTo-places, count-more, count-le}
 
 module _ (c : ℕ) (m : List ℕ) (test : ℕ → Bool) where
   -- Whether the number j is that of the move at place i, which passes.

@@ -1,5 +1,5 @@
 -- The places of a board as a list of numbers, and the moves at them.
-use Prim.Native.Nat.{ℕ, zero, suc, _+_, _≤_, _<_}
+use Prim.Native.Nat.{ℕ, zero, suc, _+_, _≤_}
 use mathlib.Core.Bool.{Bool, true, false, not, cond}
 use mathlib.Core.List.{List, [], _∷_, _++_, map}
 use mathlib.Core.Path.{_≡_, refl, sym, ap, ap₂, _∙_}
@@ -8,30 +8,15 @@ use native.Mathlib.Numerals.{add-one}
 use native.Mathlib.Omega.{arith}
 use borrow.Author.Tests.{eq-eqb, ne-eqb}
 use lib.Dec.{eqb}
-use Rattle.model.specs.Basics.{Each, consIf, select, any, count, numbersFrom}
+use Rattle.model.specs.Basics.{consIf, select, any, count, numbersFrom}
 use Rattle.model.specs.Moves.{Move}
 use Rattle.model.specs.Laws.Basics.{select-all, any-map, count-append, count-cons}
+use Rattle.model.specs.Laws.Range.{each-numbers, numbers-append}
 use Rattle.promises.specs.Layout.{tab}
 use Rattle.memory.specs.Tests.{anyTo}
 use Rattle.promises.specs.Laws.Tab.{tab-cons, tab-ext}
 use Rattle.memory.specs.Laws.Places.{any-tab}
 use Rattle.upkeep.specs.Change.{dropAt}
-
-pub each-numbers : (P : ℕ → Type 0) (a k : ℕ) → ((i : ℕ) → a ≤ i → i < a + k → P i) → Each P (numbersFrom a k)
-unfolding numbersFrom
-each-numbers P a zero f = tt
-each-numbers P a (suc k) f =
-    (f a (omega arith) (omega arith), each-numbers P (suc a) k (λ i l h. f i (omega arith) (omega arith)))
-
-pub each-place : (P : ℕ → Type 0) (n : ℕ) → ((i : ℕ) → i < n → P i) → Each P (numbersFrom 0 n)
-each-place P n f = each-numbers P 0 n (λ i _ h. f i (omega arith))
-
-pub numbers-append : (a j k : ℕ) → numbersFrom a (j + k) ≡ numbersFrom a j ++ numbersFrom (a + j) k
-unfolding numbersFrom
-numbers-append a zero k = ap₂ numbersFrom (sym (add-zero a)) (zero-add k)
-numbers-append a (suc j) k =
-    ap (numbersFrom a) (suc-add j k)
-    ∙ ap (λ (l : List ℕ). a ∷ l) (numbers-append (suc a) j k ∙ ap (λ (b : ℕ). numbersFrom (suc a) j ++ numbersFrom b k) (suc-add a j ∙ sym (add-suc a j)))
 
 -- One place more.
 pub numbers-more : (n : ℕ) → numbersFrom 0 (n + 1) ≡ numbersFrom 0 n ++ n ∷ []

@@ -16,6 +16,7 @@ use Rattle.model.specs.Notice.{noticeOf}
 use Rattle.model.specs.Sound.{Fit}
 use Rattle.model.specs.Laws.Bool.{byCases, testCases, and-left, and-right, not-back, not-flip}
 use Rattle.model.specs.Laws.Basics.{mem-each, each-mem, select-mem, mem-select, select-ext, select-append}
+use Rattle.model.specs.Laws.Range.{each-numbers, each-place, numbers-append}
 use Rattle.model.specs.Laws.Order.{move-order, off-board}
 use Rattle.model.specs.Laws.Sorting.{StrictOrder, insert-mem, mem-insert-old, asym, connex, rising-cons, rising-tail, rising-head}
 use Rattle.model.specs.Laws.Skyline.{skyline-mem}
@@ -33,7 +34,6 @@ use Rattle.memory.specs.Laws.Held.{held-dimension, held-order, held-listed, hel
 use Rattle.numbers.specs.Set.{inSet}
 use Rattle.upkeep.specs.Change.{dropAt, movesAfter, stays, ChangeAsked, Upkept}
 use Rattle.upkeep.specs.Notice.{moveNumbers, placesIn, rowsAt, noticeRows}
-use Rattle.upkeep.specs.Laws.Places.{each-numbers, each-place, numbers-append}
 use Rattle.upkeep.specs.Laws.Change.{line-places, rest-places}
 use Rattle.upkeep.specs.Laws.Place.{place-low, place-high}
 use Rattle.upkeep.specs.Laws.Notified.{Places, stay, left-places, entered-after, entered-rest, entered-coming}

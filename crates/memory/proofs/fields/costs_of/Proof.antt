@@ -1,13 +1,19 @@
 -- `fields::costs_of` meets its contract. The loop's invariant: the row holds the first j costs. Assumes nothing.
 use Rattle.zorder.specs.Address.{rowCosts, padded}
-use Prim.Native.Nat.{ℕ, _+_, _-_, _≤_, _<_}
+use Prim.Native.Nat.{ℕ, _+_, _-_, _*_, _/_, _%_, _^_, _≤_, _<_}
 use mathlib.Core.List.{List, _++_, append-nil}
-use mathlib.Core.Logic.{⊎-elim}
 use mathlib.Core.Path.{_≡_, sym, ap, ap₂, _∙_}
+use native.Mathlib.Nat.{mod-lt, mul-one, mul-zero, mul-le-mul-left}
 use native.Mathlib.Omega.{arith}
+use borrow.Author.Tests.{ltb-true, ltb-false}
+use lib.Dec.{ltb}
+use lib.Pow.{pow-pos}
 use lib.ListN.{length, getD, set, replicate, length-append, length-replicate, getD-replicate, List·getD-append}
 use lib.Seq.{getD-append-add}
 use Rattle.zorder.proofs.Fill.{filled, filled-none, filled-more, filled-all}
+use Rattle.zorder.proofs.Bits.{shl-one}
+use Rattle.model.specs.Laws.Bool.{byCases}
+use Rattle.model.specs.Laws.Chosen.{bit-first, bit-past-first}
 use Rattle.promises.specs.Layout.{costPlace, costIn, tab, costsIn}
 use Rattle.promises.specs.Laws.Tab.{length-tab, getD-tab}
 use Rattle.memory.proofs.fields.costs_of.Statement.{statement}
@@ -38,36 +44,52 @@ module _ (c d : ℕ) (m : List ℕ) (number : ℕ) (few : d ≤ rowCosts) where
       ∙ getD-append-add cost zeros (j - d) 0
       ∙ getD-replicate (rowCosts - d) (j - d) 0 0 (omega arith)
 
+  -- a word times 1 if its cost is one of the first d, else times 0
+  row-times : (j w : ℕ) → j < rowCosts → w ≡ costIn c m number j → w * ((2 ^ d - 1) / 2 ^ j % 2) ≡ getD (costsIn c d m number) j 0
+  row-times j w l e =
+      byCases (ltb j d)
+      (λ t. let h = ltb-true j d t in ap (λ (b : ℕ). w * b) (bit-first d j h) ∙ mul-one w ∙ e ∙ sym (row-cost j h))
+      (λ t. let h = ltb-false j d t in ap (λ (b : ℕ). w * b) (bit-past-first d j h) ∙ mul-zero w ∙ sym (row-past j h l))
+
   row-whole : filled (costsIn c d m number) rowCosts ≡ costsIn c d m number
   unfolding padded
   row-whole = filled-all (costsIn c d m number) rowCosts row-length ∙ append-nil (costsIn c d m number)
 
 abbrev Inv-loop : tie.InvT-loop
-Inv-loop m c d number at costs₀ j₀ costs j = (j ≤ rowCosts) × (costs ≡ filled (costsIn c d m number) j)
+Inv-loop m c d number at first costs₀ j₀ costs j = (j ≤ rowCosts) × (costs ≡ filled (costsIn c d m number) j)
 
 abbrev μ-loop : tie.MeasureT-loop
-μ-loop m c d number at costs₀ j₀ costs j = rowCosts - j
+μ-loop m c d number at first costs₀ j₀ costs j = rowCosts - j
+
+sub-first : tie.Need-sub-first Inv-loop μ-loop
+sub-first c =
+    let d = c .before .args .d in
+    omega (arith, shl-one 64 d (omega arith), pow-pos d)
 
 loop-holds : tie.Need-loop-holds Inv-loop μ-loop
 loop-holds c =
     let a = c .before .args in
     (omega arith, filled-none (costsIn (a .c) (a .d) (a .m .now) (a .number)))
 
+mul-costs : tie.Need-mul-costs Inv-loop μ-loop
+mul-costs c =
+    let first = 1 * 2 ^ c .before .before .before .before .args .d % 2 ^ 64 - 1 in
+    let bit = first / 2 ^ c .before .before .loop .j % 2 in
+    omega (arith, mul-le-mul-left {m = bit} {n = 1} (c .word .result) (omega (arith, mod-lt (first / 2 ^ c .before .before .loop .j) {m = 2} (omega arith))))
+
 loop-again : tie.Need-loop-again Inv-loop μ-loop
 unfolding costIn costPlace
 loop-again c =
-    let a = c .before .before .before .before .before .args in
-    let few = c .before .before .before .before .before .pre .2 in
-    let own = c .before .before .before .loop in
+    let a = c .before .before .before .before .args in
+    let few = c .before .before .before .before .pre .2 in
+    let own = c .before .before .loop in
     let row = costsIn (a .c) (a .d) (a .m .now) (a .number) in
-    let count : length row ≡ rowCosts = row-length (a .c) (a .d) (a .m .now) (a .number) few in
-    let cost : c .if1 .costs ≡ getD row (own .j) 0 =
-    ⊎-elim
-    (λ w. w .1 ∙ c .before .word .ensures ∙ sym (row-cost (a .c) (a .d) (a .m .now) (a .number) few (own .j) (w .0 .taken)))
-    (λ w. w .1 ∙ sym (row-past (a .c) (a .d) (a .m .now) (a .number) few (own .j) (w .0 .left) (omega arith)))
-    (c .if1 .came) in (
+    let count : length row ≡ rowCosts = row-length (a .c) (a .d) (a .m .now) (a .number) few in (
       omega arith,
-      ap₂ (λ (l : List ℕ) (v : ℕ). set l (own .j) v) (own .inv .1) cost ∙ filled-more row (own .j) 0 (omega arith) (omega arith),
+      ap₂ (λ (l : List ℕ) (v : ℕ). set l (own .j) v) (own .inv .1)
+          (ap (λ (n : ℕ). c .word .result * ((n - 1) / 2 ^ own .j % 2)) (shl-one 64 (a .d) (omega arith))
+          ∙ row-times (a .c) (a .d) (a .m .now) (a .number) few (own .j) (c .word .result) (omega arith) (c .word .ensures))
+          ∙ filled-more row (own .j) 0 (omega arith) (omega arith),
     )
 
 returns : tie.Need-returns Inv-loop μ-loop
@@ -90,10 +112,14 @@ costs-of-spec =
     (λ c. omega arith)
     (λ c. omega arith)
     (λ c. omega arith)
+    sub-first
     loop-holds
     (λ c. omega arith)
     (λ c. omega arith)
     (λ c κs. omega arith)
+    (λ c. omega arith)
+    (λ c. omega arith)
+    mul-costs
     (λ c. omega arith)
     (λ c. omega arith)
     (λ c. omega arith)

@@ -1,0 +1,2 @@
+-- What holds of the sums.
+pub mod Sums
