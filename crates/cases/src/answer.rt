@@ -2,6 +2,7 @@
 use crate::change::change;
 use crate::lists;
 use crate::load::load;
+use crate::pairs;
 use crate::print::put_values;
 use crate::words::Line;
 use libc::STDOUT_FILENO;
@@ -11,6 +12,10 @@ fn call(l: Line, memory: &mut [u8], values: &[u64]) -> usize {
     let length = l.length;
     if l.letter == b'L' {
         return load(length, memory, values);
+    }
+    if pairs::is_pair(l.letter) {
+        pairs::answer(l.letter, values);
+        return length;
     }
     if memory.len() < length {
         return length;

@@ -16,6 +16,7 @@ pub mod model;
 pub mod node;
 pub mod plain;
 pub mod random;
+pub mod source;
 pub mod tries;
 pub mod withdrawing;
 
