@@ -8,7 +8,7 @@ use Rattle.zorder.specs.Address.{rowCosts}
 use Rattle.zorder.proofs.Bits.{shl-one}
 use Rattle.model.specs.Lists.{chosenCosts}
 use Rattle.dominance.specs.Sums.{Summed}
-use Rattle.dominance.specs.Laws.Sums.{first-sums-dominate}
+use Rattle.dominance.specs.Laws.Sums.{sums-dominate}
 use Rattle.dominance.proofs.dominates.Statement.{statement}
 use Rattle.dominance.proofs.dominates.Tie as tie
 
@@ -19,7 +19,7 @@ returns : tie.Need-returns
 returns c =
     let a = c .before .before .before .args in
     let s = c .before .before .sums-over in
-    first-sums-dominate (a .d) (a .p) (a .q) (s .result) (omega arith) (omega arith) (omega arith)
+    sums-dominate (a .d) (a .p) (a .q) (s .result) (omega arith) (omega arith) (omega arith)
     (subst (λ (n : ℕ). Summed (chosenCosts rowCosts (n - 1)) (a .p) (a .q) (s .result)) (shl-one 64 (a .d) (omega arith)) (s .ensures))
 
 pub dominates-spec : {M : Type 1} → statement M

@@ -8,7 +8,7 @@ use Rattle.dominance.proofs.sums_over.Statement.{statement}
 use Rattle.dominance.proofs.sums_over.Tie as tie
 
 abbrev Inv-loop : tie.InvT-loop
-Inv-loop set p q greater₀ lesser₀ i₀ greater lesser i = (i ≤ rowCosts) × SumTo rowCosts set q p i greater × SumTo rowCosts set p q i lesser
+Inv-loop set p q greater₀ lesser₀ i₀ greater lesser i = (i ≤ rowCosts) × SumTo set q p rowCosts i greater × SumTo set p q rowCosts i lesser
 
 abbrev μ-loop : tie.MeasureT-loop
 μ-loop set p q greater₀ lesser₀ i₀ greater lesser i = rowCosts - i
@@ -16,26 +16,26 @@ abbrev μ-loop : tie.MeasureT-loop
 loop-holds : tie.Need-loop-holds Inv-loop μ-loop
 loop-holds c =
     let a = c .args in
-    (omega arith, sum-none rowCosts (a .set) (a .t3) (a .t2), sum-none rowCosts (a .set) (a .t2) (a .t3))
+    (omega arith, sum-none (a .set) (a .t3) (a .t2) rowCosts, sum-none (a .set) (a .t2) (a .t3) rowCosts)
 
 -- A turn's two sums.
 greater-more : (c : tie.After-less Inv-loop μ-loop)
     → let a = c .before .before .before .args in
     let own = c .before .before .loop in
-    SumTo rowCosts (a .set) (a .t3) (a .t2) (own .i + 1) (own .greater + a .set / 2 ^ own .i % 2 * c .less .result)
+    SumTo (a .set) (a .t3) (a .t2) rowCosts (own .i + 1) (own .greater + a .set / 2 ^ own .i % 2 * c .less .result)
 greater-more c =
     let a = c .before .before .before .args in
     let own = c .before .before .loop in
-    sum-more rowCosts (a .set) (a .t3) (a .t2) (own .i) (own .greater) (c .less .result) (omega arith) (c .less .ensures) (own .inv .1)
+    sum-more (a .set) (a .t3) (a .t2) (own .greater) (c .less .result) (omega arith) (c .less .ensures) (own .inv .1)
 
 lesser-more : (c : tie.After-less2 Inv-loop μ-loop)
     → let a = c .before .before .before .before .args in
     let own = c .before .before .before .loop in
-    SumTo rowCosts (a .set) (a .t2) (a .t3) (own .i + 1) (own .lesser + a .set / 2 ^ own .i % 2 * c .less2 .result)
+    SumTo (a .set) (a .t2) (a .t3) rowCosts (own .i + 1) (own .lesser + a .set / 2 ^ own .i % 2 * c .less2 .result)
 lesser-more c =
     let a = c .before .before .before .before .args in
     let own = c .before .before .before .loop in
-    sum-more rowCosts (a .set) (a .t2) (a .t3) (own .i) (own .lesser) (c .less2 .result) (omega arith) (c .less2 .ensures) (own .inv .2)
+    sum-more (a .set) (a .t2) (a .t3) (own .lesser) (c .less2 .result) (omega arith) (c .less2 .ensures) (own .inv .2)
 
 mul-greater : tie.Need-mul-greater Inv-loop μ-loop
 mul-greater c = omega (arith, greater-more c .few)
@@ -57,8 +57,8 @@ returns c =
     let a = c .before .before .args in
     let own = c .before .loop in
     record {
-      greater = sum-end rowCosts (a .set) (a .t3) (a .t2) (own .i) (own .greater) (omega arith) (own .inv .1);
-      lesser = sum-end rowCosts (a .set) (a .t2) (a .t3) (own .i) (own .lesser) (omega arith) (own .inv .2);
+      greater = sum-end (a .set) (a .t3) (a .t2) rowCosts (own .i) (own .greater) (omega arith) (own .inv .1);
+      lesser = sum-end (a .set) (a .t2) (a .t3) rowCosts (own .i) (own .lesser) (omega arith) (own .inv .2);
     }
 
 pub sums-over-spec : {M : Type 1} → statement M

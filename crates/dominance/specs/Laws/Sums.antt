@@ -1,5 +1,5 @@
 -- The comparison by arithmetic; the test of the sums is Definition 1; the sums, cost by cost.
-use Prim.Native.Nat.{ℕ, zero, suc, _+_, _-_, _*_, _/_, _%_, _^_, _≤_, _<_}
+use Prim.Native.Nat.{ℕ, _+_, _-_, _*_, _/_, _%_, _^_, _≤_, _<_}
 use mathlib.Core.Bool.{Bool, true, false, cond, not, _&&_, _||_}
 use mathlib.Core.List.{List, [], _∷_}
 use mathlib.Core.Path.{_≡_, refl, sym, ap, ap₂, _∙_}
@@ -55,80 +55,72 @@ pub sums-better : (p q : List ℕ) → (eqb (countLess q p) 0 && ltb 0 (countLes
 unfolding better
 sums-better p q = ap₂ _&&_ (nowhere-sum p q) (somewhere-sum p q)
 
-pub sums-dominate : (s p q : List ℕ) (r : Sums) → Summed s p q r → (eqb (r .greater) 0 && ltb 0 (r .lesser)) ≡ dominatesAt s p q
+-- Of the sums over the costs at some places.
+pub sums-at : (s p q : List ℕ) (r : Sums) → Summed s p q r → (eqb (r .greater) 0 && ltb 0 (r .lesser)) ≡ dominatesAt s p q
 unfolding dominatesAt
-sums-dominate s p q r h = ap₂ (λ (g l : ℕ). eqb g 0 && ltb 0 l) (h .greater) (h .lesser) ∙ sums-better (at s p) (at s q)
+sums-at s p q r h = ap₂ (λ (g l : ℕ). eqb g 0 && ltb 0 l) (h .greater) (h .lesser) ∙ sums-better (at s p) (at s q)
 
 -- On the first d costs that is Definition 1.
-pub first-sums-dominate : (d : ℕ) (p q : List ℕ) (r : Sums) → d ≤ rowCosts → length p ≡ rowCosts → length q ≡ rowCosts
+pub sums-dominate : (d : ℕ) (p q : List ℕ) (r : Sums) → d ≤ rowCosts → length p ≡ rowCosts → length q ≡ rowCosts
     → Summed (chosenCosts rowCosts (2 ^ d - 1)) p q r → (eqb (r .greater) 0 && ltb 0 (r .lesser)) ≡ dominates d p q
-first-sums-dominate d p q r h m n s =
-    sums-dominate (chosenCosts rowCosts (2 ^ d - 1)) p q r s
+sums-dominate d p q r h m n s =
+    sums-at (chosenCosts rowCosts (2 ^ d - 1)) p q r s
     ∙ ap (λ (t : List ℕ). dominatesAt t p q) (chosen-first rowCosts d h)
     ∙ dominates-at-all d p q (omega arith) (omega arith)
 
 -- ---- the sums over the costs of a set, cost by cost
 
-module _ (n set : ℕ) where
+-- A number times 1 if a test passes, else times 0.
+times : (k x n : ℕ) (t : Bool) → k < 2 → eqb k 1 ≡ t → cond t (x + n) n ≡ k * x + n
+times k x n true h e = ap (λ (y : ℕ). y + n) (sym (ap (λ (j : ℕ). j * x) (eqb-true k 1 e) ∙ one-mul x))
+times k x n false h e =
+    let z : k ≡ 0 = omega (arith, eqb-false k 1 e) in
+    sym (ap (λ (j : ℕ). j * x + n) z ∙ ap (λ (y : ℕ). y + n) (zero-mul x) ∙ zero-add n)
+
+one-at-most : (k x : ℕ) (t : Bool) → k < 2 → x ≡ cond t 1 0 → k * x ≤ 1
+one-at-most k x true h e = omega (arith, ap (λ (y : ℕ). k * y) e ∙ mul-one k)
+one-at-most k x false h e = omega (arith, ap (λ (y : ℕ). k * y) e ∙ mul-zero k)
+
+module _ (set : ℕ) (a b : List ℕ) where
   abbrev bit : ℕ → ℕ
   bit i = set / 2 ^ i % 2
 
-  -- The costs of the set from cost i on.
-  left : ℕ → List ℕ
-  left i = select (λ j. eqb (bit j) 1) (from n i)
-
-  -- What they add.
-  pub toCome : List ℕ → List ℕ → ℕ → ℕ
-  toCome a b i = countLess (at (left i) a) (at (left i) b)
+  abbrev lower : ℕ → Bool
+  lower i = less (getD a i 0) (getD b i 0)
 
   bit-small : (i : ℕ) → bit i < 2
   bit-small i = mod-lt (set / 2 ^ i) {m = 2} (omega arith)
 
-  -- A cost adds 1 at most.
-  pub one-at-most : (i x : ℕ) (t : Bool) → x ≡ cond t 1 0 → bit i * x ≤ 1
-  one-at-most i x true e = omega (arith, bit-small i, ap (λ (y : ℕ). bit i * y) e ∙ mul-one (bit i))
-  one-at-most i x false e = omega (arith, ap (λ (y : ℕ). bit i * y) e ∙ mul-zero (bit i))
+  -- What the costs at some places add, those outside the set left out.
+  pub added : List ℕ → ℕ
+  added s = countLess (at (select (λ j. eqb (bit j) 1) s) a) (at (select (λ j. eqb (bit j) 1) s) b)
 
-  turn-by : (k x n : ℕ) (t : Bool) → k < 2 → eqb k 1 ≡ t → cond t (x + n) n ≡ k * x + n
-  turn-by k x n true h e = ap (λ (y : ℕ). y + n) (sym (ap (λ (j : ℕ). j * x) (eqb-true k 1 e) ∙ one-mul x))
-  turn-by k x n false h e =
-      let z : k ≡ 0 = omega (arith, eqb-false k 1 e) in
-      sym (ap (λ (j : ℕ). j * x + n) z ∙ ap (λ (y : ℕ). y + n) (zero-mul x) ∙ zero-add n)
-
-  cons-sum : (a b : List ℕ) (i : ℕ) (rest : List ℕ) (t : Bool)
-      → countLess (at (consIf t i rest) a) (at (consIf t i rest) b) ≡ cond t (cond (less (getD a i 0) (getD b i 0)) 1 0 + countLess (at rest a) (at rest b)) (countLess (at rest a) (at rest b))
+  added-if : (i : ℕ) (s : List ℕ) (t : Bool) → countLess (at (consIf t i s) a) (at (consIf t i s) b) ≡ cond t (cond (lower i) 1 0 + countLess (at s a) (at s b)) (countLess (at s a) (at s b))
   unfolding at countLess
-  cons-sum a b i rest true = refl
-  cons-sum a b i rest false = refl
+  added-if i s true = refl
+  added-if i s false = refl
 
-  to-come-more : (a b : List ℕ) (i : ℕ) → i < n → toCome a b i ≡ bit i * cond (less (getD a i 0) (getD b i 0)) 1 0 + toCome a b (i + 1)
-  unfolding toCome left select
-  to-come-more a b i h =
-      ap (λ (l : List ℕ). countLess (at (select (λ j. eqb (bit j) 1) l) a) (at (select (λ j. eqb (bit j) 1) l) b)) (from-more n i h)
-      ∙ cons-sum a b i (left (i + 1)) (eqb (bit i) 1)
-      ∙ turn-by (bit i) (cond (less (getD a i 0) (getD b i 0)) 1 0) (toCome a b (i + 1)) (eqb (bit i) 1) (bit-small i) refl
+  added-cons : (i : ℕ) (s : List ℕ) → added (i ∷ s) ≡ bit i * cond (lower i) 1 0 + added s
+  unfolding added select
+  added-cons i s =
+      added-if i (select (λ j. eqb (bit j) 1) s) (eqb (bit i) 1)
+      ∙ times (bit i) (cond (lower i) 1 0) (added s) (eqb (bit i) 1) (bit-small i) refl
 
-  module _ (a b : List ℕ) where
-    -- The costs before cost i are summed up: with what is to come that is the whole.
-    pub record SumTo (i sum : ℕ) : Type 0 where
-      pub few : sum ≤ i
-      pub whole : sum + toCome a b i ≡ countLess (at (chosenCosts n set) a) (at (chosenCosts n set) b)
+  -- The costs before cost i are summed up: with those to come that is the whole.
+  pub record SumTo (n i sum : ℕ) : Type 0 where
+    pub few : sum ≤ i
+    pub whole : sum + added (from n i) ≡ added (numbersFrom 0 n)
 
-    pub sum-none : SumTo 0 0
-    unfolding toCome left chosenCosts
-    sum-none =
-        record {
-          few = omega arith;
-          whole = zero-add _ ∙ ap (λ (l : List ℕ). countLess (at (select (λ j. eqb (bit j) 1) l) a) (at (select (λ j. eqb (bit j) 1) l) b)) (from-all n);
-        }
+  pub sum-none : (n : ℕ) → SumTo n 0 0
+  sum-none n = record { few = omega arith; whole = zero-add (added (from n 0)) ∙ ap added (from-all n) }
 
-    pub sum-more : (i sum x : ℕ) → i < n → x ≡ cond (less (getD a i 0) (getD b i 0)) 1 0 → SumTo i sum → SumTo (i + 1) (sum + bit i * x)
-    sum-more i sum x h e t =
-        record {
-          few = omega (arith, t .few, one-at-most i x (less (getD a i 0) (getD b i 0)) e);
-          whole = omega (arith, t .whole, to-come-more a b i h, ap (λ (k : ℕ). bit i * k) e);
-        }
+  pub sum-more : {n i : ℕ} (sum x : ℕ) → i < n → x ≡ cond (lower i) 1 0 → SumTo n i sum → SumTo n (i + 1) (sum + bit i * x)
+  sum-more {n} {i} sum x h e t =
+      record {
+        few = omega (arith, t .few, one-at-most (bit i) x (lower i) (bit-small i) e);
+        whole = omega (arith, t .whole, ap added (from-more n i h), added-cons i (from n (i + 1)), ap (λ (k : ℕ). bit i * k) e);
+      }
 
-    pub sum-end : (i sum : ℕ) → n ≤ i → SumTo i sum → sum ≡ countLess (at (chosenCosts n set) a) (at (chosenCosts n set) b)
-    unfolding toCome left select at countLess
-    sum-end i sum h t = omega (arith, t .whole, ap (λ (l : List ℕ). countLess (at (select (λ j. eqb (bit j) 1) l) a) (at (select (λ j. eqb (bit j) 1) l) b)) (from-end n i h))
+  pub sum-end : (n i sum : ℕ) → n ≤ i → SumTo n i sum → sum ≡ countLess (at (chosenCosts n set) a) (at (chosenCosts n set) b)
+  unfolding added select at countLess chosenCosts
+  sum-end n i sum h t = omega (arith, t .whole, ap added (from-end n i h))

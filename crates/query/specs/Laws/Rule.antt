@@ -16,7 +16,7 @@ use Rattle.model.specs.Laws.Basics.{any-append, any-map, any-witness, count-con
 use Rattle.model.specs.Laws.Range.{length-numbers}
 use Rattle.model.specs.Laws.Chosen.{chosen-first, chosen-within}
 use Rattle.dominance.specs.Sums.{countLess, Summed}
-use Rattle.dominance.specs.Laws.Sums.{somewhere-sum, sums-dominate}
+use Rattle.dominance.specs.Laws.Sums.{somewhere-sum, sums-at}
 use Rattle.dominance.specs.declared.Sums.{Sums}
 
 -- ---- some k entries that all pass one test, and one of which passes another
@@ -47,7 +47,7 @@ module _ {A : Type 0} (g : A → Bool) where
       any-append q (map (λ s. x ∷ s) (parts k xs)) (parts (suc k) xs)
       ∙ ap (λ (b : Bool). b || any q (parts (suc k) xs)) (any-map q (λ s. x ∷ s) (parts k xs))
 
-  pub parts-pass : (k : ℕ) (xs : List A) → any (all g) (parts k xs) ≡ leb k (count g xs)
+  parts-pass : (k : ℕ) (xs : List A) → any (all g) (parts k xs) ≡ leb k (count g xs)
   unfolding parts any all count select
   parts-pass zero xs = sym (leb·zero (count g xs))
   parts-pass (suc k) [] = sym (leb·suc-zero k)
@@ -62,7 +62,7 @@ module _ {A : Type 0} (g : A → Bool) where
       turn false = refl
 
   module _ (l : A → Bool) (weak : (x : A) → l x ≡ true → g x ≡ true) where
-    unfoldable pub one-passes : List A → Bool
+    one-passes : List A → Bool
     one-passes s = all g s && any l s
 
     and-either : (a : Bool) (k n : ℕ) → ((a && leb k n) || (a && leb (suc k) n)) ≡ (a && leb (suc k) (suc n))
@@ -83,7 +83,7 @@ module _ {A : Type 0} (g : A → Bool) where
         let w = any-witness l xs h in
         and-both (any l xs) (leb 1 (count g xs)) h (le-leb 1 (count g xs) (omega (arith, count-pos g (w .1) (weak (w .0) (w .2))))))
 
-    pub parts-one-passes : (k : ℕ) (xs : List A) → any one-passes (parts (suc k) xs) ≡ (any l xs && leb (suc k) (count g xs))
+    parts-one-passes : (k : ℕ) (xs : List A) → any one-passes (parts (suc k) xs) ≡ (any l xs && leb (suc k) (count g xs))
     unfolding any parts one-passes all
     parts-one-passes k [] = refl
     parts-one-passes k (x ∷ xs) =
@@ -109,10 +109,10 @@ module _ {A : Type 0} (g : A → Bool) where
 
 module _ (p q : List ℕ) where
   -- p is not greater at a place; p is less there.
-  unfoldable pub fits : ℕ → Bool
+  fits : ℕ → Bool
   fits i = not (less (getD q i 0) (getD p i 0))
 
-  unfoldable pub lower : ℕ → Bool
+  lower : ℕ → Bool
   lower i = less (getD p i 0) (getD q i 0)
 
   lower-fits : (i : ℕ) → lower i ≡ true → fits i ≡ true
@@ -135,7 +135,7 @@ module _ (p q : List ℕ) where
   dominates-at s = ap₂ _&&_ (nowhere-at s) (somewhere-at s)
 
   -- On some k costs: not greater on k or more of them, and less on one.
-  pub dominates-on : (d k : ℕ) → 1 ≤ k → dominatesOn d k p q ≡ (any lower (numbersFrom 0 d) && leb k (count fits (numbersFrom 0 d)))
+  dominates-on : (d k : ℕ) → 1 ≤ k → dominatesOn d k p q ≡ (any lower (numbersFrom 0 d) && leb k (count fits (numbersFrom 0 d)))
   unfolding dominatesOn one-passes
   dominates-on d zero h = absurd (omega arith)
   dominates-on d (suc k) h =
@@ -168,8 +168,8 @@ module _ (p q : List ℕ) where
     greater-few = omega (arith, fitting)
 
     -- On some k of the first d costs.
-    pub sums-dominate-on : (k : ℕ) → 1 ≤ k → (leb k (d - r .greater) && ltb 0 (r .lesser)) ≡ dominatesOn d k p q
-    sums-dominate-on k l =
+    pub sums-on-k : (k : ℕ) → 1 ≤ k → (leb k (d - r .greater) && ltb 0 (r .lesser)) ≡ dominatesOn d k p q
+    sums-on-k k l =
         let fit : d - r .greater ≡ count (fits p q) (numbersFrom 0 d) = omega (arith, fitting) in
         ap₂ (λ (n m : ℕ). leb k n && ltb 0 m) fit (first .lesser)
         ∙ ap (λ (b : Bool). leb k (count (fits p q) (numbersFrom 0 d)) && b) (somewhere-sum (at (numbersFrom 0 d) p) (at (numbersFrom 0 d) q) ∙ somewhere-at p q (numbersFrom 0 d))
@@ -177,8 +177,8 @@ module _ (p q : List ℕ) where
         ∙ sym (dominates-on p q d k l)
 
   -- On those of the first d costs that are in a set.
-  pub sums-dominate-at : (d set : ℕ) (r : Sums) → d ≤ rowCosts → Summed (chosenCosts rowCosts (set % 2 ^ d)) p q r
+  pub sums-chosen : (d set : ℕ) (r : Sums) → d ≤ rowCosts → Summed (chosenCosts rowCosts (set % 2 ^ d)) p q r
       → (eqb (r .greater) 0 && ltb 0 (r .lesser)) ≡ dominatesAt (chosenCosts d set) p q
-  sums-dominate-at d set r h t =
-      sums-dominate (chosenCosts rowCosts (set % 2 ^ d)) p q r t
+  sums-chosen d set r h t =
+      sums-at (chosenCosts rowCosts (set % 2 ^ d)) p q r t
       ∙ ap (λ (s : List ℕ). dominatesAt s p q) (chosen-within rowCosts d set h)

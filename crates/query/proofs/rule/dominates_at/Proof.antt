@@ -8,7 +8,7 @@ use Rattle.zorder.specs.Address.{rowCosts}
 use Rattle.zorder.proofs.Bits.{shl-one}
 use Rattle.model.specs.Lists.{chosenCosts}
 use Rattle.dominance.specs.Sums.{Summed}
-use Rattle.query.specs.Laws.Rule.{sums-dominate-at}
+use Rattle.query.specs.Laws.Rule.{sums-chosen}
 use Rattle.query.proofs.rule.dominates_at.Statement.{statement}
 use Rattle.query.proofs.rule.dominates_at.Tie as tie
 
@@ -19,7 +19,7 @@ returns : tie.Need-returns
 returns c =
     let a = c .before .before .before .args in
     let s = c .before .before .sums-over in
-    sums-dominate-at (a .p) (a .q) (a .d) (a .set) (s .result) (omega arith)
+    sums-chosen (a .p) (a .q) (a .d) (a .set) (s .result) (omega arith)
     (subst (λ (n : ℕ). Summed (chosenCosts rowCosts (a .set % n)) (a .p) (a .q) (s .result)) (shl-one 64 (a .d) (omega arith)) (s .ensures))
 
 pub dominates-at-spec : {M : Type 1} → statement M

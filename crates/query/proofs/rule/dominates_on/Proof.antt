@@ -8,7 +8,7 @@ use Rattle.zorder.specs.Address.{rowCosts}
 use Rattle.zorder.proofs.Bits.{shl-one}
 use Rattle.model.specs.Lists.{chosenCosts}
 use Rattle.dominance.specs.Sums.{Summed}
-use Rattle.query.specs.Laws.Rule.{greater-few, sums-dominate-on}
+use Rattle.query.specs.Laws.Rule.{greater-few, sums-on-k}
 use Rattle.query.proofs.rule.dominates_on.Statement.{statement}
 use Rattle.query.proofs.rule.dominates_on.Tie as tie
 
@@ -31,7 +31,7 @@ sub-result c =
 returns : tie.Need-returns
 returns c =
     let a = c .before .before .before .args in
-    sums-dominate-on (a .p) (a .q) (a .d) (c .before .before .sums-over .result) (omega arith) (summed (c .before .before)) (a .k) (omega arith)
+    sums-on-k (a .p) (a .q) (a .d) (c .before .before .sums-over .result) (omega arith) (summed (c .before .before)) (a .k) (omega arith)
 
 pub dominates-on-spec : {M : Type 1} → statement M
 dominates-on-spec = tie.close (tie.spec (λ c. search needs) sub-sums-over (λ c κs. search needs) sub-result returns)
