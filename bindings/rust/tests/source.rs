@@ -30,6 +30,8 @@ fn branches_are_found() {
         ("dominance", COUNT, "greater += (q[i] < p[i]) as usize;", "dominance::sums_over: the sign `<`"),
         ("dominance", WHILE, "while i < COSTS && greater == 0 {", "dominance::sums_over: `&&`"),
         ("dominance", WHILE, "while (i < COSTS) & (greater == 0) {", "dominance::sums_over: the sign `==`"),
+        ("dominance", WHILE, "while p[i] < q[i] {", "dominance::sums_over: the sign `<`"),
+        ("dominance", TEST, "(s.greater == 0) & (p[0] < q[0] + s.lesser)", "dominance::dominates: the sign `==`"),
         ("dominance", TEST, "s.greater == 0 && 0 < s.lesser", "dominance::dominates: `&&`"),
         (
             "dominance",

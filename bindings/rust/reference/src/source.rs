@@ -90,14 +90,15 @@ fn is_name(text: &str) -> bool {
     text.starts_with(|c: char| c.is_alphabetic() || c == '_')
 }
 
-/// The signs that a body may have: those of the loop's end and those of the line that tests the sums.
+/// The signs that a body may have: those of the loop's end and those of the line that tests the sums. Neither reads a cost.
 fn is_allowed(function: &Function, body: &[Word], sign: Word) -> bool {
     let of_line = |line: usize| body.iter().filter(move |w| w.line == line).map(|w| w.text);
     let ends_loop =
         of_line(sign.line).next() == Some("while") && of_line(sign.line).filter(|t| SIGNS.contains(t)).count() == 1;
     let last = body[body.len() - 2].line;
     let tests_sums = sign.line == last && of_line(last).any(|t| t == "greater") && of_line(last).any(|t| t == "lesser");
-    function.loops && ends_loop || function.tests && tests_sums
+    let reads_cost = of_line(sign.line).any(|t| t == "[");
+    !reads_cost && (function.loops && ends_loop || function.tests && tests_sums)
 }
 
 fn faults_of(function: &Function, body: &[Word]) -> Vec<String> {

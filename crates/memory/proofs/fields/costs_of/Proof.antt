@@ -10,6 +10,8 @@ use lib.Dec.{ltb}
 use lib.Pow.{pow-pos}
 use lib.ListN.{length, getD, set, replicate, length-append, length-replicate, getD-replicate, List·getD-append}
 use lib.Seq.{getD-append-add}
+use mir.Syntax.{w16}
+use mir.Val.{Fits}
 use Rattle.zorder.proofs.Fill.{filled, filled-none, filled-more, filled-all}
 use Rattle.zorder.proofs.Bits.{shl-one}
 use Rattle.model.specs.Laws.Bool.{byCases}
@@ -55,6 +57,10 @@ module _ (c d : ℕ) (m : List ℕ) (number : ℕ) (few : d ≤ rowCosts) where
   unfolding padded
   row-whole = filled-all (costsIn c d m number) rowCosts row-length ∙ append-nil (costsIn c d m number)
 
+-- A word times a bit is no larger.
+times-bit : (w n : ℕ) → w < 65536 → Fits w16 (w * (n % 2))
+times-bit w n h = record { fits = omega (arith, mul-le-mul-left {m = n % 2} {n = 1} w (omega (arith, mod-lt n {m = 2} (omega arith)))) }
+
 abbrev Inv-loop : tie.InvT-loop
 Inv-loop m c d number at first costs₀ j₀ costs j = (j ≤ rowCosts) × (costs ≡ filled (costsIn c d m number) j)
 
@@ -72,10 +78,7 @@ loop-holds c =
     (omega arith, filled-none (costsIn (a .c) (a .d) (a .m .now) (a .number)))
 
 mul-costs : tie.Need-mul-costs Inv-loop μ-loop
-mul-costs c =
-    let first = 1 * 2 ^ c .before .before .before .before .args .d % 2 ^ 64 - 1 in
-    let bit = first / 2 ^ c .before .before .loop .j % 2 in
-    omega (arith, mul-le-mul-left {m = bit} {n = 1} (c .word .result) (omega (arith, mod-lt (first / 2 ^ c .before .before .loop .j) {m = 2} (omega arith))))
+mul-costs c = times-bit (c .word .result) _ (omega arith)
 
 loop-again : tie.Need-loop-again Inv-loop μ-loop
 unfolding costIn costPlace
