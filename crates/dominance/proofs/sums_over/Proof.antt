@@ -1,6 +1,5 @@
 -- `sums_over` meets its contract. The loop's invariant: the costs passed are summed up. Assumes nothing.
-use Prim.Native.Nat.{ℕ, _+_, _-_, _*_, _/_, _%_, _^_, _≤_}
-use mathlib.Core.Path.{_≡_}
+use Prim.Native.Nat.{_+_, _-_, _*_, _/_, _%_, _^_, _≤_}
 use native.Mathlib.Omega.{arith}
 use Rattle.zorder.specs.Address.{rowCosts}
 use Rattle.dominance.specs.Laws.Sums.{SumTo, sum-none, sum-more, sum-end}

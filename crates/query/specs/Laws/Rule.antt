@@ -8,7 +8,7 @@ use lib.Dec.{ltb, leb, eqb, leb·zero, leb·suc-zero, leb·suc-suc}
 use lib.ListN.{length, getD}
 use borrow.Author.Tests.{leb-true, le-leb, ltb-true, le-ltb}
 use Rattle.zorder.specs.Address.{rowCosts}
-use Rattle.model.specs.Basics.{consIf, select, any, all, count, parts, numbersFrom}
+use Rattle.model.specs.Basics.{select, any, all, count, parts, numbersFrom}
 use Rattle.model.specs.Dominance.{less, nowhereGreater, somewhereLess, better, at, dominatesAt, dominatesOn}
 use Rattle.model.specs.Lists.{chosenCosts}
 use Rattle.model.specs.Laws.Bool.{same-test, or-cases, or-left, and-left, and-both, both-ways, not-flip}

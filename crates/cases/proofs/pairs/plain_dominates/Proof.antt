@@ -1,5 +1,5 @@
 -- `pairs::plain_dominates` meets its contract: one cost after another. Assumes nothing.
-use Prim.Native.Nat.{_-_, _≤_}
+use Prim.Native.Nat.{_-_}
 use borrow.Author.Needs.{needs}
 use Rattle.cases.proofs.pairs.plain_dominates.Statement.{statement}
 use Rattle.cases.proofs.pairs.plain_dominates.Tie as tie
