@@ -116,11 +116,12 @@ fn test(d: usize, letter: u8, x: usize) -> Test {
     match letter {
         b'K' => Test::BeatsOn((x % 65536) as u32, d),
         b'S' => Test::Beats(x),
-        _ => Test::Beats(ALL),
+        b'B' => Test::Beats(ALL),
+        _ => Test::Hides,
     }
 }
 
-// How many may beat a move that is listed.
+// How many may stand so to a move that is told.
 fn most(letter: u8, x: usize) -> usize {
     if letter == b'B' { x } else { 0 }
 }

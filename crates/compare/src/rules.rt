@@ -1,8 +1,9 @@
-// Definitions 1, 5 and 7 on rows, and the rows selected by them.
+// Definitions 1, 5 and 7 and Card 4's rule on rows, and the rows selected by them.
 use crate::table::NONE;
 use crate::table::Row;
 use crate::table::Table;
 use crate::table::mark_of;
+use crate::table::number_of;
 use crate::table::put_row;
 use crate::table::row_at;
 use crate::table::same_row;
@@ -11,11 +12,12 @@ use zorder::COSTS;
 // The set of all costs.
 pub const ALL: usize = (1 << COSTS) - 1;
 
-// How one row stands to another: it beats it on a set of costs, bit i for cost i; on some k of the first d costs; it is
-// beaten; it is the same.
+// How one row stands to another: it beats it on a set of costs, bit i for cost i; on some k of the first d costs; it keeps
+// it out of the list; it is beaten; it is the same.
 pub enum Test {
     Beats(usize),
     BeatsOn(u32, usize),
+    Hides,
     Beaten,
     Same,
 }
@@ -30,6 +32,12 @@ fn nowhere_greater(set: usize, p: Row, q: Row) -> bool {
 
 fn beats(set: usize, p: Row, q: Row) -> bool {
     nowhere_greater(set, p, q) && !nowhere_greater(set, q, p)
+}
+
+// It beats the other on all costs, or its costs are the same and its number is lower.
+fn hides(p: Row, q: Row) -> bool {
+    nowhere_greater(ALL, p, q)
+        && (!nowhere_greater(ALL, q, p) || number_of(p) < number_of(q))
 }
 
 fn is_on(k: u32, set: usize, p: Row, q: Row) -> bool {
@@ -49,6 +57,7 @@ fn stands(test: Test, p: Row, q: Row) -> bool {
     match test {
         Test::Beats(set) => beats(set, p, q),
         Test::BeatsOn(k, d) => beats_on(k, d, p, q),
+        Test::Hides => hides(p, q),
         Test::Beaten => beats(ALL, q, p),
         Test::Same => same_row(p, q),
     }

@@ -1,4 +1,4 @@
--- Document 01's worked board (d = 2) and its cases A to K: one table, checked by one theorem.
+-- Document 01's worked board (d = 2) and its cases A to K, D, G and J as Card 4 has them: one table, checked by one theorem.
 use Prim.Native.Nat.{ℕ}
 use mathlib.Core.List.{List, [], _∷_, _++_, map, flatMap}
 use mathlib.Core.Path.{_≡_, refl}
@@ -52,13 +52,13 @@ expected =
     (22 ∷ 31 ∷ 12 ∷ 35 ∷ 44 ∷ 12 ∷ [])
     ∷ (0 ∷ 0 ∷ 7 ∷ 7 ∷ [])
     ∷ (4 ∷ 0 ∷ 7 ∷ 3 ∷ [])
-    ∷ (2 ∷ 5 ∷ 0 ∷ 3 ∷ [])
+    ∷ (2 ∷ 0 ∷ 3 ∷ [])
     ∷ (2 ∷ 5 ∷ 0 ∷ 3 ∷ [])
     ∷ (2 ∷ 5 ∷ 0 ∷ 1 ∷ 3 ∷ 4 ∷ [])
-    ∷ (2 ∷ 2 ∷ 2 ∷ 5 ∷ 1 ∷ 0 ∷ [])
+    ∷ (2 ∷ 2 ∷ 1 ∷ 0 ∷ 1 ∷ 3 ∷ [])
     ∷ []
     ∷ (0 ∷ [])
-    ∷ (1 ∷ 2 ∷ [])
+    ∷ (1 ∷ 2 ∷ 2 ∷ 5 ∷ [])
     ∷ (1 ∷ 5 ∷ [])
     ∷ (1 ∷ 3 ∷ 2 ∷ 4 ∷ [])
     ∷ []

@@ -1,10 +1,10 @@
--- Dominance: Definitions 1, 5 and 7 of Z-SKY, in document 01's words. "Less is better."
+-- Dominance: Definitions 1, 5 and 7 of Z-SKY, in document 01's words ("Less is better"), and what keeps a move out of the list.
 use Prim.Native.Nat.{ℕ}
 use mathlib.Core.Bool.{Bool, true, false, not, _&&_, _||_}
 use mathlib.Core.List.{List, [], _∷_, map}
 use lib.Dec.{ltb}
 use lib.ListN.{take, getD}
-use Rattle.model.specs.Basics.{any, parts, numbersFrom}
+use Rattle.model.specs.Basics.{any, parts, numbersFrom, equal}
 use Rattle.model.specs.Moves.{Move}
 
 -- The comparison of two costs.
@@ -40,6 +40,13 @@ dominatesAt s p q = better (at s p) (at s q)
 unfoldable pub dominatesOn : ℕ → ℕ → List ℕ → List ℕ → Bool
 dominatesOn d k p q = any (λ s. dominatesAt s p q) (parts k (numbersFrom 0 d))
 
--- When one move keeps another out of the list: it dominates it.
+-- Twins have equal costs, the first d as in Definition 1.
+unfoldable pub equalCosts : ℕ → List ℕ → List ℕ → Bool
+equalCosts d p q = equal (take d p) (take d q)
+
+unfoldable pub lowerTwin : ℕ → Move → Move → Bool
+lowerTwin d m n = equalCosts d (m .costs) (n .costs) && ltb (m .number) (n .number)
+
+-- Document 02, Card 4: "A move is hidden if another dominates it or if one with equal costs has a lower number."
 unfoldable pub hides : ℕ → Move → Move → Bool
-hides d m n = dominates d (m .costs) (n .costs)
+hides d m n = dominates d (m .costs) (n .costs) || lowerTwin d m n

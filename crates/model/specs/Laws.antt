@@ -6,8 +6,10 @@ pub mod Sorting
 pub mod Permuted
 pub mod Order
 pub mod Dominance
+pub mod Hiding
 pub mod Skyline
 pub mod Queries
+pub mod Twins
 pub mod Chosen
 pub mod Tree
 pub mod Loading
@@ -19,3 +21,4 @@ pub mod Numbers
 pub mod Notice
 pub mod Holder
 pub mod Changes
+pub mod TwinChanges

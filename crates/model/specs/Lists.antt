@@ -9,7 +9,8 @@ use Rattle.model.specs.Basics.{select, any, count, sortBy, numbersFrom}
 use Rattle.model.specs.Moves.{Move, Row, rowOf, listed, rowBefore}
 use Rattle.model.specs.Dominance.{dominates, dominatesAt, dominatesOn, hides}
 
--- Definition 2: the moves that no move hides.
+-- The list: the moves that no move hides. "Where the demands and document 01 speak of Definition 2, and in demand 2 for the
+-- list and what rank picks from, this rule is now meant" (Card 4).
 unfoldable pub hidden : ℕ → List Move → Move → Bool
 hidden d ms m = any (λ p. hides d p m) ms
 

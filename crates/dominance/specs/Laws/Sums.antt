@@ -2,18 +2,20 @@
 use Prim.Native.Nat.{ℕ, _+_, _-_, _*_, _/_, _%_, _^_, _≤_, _<_}
 use mathlib.Core.Bool.{Bool, true, false, cond, not, _&&_, _||_}
 use mathlib.Core.List.{List, [], _∷_}
-use mathlib.Core.Path.{_≡_, refl, sym, ap, ap₂, _∙_}
+use mathlib.Core.Path.{_≡_, refl, sym, ap, ap₂, _∙_, subst}
 use native.Mathlib.Nat.{mod-lt, zero-add, zero-mul, one-mul, mul-zero, mul-one}
 use native.Mathlib.Omega.{arith}
 use borrow.Author.Tests.{ltb-true, ltb-false, lt-ltb, eqb-true, eqb-false, ne-eqb}
 use lib.Dec.{ltb, eqb}
-use lib.ListN.{length, getD}
+use lib.ListN.{length, getD, take}
 use Rattle.zorder.specs.Address.{rowCosts}
 use Rattle.model.specs.Basics.{consIf, select, numbersFrom}
-use Rattle.model.specs.Dominance.{less, nowhereGreater, somewhereLess, better, at, dominates, dominatesAt}
+use Rattle.model.specs.Dominance.{less, nowhereGreater, somewhereLess, better, at, dominates, dominatesAt, equalCosts}
 use Rattle.model.specs.Lists.{chosenCosts}
 use Rattle.model.specs.Laws.Bool.{testCases}
-use Rattle.model.specs.Laws.Queries.{dominates-at-all}
+use Rattle.model.specs.Laws.Dominance.{take-same-length}
+use Rattle.model.specs.Laws.Hiding.{better-or-equal}
+use Rattle.model.specs.Laws.Queries.{at-first, dominates-at-all}
 use Rattle.model.specs.Laws.Chosen.{chosen-first}
 use Rattle.model.specs.Laws.Range.{from, from-all, from-more, from-end}
 use Rattle.dominance.specs.Sums.{countLess, Summed}
@@ -60,13 +62,24 @@ pub sums-at : (s p q : List ℕ) (r : Sums) → Summed s p q r → (eqb (r .grea
 unfolding dominatesAt
 sums-at s p q r h = ap₂ (λ (g l : ℕ). eqb g 0 && ltb 0 l) (h .greater) (h .lesser) ∙ sums-better (at s p) (at s q)
 
--- On the first d costs that is Definition 1.
-pub sums-dominate : (d : ℕ) (p q : List ℕ) (r : Sums) → d ≤ rowCosts → length p ≡ rowCosts → length q ≡ rowCosts
-    → Summed (chosenCosts rowCosts (2 ^ d - 1)) p q r → (eqb (r .greater) 0 && ltb 0 (r .lesser)) ≡ dominates d p q
-sums-dominate d p q r h m n s =
-    sums-at (chosenCosts rowCosts (2 ^ d - 1)) p q r s
-    ∙ ap (λ (t : List ℕ). dominatesAt t p q) (chosen-first rowCosts d h)
-    ∙ dominates-at-all d p q (omega arith) (omega arith)
+-- A set of the first d costs.
+pub sums-first : (d : ℕ) (p q : List ℕ) (r : Sums) → d ≤ rowCosts → Summed (chosenCosts rowCosts (2 ^ d - 1)) p q r → Summed (numbersFrom 0 d) p q r
+sums-first d p q r h = subst (λ (s : List ℕ). Summed s p q r) (chosen-first rowCosts d h)
+
+module _ (d : ℕ) (p q : List ℕ) (r : Sums) (h : d ≤ length p) (k : d ≤ length q) (s : Summed (numbersFrom 0 d) p q r) where
+  -- On the first d costs that is Definition 1.
+  pub sums-dominate : (eqb (r .greater) 0 && ltb 0 (r .lesser)) ≡ dominates d p q
+  sums-dominate = sums-at (numbersFrom 0 d) p q r s ∙ dominates-at-all d p q h k
+
+  -- The same sums say "nowhere greater, and somewhere less or lower".
+  pub sums-dominate-or-equal : (lower : Bool) → length p ≡ length q
+      → (eqb (r .greater) 0 && (ltb 0 (r .lesser) || lower)) ≡ (dominates d p q || (equalCosts d p q && lower))
+  unfolding dominates equalCosts
+  sums-dominate-or-equal lower n =
+      ap₂ (λ (g l : ℕ). eqb g 0 && (ltb 0 l || lower)) (s .greater) (s .lesser)
+      ∙ ap₂ (λ (a b : List ℕ). eqb (countLess b a) 0 && (ltb 0 (countLess a b) || lower)) (at-first d p h) (at-first d q k)
+      ∙ ap₂ (λ (a b : Bool). a && (b || lower)) (nowhere-sum (take d p) (take d q)) (somewhere-sum (take d p) (take d q))
+      ∙ better-or-equal (take d p) (take d q) lower (take-same-length d p q n)
 
 -- ---- the sums over the costs of a set, cost by cost
 

@@ -12,9 +12,7 @@ use borrow.Author.Tests.{ltb-true, ltb-false, lt-ltb, le-ltb}
 use Rattle.zorder.specs.Between.{RowCosts, rowCosts, before}
 use Rattle.zorder.specs.Laws.Between.{earlier}
 use Rattle.model.specs.Basics.{parts, numbersFrom}
-use Rattle.model.specs.Moves.{moveBefore, zBefore}
-use Rattle.model.specs.Dominance.{less, nowhereGreater, somewhereLess, better, dominates, at, dominatesAt, dominatesOn, hides}
-use Rattle.model.specs.Sound.{Fit}
+use Rattle.model.specs.Dominance.{less, nowhereGreater, somewhereLess, better, dominates, at, dominatesAt, dominatesOn}
 use Rattle.model.specs.Laws.Bool.{byCases, and-left, and-right, and-both, not-flip, not-back, or-cases, or-left, or-right}
 use Rattle.model.specs.Laws.Basics.{mem-each, any-none}
 
@@ -73,7 +71,7 @@ take-le d p q f i =
     (λ e. let h = ltb-true i d e in omega (arith, getD-take d p i 0 h, getD-take d q i 0 h, f i h))
     (λ e. omega (arith, take-past d p i (ltb-false i d e)))
 
-take-same-length : (d : ℕ) (p q : List ℕ) → length p ≡ length q → length (take d p) ≡ length (take d q)
+pub take-same-length : (d : ℕ) (p q : List ℕ) → length p ≡ length q → length (take d p) ≡ length (take d q)
 take-same-length d p q n = length-take d p ∙ ap (min d) n ∙ sym (length-take d q)
 
 module _ (d : ℕ) (p q : List ℕ) (n : length p ≡ length q) where
@@ -177,20 +175,3 @@ pub dominates-before : (d : ℕ) (p q : List ℕ) → d ≤ rowCosts → RowCost
 dominates-before d p q l h k e =
     let g = dominates-places d p q (row-lengths h k) e in
     earlier d p q l h k (g .nowhere) (g .place) (g .inside) (g .lower)
-
--- ---- moves
-
--- What keeps a move out of the list: the laws of lists use only these.
-pub record Hiding {A : Type 0} (P : A → Type 0) (lt hides : A → A → Bool) : Type 0 where
-  pub irrefl : (x : A) → P x → hides x x ≡ false
-  pub trans : (x y z : A) → P x → P y → P z → hides x y ≡ true → hides y z ≡ true → hides x z ≡ true
-  pub earlier : (x y : A) → P x → P y → hides x y ≡ true → lt x y ≡ true
-
-pub move-hiding : (d c : ℕ) → d ≤ rowCosts → Hiding (Fit c d) (moveBefore d) (hides d)
-unfolding hides moveBefore zBefore
-move-hiding d c l =
-    record {
-      irrefl = λ x hx. dominates-irrefl d (x .costs);
-      trans = λ x y z hx hy hz. dominates-trans d (x .costs) (y .costs) (z .costs) (row-lengths (hx .costs) (hy .costs)) (row-lengths (hy .costs) (hz .costs));
-      earlier = λ x y hx hy e. or-left (before d (x .costs) (y .costs)) _ (dominates-before d (x .costs) (y .costs) l (hx .costs) (hy .costs) e);
-    }

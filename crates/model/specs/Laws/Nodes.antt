@@ -19,7 +19,8 @@ use Rattle.model.specs.Laws.Bool.{byCases, not-flip, or-false-left, same
 use Rattle.model.specs.Laws.Basics.{each-mem, each-mono, mem-each, each-append, each-left, each-right, last-mem, any-mem, any-witness, any-mono, mem-pos}
 use Rattle.model.specs.Laws.Sorting.{rising-left, rising-right, first-least, last-greatest}
 use Rattle.model.specs.Laws.Order.{move-order}
-use Rattle.model.specs.Laws.Dominance.{dominates-places, dominates-below, below-dominates, row-lengths}
+use Rattle.model.specs.Laws.Dominance.{dominates-below, below-dominates, row-lengths}
+use Rattle.model.specs.Laws.Hiding.{dominates-hides, hides-nowhere-greater}
 use Rattle.model.specs.Laws.Skyline.{skyline-mem, mem-skyline, skyline-hider}
 use Rattle.model.specs.Laws.Tree.{Filled, filled-full, filled-some}
 
@@ -268,12 +269,11 @@ module _ (d c : ℕ) (l : d ≤ rowCosts) where
 
   -- what hides a move is nowhere greater, and what dominates it hides it
   hides-below : {m n : Move} → Fit c d m → Fit c d n → hides d m n ≡ true → (i : ℕ) → i < d → getD (m .costs) i 0 ≤ getD (n .costs) i 0
-  unfolding hides
-  hides-below {m} {n} f g e = dominates-places d (m .costs) (n .costs) (row-lengths (f .costs) (g .costs)) e .nowhere
+  hides-below {m} {n} f g = hides-nowhere-greater d m n (row-lengths (f .costs) (g .costs))
 
   dominates-hidden : {m : Move} (n : Move) {ms : List Move} → List·Memᴰ m ms → dominates d (m .costs) (n .costs) ≡ true → hidden d ms n ≡ true
-  unfolding hidden hides
-  dominates-hidden n k e = any-mem (λ p. hides d p n) k e
+  unfolding hidden
+  dominates-hidden {m} n k e = any-mem (λ p. hides d p n) k (dominates-hides d m n e)
 
   module _ (ms : List Move) (es : Each (Fit c d) ms) (r : ordered d ms ≡ true) where
     listed-dominates : (q : List ℕ) → RowCosts d q → {m : Move} → List·Memᴰ m ms → dominates d (m .costs) q ≡ true

@@ -56,10 +56,13 @@ at-numbers (suc k) n p h =
     ap (λ (l : List ℕ). getD p n 0 ∷ l) (at-numbers k (suc n) p (omega arith))
     ∙ ap (take (suc k)) (sym (drop-cons p n 0 (omega arith)))
 
+pub at-first : (d : ℕ) (p : List ℕ) → d ≤ length p → at (numbersFrom 0 d) p ≡ take d p
+at-first d p h = at-numbers d 0 p (omega arith)
+
 -- All of the first d costs.
 pub dominates-at-all : (d : ℕ) (p q : List ℕ) → d ≤ length p → d ≤ length q → dominatesAt (numbersFrom 0 d) p q ≡ dominates d p q
 unfolding dominatesAt dominates
-dominates-at-all d p q h k = ap₂ better (at-numbers d 0 p (omega arith)) (at-numbers d 0 q (omega arith))
+dominates-at-all d p q h k = ap₂ better (at-first d p h) (at-first d q k)
 
 module _ {A : Type 0} where
   parts-none : (k : ℕ) (xs : List A) → length xs < k → parts k xs ≡ []

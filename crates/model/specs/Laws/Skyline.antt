@@ -1,5 +1,5 @@
 -- The list of the entries that no entry hides: its laws, over any relation that hides and any order that it agrees with,
--- then at Definition 2's list of a board.
+-- then at the list of a board.
 use Prim.Native.Nat.{ℕ, _≤_}
 use mathlib.Core.Bool.{Bool, true, false, not, cond, _||_, false≢true, or-false, or-comm}
 use mathlib.Core.Path.{_≡_, refl, sym, _∙_, ap, subst}
@@ -15,10 +15,10 @@ use Rattle.model.specs.Laws.Bool.{byCases, not-flip, not-back, or-cases,
 use Rattle.model.specs.Laws.Basics.{Once, each-mem, mem-each, each-left, each-right, select-append, select-mem, mem-select, select-ext, once-select, any-append, any-mem, any-witness, any-none}
 use Rattle.model.specs.Laws.Sorting.{StrictOrder, BeforeEach, asym, any-insert, rising-left, rising-right, rising-head, rising-across, rising-select, rising-once}
 use Rattle.model.specs.Laws.Order.{move-order}
-use Rattle.model.specs.Laws.Dominance.{Hiding, move-hiding}
+use Rattle.model.specs.Laws.Hiding.{Hiding, move-hiding}
 
 module _ {A : Type 0} (hides : A → A → Bool) where
-  -- Definition 2 over any relation that hides.
+  -- The list over any relation that hides.
   abbrev pub hiddenIn : List A → A → Bool
   hiddenIn ms m = any (λ p. hides p m) ms
 

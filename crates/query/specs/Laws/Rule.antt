@@ -2,7 +2,7 @@
 use Prim.Native.Nat.{ℕ, zero, suc, _+_, _-_, _%_, _^_, _≤_}
 use mathlib.Core.Bool.{Bool, true, false, cond, not, _&&_, _||_, and-true, and-comm, or-false}
 use mathlib.Core.List.{List, [], _∷_, map}
-use mathlib.Core.Path.{_≡_, refl, sym, ap, ap₂, _∙_, subst, fun-ext}
+use mathlib.Core.Path.{_≡_, refl, sym, ap, ap₂, _∙_, fun-ext}
 use native.Mathlib.Omega.{arith}
 use lib.Dec.{ltb, leb, eqb, leb·zero, leb·suc-zero, leb·suc-suc}
 use lib.ListN.{length, getD}
@@ -14,7 +14,7 @@ use Rattle.model.specs.Lists.{chosenCosts}
 use Rattle.model.specs.Laws.Bool.{same-test, or-cases, or-left, and-left, and-both, both-ways, not-flip}
 use Rattle.model.specs.Laws.Basics.{any-append, any-map, any-witness, count-cons, count-pos}
 use Rattle.model.specs.Laws.Range.{length-numbers}
-use Rattle.model.specs.Laws.Chosen.{chosen-first, chosen-within}
+use Rattle.model.specs.Laws.Chosen.{chosen-within}
 use Rattle.dominance.specs.Sums.{countLess, Summed}
 use Rattle.dominance.specs.Laws.Sums.{somewhere-sum, sums-at}
 use Rattle.dominance.specs.declared.Sums.{Sums}
@@ -157,12 +157,9 @@ module _ (p q : List ℕ) where
       ap (λ (n : ℕ). n + countLess (at (i ∷ s) q) (at (i ∷ s) p)) (count-cons (fits p q) i s)
       ∙ fit-turn (less (getD q i 0) (getD p i 0)) (count (fits p q) s) (countLess (at s q) (at s p)) (length s) (fit-sum s)
 
-  module _ (d : ℕ) (r : Sums) (h : d ≤ rowCosts) (t : Summed (chosenCosts rowCosts (2 ^ d - 1)) p q r) where
-    first : Summed (numbersFrom 0 d) p q r
-    first = subst (λ (s : List ℕ). Summed s p q r) (chosen-first rowCosts d h) t
-
+  module _ (d : ℕ) (r : Sums) (t : Summed (numbersFrom 0 d) p q r) where
     fitting : count (fits p q) (numbersFrom 0 d) + r .greater ≡ d
-    fitting = omega (arith, first .greater, fit-sum (numbersFrom 0 d), length-numbers d 0)
+    fitting = omega (arith, t .greater, fit-sum (numbersFrom 0 d), length-numbers d 0)
 
     pub greater-few : r .greater ≤ d
     greater-few = omega (arith, fitting)
@@ -171,7 +168,7 @@ module _ (p q : List ℕ) where
     pub sums-on-k : (k : ℕ) → 1 ≤ k → (leb k (d - r .greater) && ltb 0 (r .lesser)) ≡ dominatesOn d k p q
     sums-on-k k l =
         let fit : d - r .greater ≡ count (fits p q) (numbersFrom 0 d) = omega (arith, fitting) in
-        ap₂ (λ (n m : ℕ). leb k n && ltb 0 m) fit (first .lesser)
+        ap₂ (λ (n m : ℕ). leb k n && ltb 0 m) fit (t .lesser)
         ∙ ap (λ (b : Bool). leb k (count (fits p q) (numbersFrom 0 d)) && b) (somewhere-sum (at (numbersFrom 0 d) p) (at (numbersFrom 0 d) q) ∙ somewhere-at p q (numbersFrom 0 d))
         ∙ and-comm (leb k (count (fits p q) (numbersFrom 0 d))) (any (lower p q) (numbersFrom 0 d))
         ∙ sym (dominates-on p q d k l)
