@@ -1,4 +1,5 @@
-//! The comparison of costs has no branch (document 02, Card 5): the source of its functions, looked at as text.
+//! The comparison of costs has no branch (document 02, Card 5), and each test makes one pass over them (Card 4): the source
+//! of its functions, looked at as text.
 use reference::source::{crate_source, faults};
 
 #[test]
@@ -16,6 +17,8 @@ const LESS: &str = "(65535 + wide(b) - wide(a)) / 65536";
 const COUNT: &str = "greater += counted * less(q[i], p[i]);";
 const WHILE: &str = "while i < COSTS {";
 const TEST: &str = "(s.greater == 0) & (0 < s.lesser)";
+const PASS: &str = "let s = sums_over_first(d, a, b);";
+const HIDES: &str = "(s.greater == 0) & ((0 < s.lesser) | (p.number < q.number))";
 
 /// A branch, a sign, a call or a function that is missing: each is found, wherever it stands.
 #[test]
@@ -24,7 +27,7 @@ fn branches_are_found() {
         ("dominance", LESS, "if a < b { 1 } else { 0 }", "dominance::less: `if`"),
         ("dominance", LESS, "(a < b) as usize", "dominance::less: the sign `<`"),
         ("dominance", LESS, "match b / a { 0 => 0, _ => 1 }", "dominance::less: `match`"),
-        ("dominance", LESS, "below(wide(a), wide(b))", "dominance::less: calls [\"below\", \"wide\"]"),
+        ("dominance", LESS, "below(wide(a), wide(b))", "dominance::less: calls [\"below\", \"wide\", \"wide\"]"),
         ("dominance", "cost as usize", "if cost == 0 { 0 } else { cost as usize }", "dominance::wide: `if`"),
         ("dominance", COUNT, "if less(q[i], p[i]) == 1 { return none(); }", "dominance::sums_over: `return`"),
         ("dominance", COUNT, "greater += (q[i] < p[i]) as usize;", "dominance::sums_over: the sign `<`"),
@@ -41,10 +44,18 @@ fn branches_are_found() {
         ),
         (
             "dominance",
-            "dominates(d, a, b)",
-            "dominates(d, a, b) | (p.number < q.number)",
-            "dominance::hides: the sign `<`",
+            PASS,
+            "let s = sums_over_first(d, a, b);\n    let t = sums_over_first(d, b, a);",
+            "dominance::hides: calls [\"sums_over_first\", \"sums_over_first\"]",
         ),
+        (
+            "dominance",
+            HIDES,
+            "dominates(d, a, b) | (s.greater + s.lesser == 0) & (p.number < q.number)",
+            "dominance::hides: calls [\"dominates\", \"sums_over_first\"]",
+        ),
+        ("dominance", HIDES, "s.greater == 0 && p.number < q.number + s.lesser", "dominance::hides: `&&`"),
+        ("dominance", HIDES, "(s.greater == s.lesser) | (a[0] < b[0])", "dominance::hides: the sign `<`"),
         ("dominance", "pub fn hides(", "pub fn conceals(", "dominance::hides: found 0 times"),
         ("query", TEST, "s.greater == 0 || 0 < s.lesser", "query::dominates_at: `||`"),
         ("query", "fn dominates_on(", "fn dominates_some(", "query::dominates_on: found 0 times"),

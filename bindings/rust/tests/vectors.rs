@@ -7,11 +7,12 @@ use reference::{address, layout, plain};
 use reference::{library, AddressAnswer, Answer, Call, Costs, CostsAnswer, Move, RegionAnswer, Row};
 use std::fs;
 
-const BOARDS: [(&str, usize); 4] = [
+const BOARDS: [(&str, usize); 5] = [
     ("loads_d2.txt", 656),
     ("mixed_01_d2_C16_0_3.txt", 666),
     ("mixed_06_d3_C40_0_20.txt", 697),
     ("mixed_09_d4_C16_0_3.txt", 630),
+    ("twins_d2.txt", 323),
 ];
 
 /// The lines of a file, each in two: what is asked and what is answered.
@@ -45,7 +46,7 @@ fn call_of(asked: &str) -> Option<(Call, usize)> {
     let call = match &asked[..1] {
         "L" => return Some((Call::Load { c: w[1] as usize, d: w[2] as usize, rows: loaded(&w[4..]) }, 0)),
         "E" => Call::Enter { number, costs: costs(&w[1..]) },
-        "W" => Call::Withdraw { number },
+        "W" | "X" => Call::Withdraw { number },
         "C" => Call::Recost { number, costs: costs(&w[1..]) },
         "Q" => Call::List,
         "B" => Call::Band(argument),
@@ -118,13 +119,19 @@ impl Player for Modelled {
     }
 }
 
+/// An `X` is a withdrawal whose answer has the nodes opened after the count; no call tells them yet.
+fn told_now(asked: &str, answer: &str) -> String {
+    let not_told = |at: usize| asked.starts_with('X') && at == 3;
+    joined(answer.split(' ').enumerate().filter(|(at, _)| !not_told(*at)).map(|(_, word)| word))
+}
+
 fn play(name: &str, lines: &[(String, String)], player: &mut dyn Player) {
     for (at, (asked, answer)) in lines.iter().enumerate() {
         let got = match call_of(asked) {
             Some((call, lent)) => player.ask(&call, lent),
             None => player.tree(),
         };
-        assert_eq!(got, *answer, "{name}, line {}: {asked}", at + 1);
+        assert_eq!(got, told_now(asked, answer), "{name}, line {}: {asked}", at + 1);
     }
 }
 

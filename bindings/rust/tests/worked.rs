@@ -1,4 +1,4 @@
-//! Document 01's worked board through the wrapper.
+//! Document 01's worked board, with Card 4's list, through the wrapper.
 use dolzhev::zorder::{self, Region};
 use dolzhev::Mark::{Entered, Left, Listed};
 use dolzhev::{Board, Costs, Mark, Move, Ranked, Refusal, Row};
@@ -33,12 +33,12 @@ fn cases_of_lists() {
     let mut board = Board::over(&mut memory);
     board.load(16, 2, &moves()).unwrap();
     let list = board.list(&mut rows).unwrap();
-    assert_eq!((numbers(list.rows), list.opened), (vec![2, 5, 0, 3], 1));
-    assert_eq!((list.rows[2].mark(), list.rows[2].costs), (Listed, COSTS[0]));
+    assert_eq!((numbers(list.rows), list.opened), (vec![2, 0, 3], 1));
+    assert_eq!((list.rows[1].mark(), list.rows[1].costs), (Listed, COSTS[0]));
     assert_eq!(numbers(board.band(2, &mut rows).unwrap()), [2, 5, 0, 3]);
     assert_eq!(numbers(board.band(3, &mut rows).unwrap()), [2, 5, 0, 1, 3, 4]);
     let ranked = |dominated, number: u16| Ranked { dominated, number, costs: COSTS[usize::from(number)] };
-    assert_eq!(board.rank(3, &mut [Ranked::default(); 3]).unwrap(), [ranked(2, 2), ranked(2, 5), ranked(1, 0)]);
+    assert_eq!(board.rank(3, &mut [Ranked::default(); 3]).unwrap(), [ranked(2, 2), ranked(1, 0), ranked(1, 3)]);
     assert_eq!(board.on_k(1, &mut rows).unwrap(), []);
     assert_eq!(numbers(board.chosen(1, &mut rows).unwrap()), [0]);
 }
@@ -49,7 +49,7 @@ fn cases_of_withdrawals() {
     let mut rows = [Row::default(); Board::notice_rows(16)];
     let mut board = Board::over(&mut memory);
     board.load(16, 2, &moves()).unwrap();
-    assert_eq!(marked(board.withdraw(2, &mut rows).unwrap()), [(Left, 2)]);
+    assert_eq!(marked(board.withdraw(2, &mut rows).unwrap()), [(Left, 2), (Entered, 5)]);
     assert_eq!(marked(board.withdraw(5, &mut rows).unwrap()), [(Left, 5)]);
     assert_eq!(marked(board.withdraw(3, &mut rows).unwrap()), [(Left, 3), (Entered, 4)]);
 }
@@ -57,12 +57,12 @@ fn cases_of_withdrawals() {
 #[test]
 fn refusals() {
     let mut memory = vec![0; Board::bytes(16)];
-    let mut rows = [Row::default(); 3];
+    let mut rows = [Row::default(); 2];
     let mut board = Board::over(&mut memory);
     assert_eq!(board.list(&mut rows), Err(Refusal::Unsound));
     assert_eq!(board.load(17, 2, &[]), Err(Refusal::ShortMemory));
     board.load(16, 2, &moves()).unwrap();
-    assert_eq!(board.list(&mut rows), Err(Refusal::FewRows { needed: 4 }));
+    assert_eq!(board.list(&mut rows), Err(Refusal::FewRows { needed: 3 }));
     assert_eq!(
         board.enter(Move { number: 5, costs: [1, 1, 0, 0] }, &mut rows),
         Err(Refusal::NumberTwice { place: None })
@@ -73,7 +73,7 @@ fn refusals() {
         Err(Refusal::BadArgument { place: None })
     );
     assert_eq!(
-        marked(board.recost(Move { number: 0, costs: [0; 4] }, &mut [Row::default(); 17]).unwrap())[4],
+        marked(board.recost(Move { number: 0, costs: [0; 4] }, &mut [Row::default(); 17]).unwrap())[3],
         (Entered, 0)
     );
     assert_eq!(board.load(16, 2, &[moves()[0], moves()[0]]), Err(Refusal::NumberTwice { place: Some(1) }));

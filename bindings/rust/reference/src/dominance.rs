@@ -1,5 +1,5 @@
 //! When one move beats another.
-use crate::Costs;
+use crate::{Costs, Move};
 
 /// On the costs named: nowhere greater and somewhere less.
 fn beats(mut named: impl Iterator<Item = usize> + Clone, p: &Costs, q: &Costs) -> bool {
@@ -9,6 +9,11 @@ fn beats(mut named: impl Iterator<Item = usize> + Clone, p: &Costs, q: &Costs) -
 /// Definition 1.
 pub fn dominates(d: usize, p: &Costs, q: &Costs) -> bool {
     beats(0..d, p, q)
+}
+
+/// Document 02, Card 4: whether p keeps q out of the list. Costs past d are zero.
+pub fn hides(d: usize, p: &Move, q: &Move) -> bool {
+    dominates(d, &p.costs, &q.costs) || p.costs == q.costs && p.number < q.number
 }
 
 /// Definition 5: on some k of the first d costs nowhere greater, and on one of these less. More than k fitting costs do as

@@ -1,20 +1,20 @@
 //! The paper's lists, each by all pairs. `moves` stand in Z-order.
-use super::dominance::{dominates, dominates_at, dominates_on};
-use crate::{Costs, Move, Row};
+use super::dominance::{dominates, dominates_at, dominates_on, hides};
+use crate::{Move, Row};
 
 pub fn row(mark: u16, x: &Move) -> Row {
     Row { mark, number: x.number, costs: x.costs }
 }
 
 /// The moves that no move beats.
-fn unbeaten(moves: &[Move], beats: impl Fn(&Costs, &Costs) -> bool) -> Vec<Move> {
-    let unbeaten = |q: &&Move| !moves.iter().any(|p| beats(&p.costs, &q.costs));
+fn unbeaten(moves: &[Move], beats: impl Fn(&Move, &Move) -> bool) -> Vec<Move> {
+    let unbeaten = |q: &&Move| !moves.iter().any(|p| beats(p, q));
     moves.iter().filter(unbeaten).copied().collect()
 }
 
-/// Definition 2.
+/// The list: Definition 2 with Card 4's rule.
 pub fn skyline(d: usize, moves: &[Move]) -> Vec<Move> {
-    unbeaten(moves, |p, q| dominates(d, p, q))
+    unbeaten(moves, |p, q| hides(d, p, q))
 }
 
 /// Definition 3.
@@ -34,10 +34,10 @@ pub fn rank(d: usize, moves: &[Move], t: usize) -> Vec<Row> {
 
 /// Definition 6.
 pub fn on_k(d: usize, moves: &[Move], k: usize) -> Vec<Move> {
-    unbeaten(moves, |p, q| dominates_on(d, k, p, q))
+    unbeaten(moves, |p, q| dominates_on(d, k, &p.costs, &q.costs))
 }
 
 /// Definition 8.
 pub fn chosen(d: usize, moves: &[Move], set: usize) -> Vec<Move> {
-    unbeaten(moves, |p, q| dominates_at(d, set, p, q))
+    unbeaten(moves, |p, q| dominates_at(d, set, &p.costs, &q.costs))
 }

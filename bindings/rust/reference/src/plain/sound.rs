@@ -1,8 +1,8 @@
 //! Whether the memory is sound.
 use super::bytes::Head;
 use super::order::stands_before;
-use crate::dominance::dominates;
-use crate::Costs;
+use crate::dominance::hides;
+use crate::Move;
 
 fn head(m: &[u8]) -> Option<Head> {
     if m.len() < 2048 {
@@ -55,18 +55,18 @@ fn heights_right(m: &[u8], head: Head) -> bool {
     highest && (1..=top).rev().all(|level| counts_right(m, head, level, least_entries(top, level)))
 }
 
-/// Whether a listed move at a place before i dominates the costs.
-pub fn hidden_before(m: &[u8], head: Head, i: usize, costs: &Costs) -> bool {
+/// Whether a listed move at a place before i hides x.
+pub fn hidden_before(m: &[u8], head: Head, i: usize, x: &Move) -> bool {
     (0..i).any(|j| {
-        let number = head.number(m, j);
-        head.listed(m, number) && dominates(4, &head.costs(m, number), costs)
+        let p = head.move_at(m, j);
+        head.listed(m, p.number) && hides(4, &p, x)
     })
 }
 
 fn marks_right(m: &[u8], head: Head) -> bool {
     (0..head.n).all(|i| {
         let x = head.move_at(m, i);
-        head.listed(m, x.number) != hidden_before(m, head, i, &x.costs)
+        head.listed(m, x.number) != hidden_before(m, head, i, &x)
     })
 }
 

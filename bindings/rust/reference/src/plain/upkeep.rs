@@ -1,8 +1,8 @@
 //! What a change does to the list, found without writing.
 use super::bytes::Head;
 use super::set::Set;
-use crate::dominance::dominates;
-use crate::{Costs, Move};
+use crate::dominance::hides;
+use crate::Move;
 
 /// The place of the move that goes, and the move that comes.
 pub struct Change {
@@ -18,24 +18,24 @@ pub struct Upkeep {
     pub need: usize,
 }
 
-fn hidden_by_others(m: &[u8], head: Head, goes: Option<usize>, costs: &Costs) -> bool {
-    (0..head.n).any(|j| Some(j) != goes && dominates(4, &head.costs_at(m, j), costs))
+fn hidden_by_others(m: &[u8], head: Head, goes: Option<usize>, x: &Move) -> bool {
+    (0..head.n).any(|j| Some(j) != goes && hides(4, &head.move_at(m, j), x))
 }
 
-fn hidden_by_coming(change: &Change, costs: &Costs) -> bool {
-    change.comes.is_some_and(|x| dominates(4, &x.costs, costs))
+fn hidden_by_coming(change: &Change, x: &Move) -> bool {
+    change.comes.is_some_and(|coming| hides(4, &coming, x))
 }
 
-/// Whether a move that is not listed comes up: that can be only where the going move is listed and dominates it.
-fn comes_up(m: &[u8], head: Head, change: &Change, costs: &Costs) -> bool {
+/// Whether a move that is not listed comes up: that can be only where the going move is listed and hides it.
+fn comes_up(m: &[u8], head: Head, change: &Change, x: &Move) -> bool {
     let Some(goes) = change.goes else {
         return false;
     };
     let going = head.move_at(m, goes);
     head.listed(m, going.number)
-        && dominates(4, &going.costs, costs)
-        && !hidden_by_coming(change, costs)
-        && !hidden_by_others(m, head, change.goes, costs)
+        && hides(4, &going, x)
+        && !hidden_by_coming(change, x)
+        && !hidden_by_others(m, head, change.goes, x)
 }
 
 pub fn upkeep_of(m: &[u8], head: Head, change: &Change) -> Upkeep {
@@ -44,17 +44,17 @@ pub fn upkeep_of(m: &[u8], head: Head, change: &Change) -> Upkeep {
         let x = head.move_at(m, i);
         let goes = change.goes == Some(i);
         if head.listed(m, x.number) {
-            if goes || hidden_by_coming(change, &x.costs) {
+            if goes || hidden_by_coming(change, &x) {
                 upkeep.leaving.put(x.number);
                 upkeep.need += 1;
             }
-        } else if !goes && comes_up(m, head, change, &x.costs) {
+        } else if !goes && comes_up(m, head, change, &x) {
             upkeep.entering.put(x.number);
             upkeep.need += 1;
         }
     }
     if let Some(x) = change.comes {
-        upkeep.listed = !hidden_by_others(m, head, change.goes, &x.costs);
+        upkeep.listed = !hidden_by_others(m, head, change.goes, &x);
         upkeep.need += usize::from(upkeep.listed);
     }
     upkeep
