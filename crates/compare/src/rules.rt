@@ -36,8 +36,7 @@ fn beats(set: usize, p: Row, q: Row) -> bool {
 
 // It beats the other on all costs, or its costs are the same and its number is lower.
 fn hides(p: Row, q: Row) -> bool {
-    nowhere_greater(ALL, p, q)
-        && (!nowhere_greater(ALL, q, p) || number_of(p) < number_of(q))
+    nowhere_greater(ALL, p, q) && (!nowhere_greater(ALL, q, p) || number_of(p) < number_of(q))
 }
 
 fn is_on(k: u32, set: usize, p: Row, q: Row) -> bool {

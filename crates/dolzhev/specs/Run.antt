@@ -23,7 +23,7 @@ unfoldable pub answered : Answer → calls.Answer
 answered r = record { number = r .refusal; detail = r .detail }
 
 -- What is seen of a call: the rows that it tells are the first of the lent ones, as many as it says. A list other than
--- Definition 2's is a call that leaves the memory, and no list call of demand 3.
+-- the list call's is a call that leaves the memory, and no list call of demand 3.
 unfoldable pub exportedEvent : {m m' : List ℕ} → ExportedStep m m' → Event
 exportedEvent (changes x lent lent' r bytes p) =
     record { call = change x; lent = length lent; answer = answered r; rows = take (r .count) lent' }

@@ -10,7 +10,7 @@ use rows::fill;
 ghost use Rattle.model.specs.Calls.{list, bandQuery, onKQuery, chosenQuery};
 ghost use Rattle.dolzhev.specs.Exported.{rowsOf, QueryExported};
 
-// List (Definition 2).
+// List (Definition 2, with Card 4's rule).
 #[no_mangle]
 pub extern "C" fn dolzhev_list(memory: &[u8], rows: &mut [Row]) -> Answer
     ensures { λ r. ⌜ QueryExported list (now (memory .entry)) (rowsOf (now (rows .entry))) r (rowsOf (now (rows .exit))) ⌝ }

@@ -1,2 +1,2 @@
--- The marked moves are Definition 2's list.
+-- The marked moves are the list.
 pub mod List

@@ -1,4 +1,4 @@
-// List: Definition 2's list, read off the marks, and the nodes opened. It is planned without writing.
+// List: the list, read off the marks, and the nodes opened. It is planned without writing.
 use memory::Held;
 use memory::sound_head;
 use promises::Verdict;

@@ -101,7 +101,7 @@ changesNothing b (enter n costs) = false
 changesNothing b (withdraw n) = false
 changesNothing b (recost n costs) = unchanged n costs (b .moves)
 
--- Definition 2's list of a board, and the notice of a change: the difference of the lists before and after it.
+-- The list of a board, and the notice of a change: the difference of the lists before and after it.
 unfoldable pub listOf : Board → List Move
 listOf b = skyline (b .dimension) (b .moves)
 

@@ -10,10 +10,10 @@ use Rattle.model.specs.Loading.{loadTree}
 use Rattle.model.specs.Entering.{enterTree}
 use Rattle.model.specs.Withdrawing.{enterAll, withdrawTree, recostTree}
 use Rattle.model.specs.Nodes.{nodesOpened}
-use Rattle.model.specs.Lists.{rank}
-use Rattle.model.specs.Calls.{Board, withdraw, recost, chosenQuery, queryRows}
+use Rattle.model.specs.Lists.{skyline, band, rank}
+use Rattle.model.specs.Calls.{Board, enter, withdraw, recost, chosenQuery, queryRows}
 use Rattle.model.specs.Computing.{computing}
-use Rattle.model.specs.Cases.{move, marks, notices}
+use Rattle.model.specs.Cases.{move, numbers, marks, notices}
 
 -- ---- how trees are written and shown
 
@@ -37,7 +37,7 @@ threes zero p = move p p 0
 threes (suc h) p = threes h p ∷ threes h (p + 3 ^ h) ∷ threes h (p + 2 * 3 ^ h) ∷ []
 
 showing : Unit {0}
-unfolding computing move marks notices shapeFrom shape row threes
+unfolding computing move numbers marks notices shapeFrom shape row threes
 showing = tt
 
 -- ---- loading
@@ -115,6 +115,30 @@ chain-notices : map (λ c. notices chain (c ∷ [])) (withdraw 0 ∷ recost 0 (1
     ≡ ((1 ∷ 0 ∷ 2 ∷ 1 ∷ []) ∷ []) ∷ ([] ∷ []) ∷ ((1 ∷ 0 ∷ 2 ∷ 1 ∷ []) ∷ []) ∷ []
 unfolding showing chain
 chain-notices = refl
+
+-- ---- twins
+
+-- Moves 1, 3 and 5 have equal costs; each dominates 7.
+twins : Board
+twins = record { size = 16; dimension = 2; moves = inZOrder 2 (move 5 2 2 ∷ move 7 3 3 ∷ move 1 2 2 ∷ move 3 2 2 ∷ []) }
+
+-- The list has the lowest number, band 0 all three.
+twin-lists : map numbers (skyline 2 (twins .moves) ∷ band 2 0 (twins .moves) ∷ []) ≡ (1 ∷ []) ∷ (1 ∷ 3 ∷ 5 ∷ []) ∷ []
+unfolding showing twins
+twin-lists = refl
+
+-- Withdrawn one after another, each brings up the next, and the last brings up 7.
+twins-withdrawn : notices twins (withdraw 1 ∷ withdraw 3 ∷ withdraw 5 ∷ [])
+    ≡ (1 ∷ 1 ∷ 2 ∷ 3 ∷ []) ∷ (1 ∷ 3 ∷ 2 ∷ 5 ∷ []) ∷ (1 ∷ 5 ∷ 2 ∷ 7 ∷ []) ∷ []
+unfolding showing twins
+twins-withdrawn = refl
+
+-- A hidden twin goes, or one of a higher number than the listed one comes: nothing is told. One of a lower number comes: it
+-- takes the listed one's place. The listed one gets other costs: the next comes up.
+twin-notices : map (λ c. notices twins (c ∷ [])) (withdraw 3 ∷ enter 2 (2 ∷ 2 ∷ 0 ∷ 0 ∷ []) ∷ enter 0 (2 ∷ 2 ∷ 0 ∷ 0 ∷ []) ∷ recost 1 (2 ∷ 3 ∷ 0 ∷ 0 ∷ []) ∷ [])
+    ≡ ([] ∷ []) ∷ ([] ∷ []) ∷ ((1 ∷ 1 ∷ 2 ∷ 0 ∷ []) ∷ []) ∷ ((1 ∷ 1 ∷ 2 ∷ 3 ∷ []) ∷ []) ∷ []
+unfolding showing twins
+twin-notices = refl
 
 -- ---- the other lists
 

@@ -64,7 +64,7 @@ heldAfter d held e listCall = held
 heldAfter d held e other = held
 
 -- "After that list call and after every later call of the run, his rows equal Definition 2's list of the plain board, in
--- order."
+-- order", with Card 4's rule.
 unfoldable pub HoldsList : Board → List Row → List Event → Type 0
 HoldsList b held [] = held ≡ listedRows (listOf b)
 HoldsList b held (e ∷ es) =

@@ -1,4 +1,4 @@
--- What the lists besides Definition 2's compute; then their laws.
+-- What the other lists compute; then their laws.
 pub mod Rule
 pub mod Kept
 pub mod Plan

@@ -1,4 +1,4 @@
-// The lists besides Definition 2's: band, on k and chosen costs are planned without writing; rank puts its rows in order
+// The other lists: band, on k and chosen costs are planned without writing; rank puts its rows in order
 // where they are lent. None has a `requires`: they refuse.
 mod kept;
 mod plan;

@@ -1,4 +1,4 @@
--- The marked moves are Definition 2's list, so the plan of the moves found is that of a list call.
+-- The marked moves are the list, so the plan of the moves found is that of a list call.
 use Prim.Native.Nat.{ℕ}
 use mathlib.Core.List.{List}
 use mathlib.Core.Path.{_≡_, refl, ap, _∙_, subst}

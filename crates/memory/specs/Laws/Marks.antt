@@ -1,4 +1,4 @@
--- The test of the marks passes exactly if the marked moves are Definition 2's list.
+-- The test of the marks passes exactly if the marked moves are the list.
 use Prim.Native.Nat.{ℕ, zero, suc, _≤_}
 use mathlib.Core.Bool.{Bool, true, false, not, _&&_, Bool·beq, false≢true}
 use mathlib.Core.List.{List, [], _∷_, _++_, append-cancel-right}

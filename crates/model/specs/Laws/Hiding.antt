@@ -49,12 +49,13 @@ pub equal-dominates : (d : ℕ) (x p q : List ℕ) → equalCosts d p q ≡ true
 unfolding dominates
 equal-dominates d x p q e = ap (λ (l : List ℕ). better l (take d x)) (equal-first d p q e)
 
--- Rows with equal costs have one place.
+-- Rows with equal costs have all costs equal, since those past d are zero, and so one place.
+pub equal-rows : (d : ℕ) (p q : List ℕ) → d ≤ rowCosts → RowCosts d p → RowCosts d q → equalCosts d p q ≡ true → p ≡ q
+equal-rows d p q l h k e = sym (row-padded d p l h) ∙ ap (padded d) (equal-first d p q e) ∙ row-padded d q l k
+
 equal-place : (d : ℕ) (p q : List ℕ) → d ≤ rowCosts → RowCosts d p → RowCosts d q → equalCosts d p q ≡ true → samePlace d p q ≡ true
 unfolding samePlace
-equal-place d p q l h k e =
-    let same = sym (row-padded d p l h) ∙ ap (padded d) (equal-first d p q e) ∙ row-padded d q l k in
-    eq-eqb (address d p) (address d q) (ap (address d) same)
+equal-place d p q l h k e = eq-eqb (address d p) (address d q) (ap (address d) (equal-rows d p q l h k e))
 
 -- ---- in one pass over the costs
 

@@ -191,7 +191,7 @@ change-held b x false s r = nothing-followed (b .dimension) (listedRows (listOf 
 
 -- ---- a run
 
--- An accepted list call tells Definition 2's list.
+-- An accepted list call tells the list.
 unfoldable pub Reads : Board → Event → Call → Type 0
 Reads b e (change x) = Unit {0}
 Reads b e listCall = isAccepted (e .answer) ≡ true → e .rows ≡ listedRows (listOf b)

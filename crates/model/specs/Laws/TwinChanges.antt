@@ -1,8 +1,8 @@
 -- What a notice tells where twins stand (Card 4): a listed move that goes brings up its next twin and no other move, and one
 -- whose twin of a lower number comes in leaves.
 use Prim.Native.Nat.{ℕ, _≤_, _<_}
-use mathlib.Core.Bool.{Bool, true, false, not}
-use mathlib.Core.List.{List, [], _∷_, _++_, map, List·Memᴰ, List·Memᴰ·head, List·Memᴰ·tail, List·Memᴰ·not-nil, Memᴰ·cast}
+use mathlib.Core.Bool.{true, false, not, _&&_, false≢true}
+use mathlib.Core.List.{List, [], _∷_, _++_, map, List·Memᴰ, List·Memᴰ·head, List·Memᴰ·tail, List·Memᴰ·not-nil, List·Memᴰ·cases-cons, Memᴰ·cast}
 use mathlib.Core.Logic.{⊎-elim}
 use mathlib.Core.Path.{_≡_, refl, sym, ap, ap₂, _∙_}
 use native.Mathlib.Omega.{arith}
@@ -10,15 +10,15 @@ use lib.Dec.{leb, ltb, eqb}
 use borrow.Author.Tests.{ltb-true, ltb-false, eqb-true, eq-eqb, ne-eqb}
 use Rattle.zorder.specs.Refusal.{costPastBad}
 use Rattle.zorder.specs.Laws.Refusal.{first-passes, rest-passes}
-use Rattle.model.specs.Basics.{select, any}
-use Rattle.model.specs.Moves.{Move, Row, rowOf, moveBefore, insert, left, entered}
-use Rattle.model.specs.Dominance.{dominates, equalCosts, lowerTwin, hides}
+use Rattle.model.specs.Basics.{any}
+use Rattle.model.specs.Moves.{Move, rowOf, moveBefore, insert, left, entered}
+use Rattle.model.specs.Dominance.{equalCosts, lowerTwin, hides}
 use Rattle.model.specs.Lists.{hidden, skyline}
 use Rattle.model.specs.Withdrawing.{without}
 use Rattle.model.specs.Notice.{noticeOf}
 use Rattle.model.specs.Calls.{Board, Change, enter, withdraw, onBoard, changeRefusal, changed, changedMoves, listOf, changeNotice}
 use Rattle.model.specs.Sound.{SoundBoard}
-use Rattle.model.specs.Laws.Bool.{byCases, not-flip, or-cases, or-false-left, or-false-both, both-ways}
+use Rattle.model.specs.Laws.Bool.{byCases, and-left, and-right, and-drop-left, not-flip, or-cases, or-false-left, or-false-both, both-ways}
 use Rattle.model.specs.Laws.Basics.{Once, select-mem, mem-select, once-select, any-mem, any-witness}
 use Rattle.model.specs.Laws.Sorting.{insert-mem, mem-insert-new, mem-insert-old}
 use Rattle.model.specs.Laws.Order.{distinct-once, mem-number, off-board}
@@ -53,11 +53,55 @@ two-rows old new x y o p h k =
     notice-rows old new
     ∙ ap₂ (λ (ms ns : List Move). map (rowOf left) ms ++ map (rowOf entered) ns) (only-gone old new x o h) (only-gone new old y p k)
 
+-- ---- the next twin
+
 -- Of the twins of x with a greater number, w has the least.
 pub record NextTwin (d : ℕ) (ms : List Move) (x w : Move) : Type 0 where
   pub there : List·Memᴰ w ms
   pub twin : lowerTwin d x w ≡ true
   pub next : (v : Move) → List·Memᴰ v ms → lowerTwin d x v ≡ true → w .number ≤ v .number
+
+next-none : (d : ℕ) (ms : List Move) (x m : Move) → any (lowerTwin d x) ms ≡ false → lowerTwin d x m ≡ true → NextTwin d (m ∷ ms) x m
+next-none d ms x m none t =
+    record {
+      there = List·Memᴰ·head refl;
+      twin = t;
+      next = λ v k g. ⊎-elim (λ e. omega (arith, ap (λ (n : Move). n .number) e)) (λ j. both-ways (any-mem (lowerTwin d x) j g) none) (List·Memᴰ·cases-cons k);
+    }
+
+-- one move more: it is the next twin, or the other stays
+next-more : (d : ℕ) (ms : List Move) (x m w : Move) → NextTwin d ms x w → (u : Move) × NextTwin d (m ∷ ms) x u
+next-more d ms x m w h =
+    byCases (lowerTwin d x m && ltb (m .number) (w .number))
+    (λ e. (
+      m,
+      record {
+        there = List·Memᴰ·head refl;
+        twin = and-left (lowerTwin d x m) _ e;
+        next = λ v k g. ⊎-elim (λ s. omega (arith, ap (λ (n : Move). n .number) s))
+            (λ j. omega (arith, h .next v j g, ltb-true (m .number) (w .number) (and-right (lowerTwin d x m) _ e))) (List·Memᴰ·cases-cons k);
+      },
+    ))
+    (λ e. (
+      w,
+      record {
+        there = List·Memᴰ·tail (h .there);
+        twin = h .twin;
+        next = λ v k g. ⊎-elim
+            (λ s. let same = ap (λ (n : Move). n .number) s in
+            omega (arith, same, ltb-false (m .number) (w .number) (and-drop-left (lowerTwin d x m) _ (ap (lowerTwin d x) (sym s) ∙ g) e)))
+            (λ j. h .next v j g) (List·Memᴰ·cases-cons k);
+      },
+    ))
+
+-- Where there is a twin there is a next one.
+pub next-found : (d : ℕ) (ms : List Move) (x : Move) → any (lowerTwin d x) ms ≡ true → (w : Move) × NextTwin d ms x w
+unfolding any
+next-found d [] x e = absurd (false≢true e)
+next-found d (m ∷ ms) x e =
+    byCases (any (lowerTwin d x) ms)
+    (λ h. let f = next-found d ms x h in next-more d ms x m (f .0) (f .1))
+    (λ h. (m, next-none d ms x m h (or-cases (lowerTwin d x m) (any (lowerTwin d x) ms) e (λ t. t) (λ t. both-ways t h))))
 
 -- ---- a listed move whose twin comes in
 
