@@ -1,4 +1,4 @@
-/* The move board: the moves that no other move dominates, in Z-order. Link libdolzhev.a.
+/* The move board: the moves that no other move dominates, equal ones once, in Z-order. Link libdolzhev.a.
  *
  * The caller lends all memory. No call allocates, blocks, or keeps a state of its own (no thread-local either): what a call
  * does depends on its arguments and the lent bytes alone, and each call ends on every content of the lent memory. Calls on
@@ -93,11 +93,12 @@ dolzhev_answer dolzhev_recost(uint8_t *memory, size_t memory_len, dolzhev_move m
 
 /* The lists. Each writes rows with mark 0, in Z-order, but for dolzhev_rank. */
 
-/* The moves that no move dominates; `opened` is the number of nodes whose near corner no move dominates.
+/* The moves that no move dominates, of those with equal costs the one of lowest number alone; `opened` is the number of nodes
+ * whose near corner no move dominates.
  * Refusals, in order: 3 if the memory is not sound, 8. */
 dolzhev_answer dolzhev_list(const uint8_t *memory, size_t memory_len, dolzhev_row *rows, size_t rows_len);
 
-/* The moves that b others or fewer dominate, b from 0 to 4,095.
+/* The moves that b others or fewer dominate, b from 0 to 4,095, all of those with equal costs.
  * Refusals, in order: 3 if the memory is not sound, 7 if b is out of range, 8. */
 dolzhev_answer dolzhev_band(const uint8_t *memory, size_t memory_len, size_t b, dolzhev_row *rows, size_t rows_len);
 

@@ -61,7 +61,7 @@ impl<'m> Board<'m> {
         told(raw::recost(self.memory, x, Row::lend(rows)), rows)
     }
 
-    /// The moves that no move dominates, in Z-order.
+    /// The moves that no move dominates, in Z-order; of those with equal costs the one of lowest number alone.
     pub fn list<'r>(&self, rows: &'r mut [Row]) -> Result<Listed<'r>, Refusal> {
         let answer = raw::list(self.memory, Row::lend(rows));
         told(answer, rows).map(|rows| Listed { rows, opened: answer.opened })

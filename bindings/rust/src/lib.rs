@@ -1,4 +1,5 @@
-//! The verified move board, called from Rust: the moves that no other move dominates, in Z-order.
+//! The verified move board, called from Rust: the moves that no other move dominates, equal
+//! ones once, in Z-order.
 //!
 //! [`Board`] is a board over memory that the program lends; [`zorder`] has addresses and regions without one. Nothing here
 //! allocates. A call that is turned down says why by a [`Refusal`], and has altered nothing. An archive that does not fit

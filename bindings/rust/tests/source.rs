@@ -18,7 +18,7 @@ const COUNT: &str = "greater += counted * less(q[i], p[i]);";
 const WHILE: &str = "while i < COSTS {";
 const TEST: &str = "(s.greater == 0) & (0 < s.lesser)";
 const PASS: &str = "let s = sums_over_first(d, a, b);";
-const HIDES: &str = "(s.greater == 0) & ((0 < s.lesser) | (p.number < q.number))";
+const HIDES: &str = "(s.greater == 0) & (0 < lower + s.lesser)";
 
 /// A branch, a sign, a call or a function that is missing: each is found, wherever it stands.
 #[test]
@@ -46,15 +46,15 @@ fn branches_are_found() {
             "dominance",
             PASS,
             "let s = sums_over_first(d, a, b);\n    let t = sums_over_first(d, b, a);",
-            "dominance::hides: calls [\"sums_over_first\", \"sums_over_first\"]",
+            "dominance::hides: calls [\"less\", \"sums_over_first\", \"sums_over_first\"]",
         ),
         (
             "dominance",
             HIDES,
-            "dominates(d, a, b) | (s.greater + s.lesser == 0) & (p.number < q.number)",
-            "dominance::hides: calls [\"dominates\", \"sums_over_first\"]",
+            "dominates(d, a, b) | (s.greater + s.lesser < lower)",
+            "dominance::hides: calls [\"dominates\", \"less\", \"sums_over_first\"]",
         ),
-        ("dominance", HIDES, "s.greater == 0 && p.number < q.number + s.lesser", "dominance::hides: `&&`"),
+        ("dominance", HIDES, "s.greater == 0 && 0 < lower + s.lesser", "dominance::hides: `&&`"),
         ("dominance", HIDES, "(s.greater == s.lesser) | (a[0] < b[0])", "dominance::hides: the sign `<`"),
         ("dominance", "pub fn hides(", "pub fn conceals(", "dominance::hides: found 0 times"),
         ("query", TEST, "s.greater == 0 || 0 < s.lesser", "query::dominates_at: `||`"),

@@ -24,7 +24,7 @@ const FUNCTIONS: [Function; 8] = [
     Function { loops: true, ..function("dominance", "sums_over", &["less", "less"]) },
     function("dominance", "sums_over_first", &["sums_over"]),
     Function { tests: true, ..function("dominance", "dominates", &["sums_over_first"]) },
-    Function { tests: true, ..function("dominance", "hides", &["sums_over_first"]) },
+    Function { tests: true, ..function("dominance", "hides", &["less", "sums_over_first"]) },
     Function { tests: true, ..function("query", "dominates_on", &["sums_over_first"]) },
     Function { tests: true, ..function("query", "dominates_at", &["sums_over"]) },
 ];

@@ -23,7 +23,7 @@ pub fn recost(memory: &mut [u8], x: Move, rows: &mut [Row]) -> Answer {
     unsafe { raw::dolzhev_recost(memory.as_mut_ptr(), memory.len(), x, rows.as_mut_ptr(), rows.len()) }
 }
 
-/// The moves that no move dominates, and the nodes opened.
+/// The moves that no move dominates, of those with equal costs the one of lowest number alone, and the nodes opened.
 pub fn list(memory: &[u8], rows: &mut [Row]) -> Answer {
     unsafe { raw::dolzhev_list(memory.as_ptr(), memory.len(), rows.as_mut_ptr(), rows.len()) }
 }

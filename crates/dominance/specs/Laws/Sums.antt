@@ -1,13 +1,13 @@
 -- The comparison by arithmetic; the test of the sums is Definition 1; the sums, cost by cost.
 use Prim.Native.Nat.{ℕ, _+_, _-_, _*_, _/_, _%_, _^_, _≤_, _<_}
-use mathlib.Core.Bool.{Bool, true, false, cond, not, _&&_, _||_}
+use mathlib.Core.Bool.{Bool, true, false, cond, not, _&&_, _||_, or-comm}
 use mathlib.Core.List.{List, [], _∷_}
 use mathlib.Core.Path.{_≡_, refl, sym, ap, ap₂, _∙_, subst}
 use native.Mathlib.Nat.{mod-lt, zero-add, zero-mul, one-mul, mul-zero, mul-one}
 use native.Mathlib.Omega.{arith}
 use borrow.Author.Tests.{ltb-true, ltb-false, lt-ltb, eqb-true, eqb-false, ne-eqb}
 use lib.Dec.{ltb, eqb}
-use lib.ListN.{length, getD, take}
+use lib.ListN.{length, getD, take, length-map}
 use Rattle.zorder.specs.Address.{rowCosts}
 use Rattle.model.specs.Basics.{consIf, select, numbersFrom}
 use Rattle.model.specs.Dominance.{less, nowhereGreater, somewhereLess, better, at, dominates, dominatesAt, equalCosts}
@@ -17,7 +17,7 @@ use Rattle.model.specs.Laws.Dominance.{take-same-length}
 use Rattle.model.specs.Laws.Hiding.{better-or-equal}
 use Rattle.model.specs.Laws.Queries.{at-first, dominates-at-all}
 use Rattle.model.specs.Laws.Chosen.{chosen-first}
-use Rattle.model.specs.Laws.Range.{from, from-all, from-more, from-end}
+use Rattle.model.specs.Laws.Range.{length-numbers, from, from-all, from-more, from-end}
 use Rattle.dominance.specs.Sums.{countLess, Summed}
 use Rattle.dominance.specs.declared.Sums.{Sums}
 
@@ -66,20 +66,47 @@ sums-at s p q r h = ap₂ (λ (g l : ℕ). eqb g 0 && ltb 0 l) (h .greater) (h .
 pub sums-first : (d : ℕ) (p q : List ℕ) (r : Sums) → d ≤ rowCosts → Summed (chosenCosts rowCosts (2 ^ d - 1)) p q r → Summed (numbersFrom 0 d) p q r
 sums-first d p q r h = subst (λ (s : List ℕ). Summed s p q r) (chosen-first rowCosts d h)
 
+-- No sum is more than the number of costs.
+count-few : (p q : List ℕ) → countLess p q ≤ length p
+unfolding countLess
+count-few [] q = omega arith
+count-few (a ∷ p) [] = omega arith
+count-few (a ∷ p) (b ∷ q) =
+    testCases (λ (t : Bool). cond t 1 0 + countLess p q ≤ length (a ∷ p)) (less a b)
+    (λ e. omega (arith, count-few p q))
+    (λ e. omega (arith, count-few p q))
+
+module _ (d : ℕ) (p q : List ℕ) (r : Sums) (s : Summed (numbersFrom 0 d) p q r) where
+  counted-few : (a b : List ℕ) → countLess (at (numbersFrom 0 d) a) (at (numbersFrom 0 d) b) ≤ d
+  unfolding at
+  counted-few a b = omega (arith, count-few (at (numbersFrom 0 d) a) (at (numbersFrom 0 d) b), length-map (numbersFrom 0 d) (λ i. getD a i 0), length-numbers d 0)
+
+  pub greater-few : r .greater ≤ d
+  greater-few = omega (arith, s .greater, counted-few q p)
+
+  pub lesser-few : r .lesser ≤ d
+  lesser-few = omega (arith, s .lesser, counted-few p q)
+
 module _ (d : ℕ) (p q : List ℕ) (r : Sums) (h : d ≤ length p) (k : d ≤ length q) (s : Summed (numbersFrom 0 d) p q r) where
   -- On the first d costs that is Definition 1.
   pub sums-dominate : (eqb (r .greater) 0 && ltb 0 (r .lesser)) ≡ dominates d p q
   sums-dominate = sums-at (numbersFrom 0 d) p q r s ∙ dominates-at-all d p q h k
 
-  -- The same sums say "nowhere greater, and somewhere less or lower".
-  pub sums-dominate-or-equal : (lower : Bool) → length p ≡ length q
-      → (eqb (r .greater) 0 && (ltb 0 (r .lesser) || lower)) ≡ (dominates d p q || (equalCosts d p q && lower))
+  -- With one more that counts as less, it is Definition 1 or equal costs with that one.
+  pub sums-dominate-or-equal : (lower : Bool) (more : ℕ) → more ≡ cond lower 1 0 → length p ≡ length q
+      → (eqb (r .greater) 0 && ltb 0 (more + r .lesser)) ≡ (dominates d p q || (equalCosts d p q && lower))
   unfolding dominates equalCosts
-  sums-dominate-or-equal lower n =
-      ap₂ (λ (g l : ℕ). eqb g 0 && (ltb 0 l || lower)) (s .greater) (s .lesser)
-      ∙ ap₂ (λ (a b : List ℕ). eqb (countLess b a) 0 && (ltb 0 (countLess a b) || lower)) (at-first d p h) (at-first d q k)
-      ∙ ap₂ (λ (a b : Bool). a && (b || lower)) (nowhere-sum (take d p) (take d q)) (somewhere-sum (take d p) (take d q))
+  sums-dominate-or-equal lower more e n =
+      ap₂ (λ (g l : ℕ). eqb g 0 && ltb 0 (more + l)) (s .greater ∙ ap₂ countLess (at-first d q k) (at-first d p h)) (s .lesser ∙ ap₂ countLess (at-first d p h) (at-first d q k))
+      ∙ ap₂ _&&_ (nowhere-sum (take d p) (take d q)) less-or-lower
       ∙ better-or-equal (take d p) (take d q) lower (take-same-length d p q n)
+    where
+      less-or-lower : ltb 0 (more + countLess (take d p) (take d q)) ≡ (somewhereLess (take d p) (take d q) || lower)
+      less-or-lower =
+          ap (λ (m : ℕ). ltb 0 (m + countLess (take d p) (take d q))) e
+          ∙ some-more lower (countLess (take d p) (take d q))
+          ∙ or-comm lower (ltb 0 (countLess (take d p) (take d q)))
+          ∙ ap (λ (b : Bool). b || lower) (somewhere-sum (take d p) (take d q))
 
 -- ---- the sums over the costs of a set, cost by cost
 

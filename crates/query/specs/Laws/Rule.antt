@@ -161,9 +161,6 @@ module _ (p q : List ℕ) where
     fitting : count (fits p q) (numbersFrom 0 d) + r .greater ≡ d
     fitting = omega (arith, t .greater, fit-sum (numbersFrom 0 d), length-numbers d 0)
 
-    pub greater-few : r .greater ≤ d
-    greater-few = omega (arith, fitting)
-
     -- On some k of the first d costs.
     pub sums-on-k : (k : ℕ) → 1 ≤ k → (leb k (d - r .greater) && ltb 0 (r .lesser)) ≡ dominatesOn d k p q
     sums-on-k k l =

@@ -1,7 +1,8 @@
 -- `rule::dominates_on` meets its contract. Assumes nothing.
 use native.Mathlib.Omega.{arith}
 use borrow.Author.Needs.{needs}
-use Rattle.query.specs.Laws.Rule.{greater-few, sums-on-k}
+use Rattle.dominance.specs.Laws.Sums.{greater-few}
+use Rattle.query.specs.Laws.Rule.{sums-on-k}
 use Rattle.query.proofs.rule.dominates_on.Statement.{statement}
 use Rattle.query.proofs.rule.dominates_on.Tie as tie
 
@@ -9,7 +10,7 @@ sub-result : tie.Need-sub-result
 sub-result c =
     let a = c .before .before .args in
     let s = c .before .sums-over-first in
-    greater-few (a .p) (a .q) (a .d) (s .result) (s .ensures)
+    greater-few (a .d) (a .p) (a .q) (s .result) (s .ensures)
 
 returns : tie.Need-returns
 returns c =
