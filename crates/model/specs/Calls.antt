@@ -1,6 +1,6 @@
 -- Calls and what turns them down (document 01). Every answer has a number (0 accepted) and a detail; the refusal 3, for
 -- memory that is not sound, is judged elsewhere: here the board is given.
-use Prim.Native.Nat.{ℕ, zero, suc, _+_, _*_, _^_}
+use Prim.Native.Nat.{ℕ, suc, _+_, _*_, _^_}
 use mathlib.Core.Bool.{Bool, false, cond, not, _||_}
 use mathlib.Core.List.{List, [], _∷_, map}
 use lib.Dec.{ltb, leb, eqb}

@@ -237,6 +237,17 @@ module _ {A : Type 0} where
     unfolding count
     count-ext xs es = ap length (select-ext xs es)
 
+    pub any-or : (xs : List A) → any (λ x. p x || q x) xs ≡ (any p xs || any q xs)
+    unfolding any
+    any-or [] = refl
+    any-or (x ∷ xs) = ap (λ (b : Bool). (p x || q x) || b) (any-or xs) ∙ turn (p x) (q x) (any p xs) (any q xs)
+      where
+        turn : (a b c e : Bool) → ((a || b) || (c || e)) ≡ ((a || c) || (b || e))
+        turn true b c e = refl
+        turn false true true e = refl
+        turn false true false e = refl
+        turn false false c e = refl
+
     pub any-mono : (xs : List A) → ((x : A) → List·Memᴰ x xs → p x ≡ true → q x ≡ true) → any p xs ≡ true → any q xs ≡ true
     any-mono xs f h = let w = any-witness p xs h in any-mem q (w .1) (f (w .0) (w .1) (w .2))
 

@@ -48,7 +48,7 @@ off-without n ms =
     any-none (λ m. eqb (m .number) n) (without n ms)
     (mem-each (λ m. eqb (m .number) n ≡ false) (without n ms) (λ m k. without-number n ms k .1))
 
-distinct-without : (n : ℕ) (ms : List Move) → distinct (map (λ m. m .number) ms) ≡ true → distinct (map (λ m. m .number) (without n ms)) ≡ true
+pub distinct-without : (n : ℕ) (ms : List Move) → distinct (map (λ m. m .number) ms) ≡ true → distinct (map (λ m. m .number) (without n ms)) ≡ true
 unfolding without
 distinct-without n ms = distinct-select (λ m. m .number) (λ m. not (eqb (m .number) n)) ms
 

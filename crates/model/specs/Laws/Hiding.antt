@@ -125,7 +125,9 @@ module _ (d : ℕ) (m n : Move) where
   hides-nowhere-greater k e i l =
       ⊎-elim
       (λ h. dominates-places d (m .costs) (n .costs) k h .nowhere i l)
-      (λ t. omega (arith, getD-take d (m .costs) i 0 l, getD-take d (n .costs) i 0 l, ap (λ (p : List ℕ). getD p i 0) (equal-first d (m .costs) (n .costs) (twin-costs t))))
+      (λ t.
+      let same = ap (λ (p : List ℕ). getD p i 0) (equal-first d (m .costs) (n .costs) (twin-costs t)) in
+      omega (arith, getD-take d (m .costs) i 0 l, getD-take d (n .costs) i 0 l, same))
       (hides-cases e)
 
 pub hides-irrefl : (d : ℕ) (m : Move) → hides d m m ≡ false
@@ -138,13 +140,14 @@ hides-trans : (d : ℕ) (x y z : Move) → length (x .costs) ≡ length (y .cost
     → hides d x y ≡ true → hides d y z ≡ true → hides d x z ≡ true
 hides-trans d x y z k l e f = cases (hides-cases d x y e) (hides-cases d y z f)
   where
-    cases : (dominates d (x .costs) (y .costs) ≡ true) ⊎ (lowerTwin d x y ≡ true) → (dominates d (y .costs) (z .costs) ≡ true) ⊎ (lowerTwin d y z ≡ true) → hides d x z ≡ true
+    cases : (dominates d (x .costs) (y .costs) ≡ true) ⊎ (lowerTwin d x y ≡ true)
+        → (dominates d (y .costs) (z .costs) ≡ true) ⊎ (lowerTwin d y z ≡ true) → hides d x z ≡ true
     cases (inl a) (inl b) = dominates-hides d x z (dominates-trans d (x .costs) (y .costs) (z .costs) k l a b)
     cases (inl a) (inr b) = dominates-hides d x z (sym (equal-dominated d (x .costs) (y .costs) (z .costs) (twin-costs d y z b)) ∙ a)
     cases (inr a) (inl b) = dominates-hides d x z (equal-dominates d (z .costs) (x .costs) (y .costs) (twin-costs d x y a) ∙ b)
     cases (inr a) (inr b) =
-        twin-hides d x z
-        (lower-twin d x z (equal-trans d (x .costs) (y .costs) (z .costs) (twin-costs d x y a) (twin-costs d y z b)) (lt-trans (twin-number d x y a) (twin-number d y z b)))
+        let same = equal-trans d (x .costs) (y .costs) (z .costs) (twin-costs d x y a) (twin-costs d y z b) in
+        twin-hides d x z (lower-twin d x z same (lt-trans (twin-number d x y a) (twin-number d y z b)))
 
 -- What hides stands earlier: by its address, or in the same place by its number.
 hides-before : (d : ℕ) (m n : Move) → d ≤ rowCosts → RowCosts d (m .costs) → RowCosts d (n .costs) → hides d m n ≡ true → moveBefore d m n ≡ true

@@ -12,7 +12,7 @@ use Rattle.model.specs.Basics.{select, any, equal}
 use Rattle.model.specs.Moves.{Move, Row, rowOf, sameRow, left, entered}
 use Rattle.model.specs.Notice.{missing, noticeOf}
 use Rattle.model.specs.Laws.Bool.{byCases, and-left, and-right, and-both, not-flip, not-back, both-ways}
-use Rattle.model.specs.Laws.Basics.{equal-refl, equal-true, mem-each, select-mem, mem-select, select-ext, select-map, any-mem, any-witness, any-map}
+use Rattle.model.specs.Laws.Basics.{Once, once-select, equal-refl, equal-true, mem-each, select-mem, mem-select, select-ext, select-map, any-mem, any-witness, any-map}
 use Rattle.model.specs.Laws.Order.{move-path}
 
 -- "Rows are compared by number and costs": so are the moves in them, whatever the marks.
@@ -119,3 +119,29 @@ notice-length old new =
     ap length (notice-rows old new)
     ∙ length-append (map (rowOf left) (gone old new)) (map (rowOf entered) (gone new old))
     ∙ ap₂ _+_ (length-map (gone old new) (rowOf left)) (length-map (gone new old) (rowOf entered))
+
+-- ---- a notice of two rows
+
+only-entry : {A : Type 0} {x : A} (xs : List A) → Once xs → List·Memᴰ x xs → ((y : A) → List·Memᴰ y xs → y ≡ x) → xs ≡ x ∷ []
+only-entry [] o k f = absurd (List·Memᴰ·not-nil k)
+only-entry {A} (y ∷ []) o k f = ap (λ (z : A). z ∷ []) (f y (List·Memᴰ·head refl))
+only-entry (y ∷ z ∷ zs) o k f =
+    absurd (o .0 (List·Memᴰ·head (f y (List·Memᴰ·head refl) ∙ sym (f z (List·Memᴰ·tail (List·Memᴰ·head refl))))))
+
+-- x is the one move that the first list has and the second has not.
+pub record OnlyIn (ms ns : List Move) (x : Move) : Type 0 where
+  pub there : List·Memᴰ x ms
+  pub absent : ¬ List·Memᴰ x ns
+  pub only : (m : Move) → List·Memᴰ m ms → ¬ List·Memᴰ m ns → m ≡ x
+
+only-gone : (ms ns : List Move) (x : Move) → Once ms → OnlyIn ms ns x → gone ms ns ≡ x ∷ []
+unfolding gone
+only-gone ms ns x o h =
+    only-entry (gone ms ns) (once-select (λ m. not (among m ns)) ms o) (mem-gone ns (h .there) (h .absent))
+    (λ m k. let g = gone-mem ms ns k in h .only m (g .0) (g .1))
+
+pub two-rows : (old new : List Move) (x y : Move) → Once old → Once new → OnlyIn old new x → OnlyIn new old y
+    → noticeOf old new ≡ rowOf left x ∷ rowOf entered y ∷ []
+two-rows old new x y o p h k =
+    notice-rows old new
+    ∙ ap₂ (λ (ms ns : List Move). map (rowOf left) ms ++ map (rowOf entered) ns) (only-gone old new x o h) (only-gone new old y p k)

@@ -1,7 +1,7 @@
 -- Twins, moves with equal costs (Card 4): the list has of those that nothing dominates the lowest number alone.
-use Prim.Native.Nat.{ℕ, _≤_}
+use Prim.Native.Nat.{ℕ, _≤_, _<_}
 use mathlib.Core.Bool.{Bool, true, false, not, _&&_, _||_, and-false}
-use mathlib.Core.List.{List, [], _∷_, List·Memᴰ}
+use mathlib.Core.List.{List, List·Memᴰ}
 use mathlib.Core.Logic.{⊎-elim}
 use mathlib.Core.Path.{_≡_, refl, sym, ap, _∙_, subst}
 use native.Mathlib.Nat.{le-refl, le-of-lt}
@@ -15,23 +15,12 @@ use Rattle.model.specs.Dominance.{dominates, equalCosts, lowerTwin, hide
 use Rattle.model.specs.Lists.{hidden, skyline, band}
 use Rattle.model.specs.Sound.{Fit}
 use Rattle.model.specs.Laws.Bool.{byCases, testCases, not-back, both-ways}
-use Rattle.model.specs.Laws.Basics.{each-mem, mem-each, select-mem, select-ext, select-select, any-mem, any-ext, any-select}
-use Rattle.model.specs.Laws.Hiding.{equal-self, equal-sym, equal-dominated, lower-twin, twin-costs, twin-number, twin-hides, hides-cases}
+use Rattle.model.specs.Laws.Basics.{each-mem, mem-each, select-mem, select-ext, select-select, any-mem, any-ext, any-or, any-select}
+use Rattle.model.specs.Laws.Hiding.{equal-self, equal-sym, equal-trans, equal-dominated, dominates-hides, lower-twin, twin-costs, twin-number, twin-hides, hides-cases}
 use Rattle.model.specs.Laws.Skyline.{skyline-mem, mem-skyline, skyline-hider}
 use Rattle.model.specs.Laws.Queries.{undominated, band-zero}
 
 -- ---- the list and the undominated moves
-
-any-or : {A : Type 0} (p q : A → Bool) (xs : List A) → any (λ x. p x || q x) xs ≡ (any p xs || any q xs)
-unfolding any
-any-or p q [] = refl
-any-or p q (x ∷ xs) = ap (λ (b : Bool). (p x || q x) || b) (any-or p q xs) ∙ turn (p x) (q x) (any p xs) (any q xs)
-  where
-    turn : (a b c e : Bool) → ((a || b) || (c || e)) ≡ ((a || c) || (b || e))
-    turn true b c e = refl
-    turn false true true e = refl
-    turn false true false e = refl
-    turn false false c e = refl
 
 module _ (d : ℕ) where
   -- Of moves with equal costs the lowest number alone.
@@ -46,13 +35,17 @@ module _ (d : ℕ) where
     unfolding hidden hides lowerTwin
     hidden-either m = any-or (λ p. dominates d (p .costs) (m .costs)) (λ p. lowerTwin d p m) ms
 
+    twin-beaten : (p m : Move) → equalCosts d (p .costs) (m .costs) ≡ true → beaten p ≡ beaten m
+    twin-beaten p m t =
+        any-ext (λ x. dominates d (x .costs) (p .costs)) (λ x. dominates d (x .costs) (m .costs)) ms
+        (mem-each _ ms (λ x _. equal-dominated d (x .costs) (p .costs) (m .costs) t))
+
     -- a twin of an undominated move is undominated
     twin-unbeaten : (p m : Move) → beaten m ≡ false → lowerTwin d p m ≡ (not (beaten p) && lowerTwin d p m)
     unfolding lowerTwin
     twin-unbeaten p m e =
         testCases (λ (b : Bool). (b && ltb (p .number) (m .number)) ≡ (not (beaten p) && (b && ltb (p .number) (m .number)))) (equalCosts d (p .costs) (m .costs))
-        (λ t. let same : beaten p ≡ beaten m = any-ext (λ x. dominates d (x .costs) (p .costs)) (λ x. dominates d (x .costs) (m .costs)) ms (mem-each _ ms (λ x _. equal-dominated d (x .costs) (p .costs) (m .costs) t)) in
-        ap (λ (b : Bool). not b && ltb (p .number) (m .number)) (sym (same ∙ e)))
+        (λ t. ap (λ (b : Bool). not b && ltb (p .number) (m .number)) (sym (twin-beaten p m t ∙ e)))
         (λ t. sym (and-false (not (beaten p))))
 
     shown-alike : (m : Move) → not (hidden d ms m) ≡ (not (beaten m) && not (any (λ p. lowerTwin d p m) (undominated d ms)))
@@ -90,20 +83,30 @@ module _ (d : ℕ) where
     pub higher-twin-unlisted : (p m : Move) → List·Memᴰ p ms → lowerTwin d p m ≡ true → ¬ List·Memᴰ m (skyline d ms)
     higher-twin-unlisted p m i t k = listed-unhidden p k i (twin-hides d p m t)
 
+    -- no twin on the board has a lower number than a listed move
+    no-lower : {p m : Move} → List·Memᴰ p ms → List·Memᴰ m (skyline d ms) → equalCosts d (p .costs) (m .costs) ≡ true → m .number ≤ p .number
+    no-lower {p} {m} i k e =
+        byCases (ltb (p .number) (m .number))
+        (λ l. absurd (higher-twin-unlisted p m i (lower-twin d p m e (ltb-true (p .number) (m .number) l)) k))
+        (ltb-false (p .number) (m .number))
+
     -- Equal costs are listed once.
-    pub listed-once : {p m : Move} → List·Memᴰ p (skyline d ms) → List·Memᴰ m (skyline d ms) → equalCosts d (p .costs) (m .costs) ≡ true → p .number ≡ m .number
+    pub listed-once : {p m : Move} → List·Memᴰ p (skyline d ms) → List·Memᴰ m (skyline d ms) → equalCosts d (p .costs) (m .costs) ≡ true
+        → p .number ≡ m .number
     listed-once {p} {m} j k e =
-        omega (
-          arith,
-          ltb-false (p .number) (m .number) (not-lower p m j k e),
-          ltb-false (m .number) (p .number) (not-lower m p k j (equal-sym d (p .costs) (m .costs) e)),
-        )
-      where
-        not-lower : (p m : Move) → List·Memᴰ p (skyline d ms) → List·Memᴰ m (skyline d ms) → equalCosts d (p .costs) (m .costs) ≡ true → ltb (p .number) (m .number) ≡ false
-        not-lower p m j k e =
-            byCases (ltb (p .number) (m .number))
-            (λ l. absurd (higher-twin-unlisted p m (skyline-mem d ms j .0) (lower-twin d p m e (ltb-true (p .number) (m .number) l)) k))
-            (λ l. l)
+        omega (arith, no-lower (skyline-mem d ms j .0) k e, no-lower (skyline-mem d ms k .0) j (equal-sym d (p .costs) (m .costs) e))
+
+    -- What hides a twin of a listed move is a twin too, of a number between the two.
+    pub twin-hider : {x : Move} → List·Memᴰ x (skyline d ms) → (p y : Move) → List·Memᴰ p ms
+        → equalCosts d (x .costs) (y .costs) ≡ true → hides d p y ≡ true
+        → (equalCosts d (p .costs) (x .costs) ≡ true) × (x .number ≤ p .number) × (p .number < y .number)
+    twin-hider {x} k p y i e h =
+        ⊎-elim
+        (λ g. absurd (listed-unhidden p k i (dominates-hides d p x (equal-dominated d (p .costs) (x .costs) (y .costs) e ∙ g))))
+        (λ t.
+        let same = equal-trans d (p .costs) (y .costs) (x .costs) (twin-costs d p y t) (equal-sym d (x .costs) (y .costs) e) in
+        (same, no-lower i k same, twin-number d p y t))
+        (hides-cases d p y h)
 
 -- The listed move with the costs of an undominated one.
 pub record ShownBy (d : ℕ) (ms : List Move) (m : Move) : Type 0 where
