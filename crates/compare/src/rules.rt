@@ -34,9 +34,13 @@ fn beats(set: usize, p: Row, q: Row) -> bool {
     nowhere_greater(set, p, q) && !nowhere_greater(set, q, p)
 }
 
-// It beats the other on all costs, or its costs are the same and its number is lower.
+fn same_costs(p: Row, q: Row) -> bool {
+    nowhere_greater(ALL, p, q) && nowhere_greater(ALL, q, p)
+}
+
+// Card 4's words: it dominates the other, or its costs are equal and its number is lower.
 fn hides(p: Row, q: Row) -> bool {
-    nowhere_greater(ALL, p, q) && (!nowhere_greater(ALL, q, p) || number_of(p) < number_of(q))
+    beats(ALL, p, q) || (same_costs(p, q) && number_of(p) < number_of(q))
 }
 
 fn is_on(k: u32, set: usize, p: Row, q: Row) -> bool {

@@ -1,4 +1,4 @@
-//! Z-order, side and near corner of two moves' costs, by the highest bit in which they differ.
+//! Z-order, side and near corner of two moves' costs, by the highest bit in which they differ; and hiding.
 use crate::{Costs, Move};
 
 fn open_groups(p: &Costs, q: &Costs) -> u32 {
@@ -24,4 +24,9 @@ pub fn side(p: &Costs, q: &Costs) -> u32 {
 pub fn near(p: &Costs, q: &Costs) -> Costs {
     let open = open_groups(p, q);
     p.map(|cost| (u32::from(cost) >> open << open) as u16)
+}
+
+/// Whether p keeps q out of the list, in one pass: nowhere greater, and of the lower number or somewhere less.
+pub fn hides(p: &Move, q: &Move) -> bool {
+    p.costs.iter().zip(&q.costs).all(|(a, b)| a <= b) && (p.number < q.number || p.costs != q.costs)
 }

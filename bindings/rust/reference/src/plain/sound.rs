@@ -1,7 +1,6 @@
 //! Whether the memory is sound.
 use super::bytes::Head;
-use super::order::stands_before;
-use crate::dominance::hides;
+use super::order::{hides, stands_before};
 use crate::Move;
 
 fn head(m: &[u8]) -> Option<Head> {
@@ -59,7 +58,7 @@ fn heights_right(m: &[u8], head: Head) -> bool {
 pub fn hidden_before(m: &[u8], head: Head, i: usize, x: &Move) -> bool {
     (0..i).any(|j| {
         let p = head.move_at(m, j);
-        head.listed(m, p.number) && hides(4, &p, x)
+        head.listed(m, p.number) && hides(&p, x)
     })
 }
 

@@ -1,7 +1,7 @@
 //! What a change does to the list, found without writing.
 use super::bytes::Head;
+use super::order::hides;
 use super::set::Set;
-use crate::dominance::hides;
 use crate::Move;
 
 /// The place of the move that goes, and the move that comes.
@@ -19,11 +19,11 @@ pub struct Upkeep {
 }
 
 fn hidden_by_others(m: &[u8], head: Head, goes: Option<usize>, x: &Move) -> bool {
-    (0..head.n).any(|j| Some(j) != goes && hides(4, &head.move_at(m, j), x))
+    (0..head.n).any(|j| Some(j) != goes && hides(&head.move_at(m, j), x))
 }
 
 fn hidden_by_coming(change: &Change, x: &Move) -> bool {
-    change.comes.is_some_and(|coming| hides(4, &coming, x))
+    change.comes.is_some_and(|coming| hides(&coming, x))
 }
 
 /// Whether a move that is not listed comes up: that can be only where the going move is listed and hides it.
@@ -33,7 +33,7 @@ fn comes_up(m: &[u8], head: Head, change: &Change, x: &Move) -> bool {
     };
     let going = head.move_at(m, goes);
     head.listed(m, going.number)
-        && hides(4, &going, x)
+        && hides(&going, x)
         && !hidden_by_coming(change, x)
         && !hidden_by_others(m, head, change.goes, x)
 }
