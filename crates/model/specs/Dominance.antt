@@ -40,7 +40,7 @@ dominatesAt s p q = better (at s p) (at s q)
 unfoldable pub dominatesOn : ℕ → ℕ → List ℕ → List ℕ → Bool
 dominatesOn d k p q = any (λ s. dominatesAt s p q) (parts k (numbersFrom 0 d))
 
--- Twins have equal costs, the first d as in Definition 1.
+-- Card 4's twins: equal costs, the first d as in Definition 1.
 unfoldable pub equalCosts : ℕ → List ℕ → List ℕ → Bool
 equalCosts d p q = equal (take d p) (take d q)
 

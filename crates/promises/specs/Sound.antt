@@ -1,5 +1,6 @@
 -- "The memory is sound if it is at least 64·C + 1,024 bytes long for a C and d in range and holds such a tree, freed nodes
--- reusable, and a kept list equal to Definition 2's", with Card 4's rule. No node is stored, so none has to be freed (docs/DECISIONS.md).
+-- reusable, and a kept list equal to Definition 2's", with Card 4's rule. No node is stored, so none has to be freed
+-- (docs/DECISIONS.md).
 use Prim.Native.Nat.{ℕ, _<_, _≤_}
 use mathlib.Core.Bool.{true, false}
 use mathlib.Core.List.{List}

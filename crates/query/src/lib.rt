@@ -1,5 +1,5 @@
-// The other lists: band, on k and chosen costs are planned without writing; rank puts its rows in order
-// where they are lent. None has a `requires`: they refuse.
+// The other lists: band, on k and chosen costs are planned without writing; rank puts its rows in order where they are lent.
+// None has a `requires`: they refuse.
 mod kept;
 mod plan;
 mod ranked;

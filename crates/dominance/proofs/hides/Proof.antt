@@ -1,6 +1,5 @@
 -- `hides` meets its contract. Assumes nothing.
-use Prim.Native.Nat.{ℕ, _≤_}
-use mathlib.Core.Bool.{Bool, true, false, cond}
+use Prim.Native.Nat.{ℕ}
 use mathlib.Core.Path.{_≡_, sym, _∙_}
 use lib.Dec.{ltb}
 use lib.ListN.{length, length-map}
@@ -8,6 +7,7 @@ use native.Mathlib.Omega.{arith}
 use borrow.Author.Needs.{needs}
 use Rattle.zorder.specs.Address.{rowCosts}
 use Rattle.model.specs.Dominance.{less, lowerTwin, hides}
+use Rattle.model.specs.Laws.Basics.{at-most-one}
 use Rattle.dominance.specs.Laws.Sums.{lesser-few, sums-dominate-or-equal}
 use Rattle.dominance.proofs.hides.Statement.{statement}
 use Rattle.dominance.proofs.hides.Tie as tie
@@ -19,16 +19,12 @@ count-p c = sym (length-map (c .args .p .costs) (λ (v : ℕ). v)) ∙ c .good .
 count-q : (c : tie.Start) → length (c .args .q .costs) ≡ rowCosts
 count-q c = sym (length-map (c .args .q .costs) (λ (v : ℕ). v)) ∙ c .good .1 .1 .0 .1 .1 .1 .0 .1 .0 .1
 
-one-at-most : (b : Bool) → cond b 1 0 ≤ 1
-one-at-most true = omega arith
-one-at-most false = omega arith
-
 add-result : tie.Need-add-result
 add-result c =
     let s = c .before .before .sums-over-first in
     let lower = c .before .before .before .before .before .less in
     let a = c .before .before .before .before .before .before .args in
-    omega (arith, lower .ensures, one-at-most (less (a .p .number) (a .q .number)), lesser-few (a .d) (a .p .costs) (a .q .costs) (s .result) (s .ensures))
+    omega (arith, lower .ensures, at-most-one (less (a .p .number) (a .q .number)), lesser-few (a .d) (a .p .costs) (a .q .costs) (s .result) (s .ensures))
 
 returns : tie.Need-returns
 unfolding hides lowerTwin less

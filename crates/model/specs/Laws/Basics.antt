@@ -1,10 +1,11 @@
 -- Lists: members, the entries that pass a test, and how many.
-use Prim.Native.Nat.{ℕ, zero, suc, _+_, _<_}
+use Prim.Native.Nat.{ℕ, zero, suc, _+_, _≤_, _<_}
 use mathlib.Core.Bool.{Bool, true, false, cond, _&&_, _||_, or-assoc, and-assoc}
 use mathlib.Core.List.{List, [], _∷_, _++_, map, List·Memᴰ, List·Memᴰ·head, List·Memᴰ·tail, List·Memᴰ·not-nil, List·Memᴰ·cases-cons}
 use mathlib.Core.Logic.{_⊎_, inl, inr, ⊎-elim}
 use mathlib.Core.Path.{_≡_, refl, sym, ap, ap₂, _∙_, subst}
 use native.Mathlib.Nat.{zero-lt-suc, not-suc-le-zero, le-of-suc-le-suc}
+use native.Mathlib.Omega.{arith}
 use lib.Dec.{eqb}
 use lib.ListN.{length, getD, set, length-append, length-map}
 use borrow.Author.Tests.{eqb-true, eq-eqb}
@@ -299,3 +300,9 @@ equal-true [] (q ∷ qs) h = both-ways h refl
 equal-true (p ∷ ps) [] h = both-ways h refl
 equal-true (p ∷ ps) (q ∷ qs) h =
     ap₂ _∷_ (eqb-true p q (and-left (eqb p q) (equal ps qs) h)) (equal-true ps qs (and-right (eqb p q) (equal ps qs) h))
+
+-- ---- a test as a number
+
+pub at-most-one : (b : Bool) → cond b 1 0 ≤ 1
+at-most-one true = omega arith
+at-most-one false = omega arith

@@ -16,8 +16,8 @@ use Rattle.model.specs.Lists.{hidden, skyline}
 use Rattle.model.specs.Withdrawing.{without}
 use Rattle.model.specs.Calls.{Answer, accepted, refusedWith, orElse, rowsAnswer, Board, Change, enter, withdraw, recost, onBoard, changeRefusal, changedMoves, changed, listOf, changeNotice, changeAnswer}
 use Rattle.model.specs.Sound.{Fit, SoundBoard}
-use Rattle.model.specs.Laws.Bool.{condCases}
-use Rattle.model.specs.Laws.Basics.{Once, each-mem, mem-each, select-mem, any-none}
+use Rattle.model.specs.Laws.Bool.{condCases, not-flip}
+use Rattle.model.specs.Laws.Basics.{Once, each-mem, mem-each, select-mem, mem-select, any-none}
 use Rattle.model.specs.Laws.Sorting.{insert-mem}
 use Rattle.model.specs.Laws.Order.{has-numbers, distinct-cons, distinct-insert, distinct-select, distinct-once, mem-number}
 use Rattle.model.specs.Laws.Numbers.{except, except-mem, except-length, distinct-except, once-append, once-distinct, distinct-length}
@@ -36,11 +36,15 @@ change-number b (recost n costs) h = leb-false (b .size) n (first-passes (leb (b
 
 -- ---- the moves after it
 
-without-number : {m : Move} (n : ℕ) (ms : List Move) → List·Memᴰ m (without n ms) → List·Memᴰ m ms × (eqb (m .number) n ≡ false)
+pub without-number : {m : Move} (n : ℕ) (ms : List Move) → List·Memᴰ m (without n ms) → List·Memᴰ m ms × (eqb (m .number) n ≡ false)
 unfolding without
 without-number {m} n ms k =
     let r = select-mem (λ m. not (eqb (m .number) n)) ms k in
     (r .0, not-true (eqb (m .number) n) (r .1))
+
+pub mem-without : {m : Move} (n : ℕ) {ms : List Move} → List·Memᴰ m ms → eqb (m .number) n ≡ false → List·Memᴰ m (without n ms)
+unfolding without
+mem-without {m} n k e = mem-select (λ m. not (eqb (m .number) n)) k (not-flip (eqb (m .number) n) e)
 
 pub off-without : (n : ℕ) (ms : List Move) → onBoard n (without n ms) ≡ false
 unfolding onBoard
@@ -58,13 +62,16 @@ unfolding insert
 distinct-put d n costs ms o =
     distinct-insert (λ m. m .number) (moveBefore d) (record { number = n; costs = costs }) ms (has-numbers n ms ∙ o)
 
+-- The number of a move that may enter is free.
+pub enter-off : (b : Board) (n : ℕ) (costs : List ℕ) → changeRefusal b (enter n costs) ≡ 0 → onBoard n (b .moves) ≡ false
+unfolding changeRefusal
+enter-off b n costs h =
+    first-passes (onBoard n (b .moves)) 4 [] (rest-passes (costPastBad (b .dimension) costs) 6 _ (rest-passes (leb (b .size) n) 3 _ h))
+
 pub changed-distinct : (b : Board) (x : Change) → distinct (map (λ m. m .number) (b .moves)) ≡ true → changeRefusal b x ≡ 0
     → distinct (map (λ m. m .number) (changed b x .moves)) ≡ true
-unfolding changed changedMoves changeRefusal
-changed-distinct b (enter n costs) s h =
-    distinct-put (b .dimension) n costs (b .moves)
-    (first-passes (onBoard n (b .moves)) 4 [] (rest-passes (costPastBad (b .dimension) costs) 6 _ (rest-passes (leb (b .size) n) 3 _ h)))
-    s
+unfolding changed changedMoves
+changed-distinct b (enter n costs) s h = distinct-put (b .dimension) n costs (b .moves) (enter-off b n costs h) s
 changed-distinct b (withdraw n) s h = distinct-without n (b .moves) s
 changed-distinct b (recost n costs) s h =
     distinct-put (b .dimension) n costs (without n (b .moves)) (off-without n (b .moves)) (distinct-without n (b .moves) s)

@@ -11,9 +11,9 @@ use Rattle.model.specs.Moves.{Move, moveBefore, insert, ordered}
 use Rattle.model.specs.Dominance.{hides}
 use Rattle.model.specs.Lists.{hidden, skyline}
 use Rattle.model.specs.Sound.{Fit}
-use Rattle.model.specs.Laws.Bool.{byCases, not-flip, not-back, or-cases, or-swap, same-test, both-ways}
+use Rattle.model.specs.Laws.Bool.{byCases, not-flip, not-back, same-test, both-ways}
 use Rattle.model.specs.Laws.Basics.{Once, each-mem, mem-each, each-left, each-right, select-append, select-mem, mem-select, select-ext, once-select, any-append, any-mem, any-witness, any-none}
-use Rattle.model.specs.Laws.Sorting.{StrictOrder, BeforeEach, asym, any-insert, rising-left, rising-right, rising-head, rising-across, rising-select, rising-once}
+use Rattle.model.specs.Laws.Sorting.{StrictOrder, BeforeEach, asym, any-insert, rising-left, rising-right, rising-head, rising-across, rising-select}
 use Rattle.model.specs.Laws.Order.{move-order}
 use Rattle.model.specs.Laws.Hiding.{Hiding, move-hiding}
 
@@ -72,20 +72,6 @@ module _ {A : Type 0} (hides : A → A → Bool) where
   -- An entry more.
   pub insert-hidden : (lt : A → A → Bool) (x : A) (ms : List A) (m : A) → hiddenIn hides (insertBy lt x ms) m ≡ (hiddenIn hides ms m || hides x m)
   insert-hidden lt x ms m = any-insert lt (λ p. hides p m) x ms ∙ or-comm (hides x m) (hiddenIn hides ms m)
-
-  -- An entry less.
-  module _ (xs : List A) (g : A) (ys : List A) where
-    pub remove-hidden : (m : A) → hiddenIn hides (xs ++ g ∷ ys) m ≡ (hides g m || hiddenIn hides (xs ++ ys) m)
-    unfolding any
-    remove-hidden m =
-        any-append (λ p. hides p m) xs (g ∷ ys)
-        ∙ or-swap (hiddenIn hides xs m) (hides g m) (hiddenIn hides ys m)
-        ∙ ap (λ (b : Bool). hides g m || b) (sym (any-append (λ p. hides p m) xs ys))
-
-    -- What only g hid ..
-    pub remove-shown : (m : A) → hiddenIn hides (xs ++ g ∷ ys) m ≡ true → hiddenIn hides (xs ++ ys) m ≡ false → hides g m ≡ true
-    remove-shown m e n =
-        or-cases (hides g m) (hiddenIn hides (xs ++ ys) m) (sym (remove-hidden m) ∙ e) (λ h. h) (λ h. both-ways h n)
 
 -- ---- what holds of a list in order
 
@@ -167,17 +153,12 @@ module _ {A : Type 0} {P : A → Type 0} {lt hides : A → A → Bool} (o : Stri
     pub unhidden-rising : rising lt (unhidden hides ms) ≡ true
     unhidden-rising = rising-select P lt o (λ m. not (hiddenIn hides ms m)) ms es r
 
-    pub unhidden-once : Once (unhidden hides ms)
-    unhidden-once = once-select (λ m. not (hiddenIn hides ms m)) ms (rising-once P lt o ms es r)
-
   -- Of the earlier entries only the listed need to be looked at.
   pub earlier-listed-enough : (xs : List A) (m : A) (ys : List A) → Each P (xs ++ m ∷ ys) → rising lt (xs ++ m ∷ ys) ≡ true
       → hiddenIn hides (xs ++ m ∷ ys) m ≡ hiddenIn hides (unhidden hides xs) m
   earlier-listed-enough xs m ys es r =
       earlier-enough xs m ys es r
       ∙ listed-enough xs (each-left P xs (m ∷ ys) es) (rising-left lt xs (m ∷ ys) r) m (each-right P xs (m ∷ ys) es .0)
-
-  -- ---- the first entry is listed
 
   -- ---- a pass from the front finds the list
 
@@ -224,10 +205,9 @@ module _ (d : ℕ) where
   unfolding hidden insert
   enter-hidden = insert-hidden (hides d) (moveBefore d)
 
-  module _ (xs : List Move) (g : Move) (ys : List Move) where
-    pub leave-shown : (m : Move) → hidden d (xs ++ g ∷ ys) m ≡ true → hidden d (xs ++ ys) m ≡ false → hides d g m ≡ true
-    unfolding hidden
-    leave-shown = remove-shown (hides d) xs g ys
+  pub skyline-once : (ms : List Move) → Once ms → Once (skyline d ms)
+  unfolding skyline
+  skyline-once ms = once-select (λ m. not (hidden d ms m)) ms
 
 module _ (d c : ℕ) (l : d ≤ rowCosts) where
   module _ (ms : List Move) (es : Each (Fit c d) ms) (r : ordered d ms ≡ true) where
@@ -246,10 +226,6 @@ module _ (d c : ℕ) (l : d ≤ rowCosts) where
     pub skyline-ordered : ordered d (skyline d ms) ≡ true
     unfolding skyline hidden ordered
     skyline-ordered = unhidden-rising (move-order d c l) (move-hiding d c l) ms es r
-
-    pub skyline-once : Once (skyline d ms)
-    unfolding skyline hidden ordered
-    skyline-once = unhidden-once (move-order d c l) (move-hiding d c l) ms es r
 
   module _ (xs : List Move) (m : Move) (ys : List Move) (es : Each (Fit c d) (xs ++ m ∷ ys)) (r : ordered d (xs ++ m ∷ ys) ≡ true) where
     pub skyline-earlier : hidden d (xs ++ m ∷ ys) m ≡ hidden d xs m

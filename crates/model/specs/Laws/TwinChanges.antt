@@ -1,32 +1,30 @@
 -- What a notice tells where twins stand (Card 4): a listed move that is withdrawn brings up its next twin and no other move,
 -- and one that a twin of a lower number joins leaves.
 use Prim.Native.Nat.{ℕ, _≤_, _<_}
-use mathlib.Core.Bool.{true, false, not, _&&_, false≢true}
+use mathlib.Core.Bool.{true, false, _&&_, false≢true}
 use mathlib.Core.List.{List, [], _∷_, map, List·Memᴰ, List·Memᴰ·head, List·Memᴰ·tail, List·Memᴰ·cases-cons, Memᴰ·cast}
 use mathlib.Core.Logic.{_⊎_, inl, inr, ⊎-elim}
 use mathlib.Core.Path.{_≡_, refl, sym, ap, _∙_}
 use native.Mathlib.Omega.{arith}
-use lib.Dec.{leb, ltb, eqb}
-use borrow.Author.Tests.{ltb-true, ltb-false, eqb-true, eq-eqb, ne-eqb}
-use Rattle.zorder.specs.Refusal.{costPastBad}
-use Rattle.zorder.specs.Laws.Refusal.{first-passes, rest-passes}
+use lib.Dec.{ltb, eqb}
+use borrow.Author.Tests.{ltb-true, ltb-false, eqb-true, ne-eqb}
 use Rattle.model.specs.Basics.{any, distinct}
 use Rattle.model.specs.Moves.{Move, rowOf, moveBefore, insert, left, entered}
 use Rattle.model.specs.Dominance.{equalCosts, lowerTwin, hides}
 use Rattle.model.specs.Lists.{hidden, skyline}
 use Rattle.model.specs.Withdrawing.{without}
-use Rattle.model.specs.Calls.{Board, Change, enter, withdraw, onBoard, changeRefusal, changed, changedMoves, listOf, changeNotice}
+use Rattle.model.specs.Calls.{Board, Change, enter, withdraw, changeRefusal, changed, changedMoves, listOf, changeNotice}
 use Rattle.model.specs.Sound.{SoundBoard}
-use Rattle.model.specs.Laws.Bool.{byCases, and-left, and-right, and-drop-left, not-flip, or-cases, both-ways}
-use Rattle.model.specs.Laws.Basics.{Once, select-mem, mem-select, once-select, any-mem, any-witness}
+use Rattle.model.specs.Laws.Bool.{byCases, and-left, and-right, and-drop-left, or-cases, both-ways}
+use Rattle.model.specs.Laws.Basics.{Once, any-mem, any-witness}
 use Rattle.model.specs.Laws.Sorting.{insert-mem, mem-insert-new, mem-insert-old}
 use Rattle.model.specs.Laws.Order.{distinct-once, mem-number, off-board}
 use Rattle.model.specs.Laws.Hiding.{equal-sym, equal-trans, equal-dominates, dominates-hides, lower-twin, twin-costs, twin-number, hides-cases, hides-irrefl}
-use Rattle.model.specs.Laws.Skyline.{skyline-mem, mem-skyline}
+use Rattle.model.specs.Laws.Skyline.{skyline-mem, mem-skyline, skyline-once}
 use Rattle.model.specs.Laws.Twins.{listed-unhidden, higher-twin-unlisted, listed-once, twin-hider}
 use Rattle.model.specs.Laws.Notice.{OnlyIn, two-rows, notice-left}
 use Rattle.model.specs.Laws.Withdrawing.{without-gone}
-use Rattle.model.specs.Laws.Changes.{distinct-without, changed-distinct}
+use Rattle.model.specs.Laws.Changes.{without-number, mem-without, distinct-without, enter-off, changed-distinct}
 
 -- ---- the next twin
 
@@ -172,8 +170,7 @@ module _ (d : ℕ) (ms more : List Move) (y : Move) (o : OneMore ms more y) wher
 -- ---- changes of a board
 
 list-once : (d : ℕ) (ms : List Move) → distinct (map (λ m. m .number) ms) ≡ true → Once (skyline d ms)
-unfolding skyline
-list-once d ms h = once-select (λ m. not (hidden d ms m)) ms (distinct-once (λ m. m .number) ms h)
+list-once d ms h = skyline-once d ms (distinct-once (λ m. m .number) ms h)
 
 -- A change by which a twin of a lower number is on the board: the listed move leaves.
 pub twin-leaves : (b : Board) (c : Change) (p x : Move) → List·Memᴰ x (listOf b) → List·Memᴰ p (changed b c .moves)
@@ -198,16 +195,12 @@ module _ (b : Board) (s : SoundBoard b) (x : Move) (listed : List·Memᴰ x (lis
     abbrev y : Move
     y = record { number = n; costs = costs }
 
-    off : onBoard n ms ≡ false
-    unfolding changeRefusal
-    off = first-passes (onBoard n ms) 4 [] (rest-passes (costPastBad d costs) 6 _ (rest-passes (leb (b .size) n) 3 _ passes))
-
     with-y : OneMore ms (insert d y ms) y
     unfolding insert
     with-y =
         record {
           new = mem-insert-new (moveBefore d) y ms;
-          off = off-board y ms off;
+          off = off-board y ms (enter-off b n costs passes);
           old = λ m. mem-insert-old (moveBefore d) y;
           either = λ m. insert-mem (moveBefore d) y ms;
         }
@@ -230,13 +223,7 @@ module _ (b : Board) (s : SoundBoard b) (x : Move) (listed : List·Memᴰ x (lis
     on-it = skyline-mem d ms listed .0
 
     rest-mem : (m : Move) → List·Memᴰ m rest → List·Memᴰ m ms
-    unfolding without
-    rest-mem m k = select-mem (λ m. not (eqb (m .number) (x .number))) ms k .0
-
-    mem-rest : (m : Move) → List·Memᴰ m ms → ¬ (m .number ≡ x .number) → List·Memᴰ m rest
-    unfolding without
-    mem-rest m k f =
-        mem-select (λ m. not (eqb (m .number) (x .number))) k (not-flip (eqb (m .number) (x .number)) (ne-eqb (m .number) (x .number) f))
+    rest-mem m k = without-number (x .number) ms k .0
 
     with-x : OneMore rest ms x
     with-x =
@@ -247,7 +234,7 @@ module _ (b : Board) (s : SoundBoard b) (x : Move) (listed : List·Memᴰ x (lis
           either = λ m k.
               byCases (eqb (m .number) (x .number))
               (λ e. inl (same-number m x k on-it (eqb-true (m .number) (x .number) e)))
-              (λ e. inr (mem-rest m k (λ g. both-ways (eq-eqb (m .number) (x .number) g) e)));
+              (λ e. inr (mem-without (x .number) k e));
         }
 
     -- another twin of x has no lower number than w
@@ -264,7 +251,7 @@ module _ (b : Board) (s : SoundBoard b) (x : Move) (listed : List·Memᴰ x (lis
     next-listed : List·Memᴰ w (skyline d rest)
     unfolding hidden listOf
     next-listed =
-        mem-skyline d (mem-rest w (h .there) (λ e. omega (arith, twin-number d x w (h .twin))))
+        mem-skyline d (mem-without (x .number) (h .there) (ne-eqb (w .number) (x .number) (λ e. omega (arith, twin-number d x w (h .twin)))))
         (byCases (hidden d rest w)
         (λ g.
         let v = any-witness (λ p. hides d p w) rest g in

@@ -28,42 +28,42 @@ module _ (d : ℕ) where
   lowestTwins ms = select (λ m. not (any (λ p. lowerTwin d p m) ms)) ms
 
   module _ (ms : List Move) where
-    abbrev beaten : Move → Bool
-    beaten m = any (λ p. dominates d (p .costs) (m .costs)) ms
+    abbrev isDominated : Move → Bool
+    isDominated m = any (λ p. dominates d (p .costs) (m .costs)) ms
 
-    hidden-either : (m : Move) → hidden d ms m ≡ (beaten m || any (λ p. lowerTwin d p m) ms)
+    hidden-either : (m : Move) → hidden d ms m ≡ (isDominated m || any (λ p. lowerTwin d p m) ms)
     unfolding hidden hides lowerTwin
     hidden-either m = any-or (λ p. dominates d (p .costs) (m .costs)) (λ p. lowerTwin d p m) ms
 
-    twin-beaten : (p m : Move) → equalCosts d (p .costs) (m .costs) ≡ true → beaten p ≡ beaten m
-    twin-beaten p m t =
+    twin-dominated : (p m : Move) → equalCosts d (p .costs) (m .costs) ≡ true → isDominated p ≡ isDominated m
+    twin-dominated p m t =
         any-ext (λ x. dominates d (x .costs) (p .costs)) (λ x. dominates d (x .costs) (m .costs)) ms
         (mem-each _ ms (λ x _. equal-dominated d (x .costs) (p .costs) (m .costs) t))
 
     -- a twin of an undominated move is undominated
-    twin-unbeaten : (p m : Move) → beaten m ≡ false → lowerTwin d p m ≡ (not (beaten p) && lowerTwin d p m)
+    twin-undominated : (p m : Move) → isDominated m ≡ false → lowerTwin d p m ≡ (not (isDominated p) && lowerTwin d p m)
     unfolding lowerTwin
-    twin-unbeaten p m e =
-        testCases (λ (b : Bool). (b && ltb (p .number) (m .number)) ≡ (not (beaten p) && (b && ltb (p .number) (m .number)))) (equalCosts d (p .costs) (m .costs))
-        (λ t. ap (λ (b : Bool). not b && ltb (p .number) (m .number)) (sym (twin-beaten p m t ∙ e)))
-        (λ t. sym (and-false (not (beaten p))))
+    twin-undominated p m e =
+        testCases (λ (b : Bool). (b && ltb (p .number) (m .number)) ≡ (not (isDominated p) && (b && ltb (p .number) (m .number)))) (equalCosts d (p .costs) (m .costs))
+        (λ t. ap (λ (b : Bool). not b && ltb (p .number) (m .number)) (sym (twin-dominated p m t ∙ e)))
+        (λ t. sym (and-false (not (isDominated p))))
 
-    shown-alike : (m : Move) → not (hidden d ms m) ≡ (not (beaten m) && not (any (λ p. lowerTwin d p m) (undominated d ms)))
+    shown-alike : (m : Move) → not (hidden d ms m) ≡ (not (isDominated m) && not (any (λ p. lowerTwin d p m) (undominated d ms)))
     unfolding undominated
     shown-alike m =
         ap not (hidden-either m)
-        ∙ testCases (λ (b : Bool). not (b || any (λ p. lowerTwin d p m) ms) ≡ (not b && not (any (λ p. lowerTwin d p m) (undominated d ms)))) (beaten m)
+        ∙ testCases (λ (b : Bool). not (b || any (λ p. lowerTwin d p m) ms) ≡ (not b && not (any (λ p. lowerTwin d p m) (undominated d ms)))) (isDominated m)
         (λ e. refl)
         (λ e. ap not
-        (any-ext (λ p. lowerTwin d p m) (λ p. not (beaten p) && lowerTwin d p m) ms (mem-each _ ms (λ p _. twin-unbeaten p m e))
-        ∙ sym (any-select (λ p. lowerTwin d p m) (λ p. not (beaten p)) ms)))
+        (any-ext (λ p. lowerTwin d p m) (λ p. not (isDominated p) && lowerTwin d p m) ms (mem-each _ ms (λ p _. twin-undominated p m e))
+        ∙ sym (any-select (λ p. lowerTwin d p m) (λ p. not (isDominated p)) ms)))
 
     -- The list: the undominated moves with, of equal costs, the lowest number alone.
     pub skyline-twins : skyline d ms ≡ lowestTwins (undominated d ms)
     unfolding skyline lowestTwins undominated
     skyline-twins =
-        select-ext (λ m. not (hidden d ms m)) (λ m. not (beaten m) && not (any (λ p. lowerTwin d p m) (undominated d ms))) ms (mem-each _ ms (λ m _. shown-alike m))
-        ∙ sym (select-select (λ m. not (any (λ p. lowerTwin d p m) (undominated d ms))) (λ m. not (beaten m)) ms)
+        select-ext (λ m. not (hidden d ms m)) (λ m. not (isDominated m) && not (any (λ p. lowerTwin d p m) (undominated d ms))) ms (mem-each _ ms (λ m _. shown-alike m))
+        ∙ sym (select-select (λ m. not (any (λ p. lowerTwin d p m) (undominated d ms))) (λ m. not (isDominated m)) ms)
 
     pub listed-undominated : {m : Move} → List·Memᴰ m (skyline d ms) → List·Memᴰ m (undominated d ms)
     unfolding lowestTwins

@@ -1,6 +1,6 @@
 -- The places of a board as a list of numbers, and the moves at them.
 use Prim.Native.Nat.{ℕ, zero, suc, _+_, _≤_}
-use mathlib.Core.Bool.{Bool, true, false, not, cond}
+use mathlib.Core.Bool.{Bool, true, not, cond}
 use mathlib.Core.List.{List, [], _∷_, _++_, map}
 use mathlib.Core.Path.{_≡_, refl, sym, ap, ap₂, _∙_}
 use native.Mathlib.Nat.{add-zero, add-suc, suc-add, zero-add}
@@ -10,7 +10,7 @@ use borrow.Author.Tests.{eq-eqb, ne-eqb}
 use lib.Dec.{eqb}
 use Rattle.model.specs.Basics.{consIf, select, any, count, numbersFrom}
 use Rattle.model.specs.Moves.{Move}
-use Rattle.model.specs.Laws.Basics.{select-all, any-map, count-append, count-cons}
+use Rattle.model.specs.Laws.Basics.{select-all, any-map, count-append, count-cons, at-most-one}
 use Rattle.model.specs.Laws.Range.{each-numbers, numbers-append}
 use Rattle.promises.specs.Layout.{tab}
 use Rattle.memory.specs.Tests.{anyTo}
@@ -22,10 +22,6 @@ use Rattle.upkeep.specs.Change.{dropAt}
 pub numbers-more : (n : ℕ) → numbersFrom 0 (n + 1) ≡ numbersFrom 0 n ++ n ∷ []
 unfolding numbersFrom
 numbers-more n = numbers-append 0 n 1 ∙ ap (λ (k : ℕ). numbersFrom 0 n ++ k ∷ []) (zero-add n)
-
-at-most-one : (b : Bool) → cond b 1 0 ≤ 1
-at-most-one true = omega arith
-at-most-one false = omega arith
 
 module _ (p : ℕ → Bool) where
   pub count-more : (n : ℕ) → count p (numbersFrom 0 (n + 1)) ≡ count p (numbersFrom 0 n) + cond (p n) 1 0
