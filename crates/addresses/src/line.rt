@@ -1,8 +1,9 @@
-// A line of the input as far as it was read: a letter, then numbers, up to the sign `=`.
+// A line of the input as far as it was read: a letter, then numbers, up to the sign `=`. The digit of its name is its first
+// number.
 use zorder::COSTS;
 
-// d and a row's costs; no line has more numbers.
-pub const VALUES: usize = 1 + COSTS;
+// The name's digit, d and a row's costs; no line has more numbers.
+pub const VALUES: usize = 2 + COSTS;
 
 pub struct Line {
     pub letter: u8,

@@ -107,14 +107,24 @@ fn change(b: Plain, t: &Table, s: usize, growing: bool) -> Call {
     }
 }
 
-// The argument is mostly small, at times at the ends of the range and past them.
+// The argument is mostly small, at times at the ends of the range and past them; of chosen costs any set, none or one too many.
+fn argument(b: Plain, n: usize, letter: u8) -> usize {
+    if n % 60 < 10 {
+        4094 + n % 4
+    } else if letter == b'S' {
+        n / 64 % (1 + (1usize << (b.d % (COSTS + 1))) % 512)
+    } else {
+        n % 10
+    }
+}
+
 fn reading(b: Plain, s: usize, letter: u8) -> Call {
     let n = s / 65536;
     Call {
         letter,
         number: 0,
         row: [0u16; ROW],
-        argument: if n % 60 < 10 { 4094 + n % 4 } else { n % 10 },
+        argument: argument(b, n, letter),
         lent: lent(b, s / 4096),
     }
 }

@@ -1,6 +1,7 @@
 // Addresses and regions for C and Rust: the calls of `zorder` with plain structs. They refuse as those do.
 use zorder::COSTS;
 use zorder::Verdict;
+use zorder::Words;
 ghost use mathlib.Core.Path.{_≡_};
 ghost use Rattle.zorder.specs.Promise.{numberOf};
 ghost use Rattle.dolzhev_zorder.specs.Exported.{AddressExported, CostsExported, RegionExported};
@@ -15,7 +16,7 @@ pub struct Costs {
 pub struct AddressOf {
     pub refusal: usize,
     pub detail: usize,
-    pub address: u64,
+    pub address: Words,
 }
 
 #[repr(C)]
@@ -51,15 +52,16 @@ pub extern "C" fn dolzhev_address(d: usize, costs: Costs) -> AddressOf
     let cs = costs.costs;
     let r = zorder::address(d, cs);
     let v = r.verdict;
+    let address = r.address;
     AddressOf {
         refusal: number_of(v),
         detail: 0,
-        address: r.address,
+        address,
     }
 }
 
 #[no_mangle]
-pub extern "C" fn dolzhev_costs_of(d: usize, address: u64) -> CostsOf
+pub extern "C" fn dolzhev_costs_of(d: usize, address: Words) -> CostsOf
     ensures { λ r. ⌜ CostsExported d address r ⌝ }
 {
     let r = zorder::costs(d, address);
@@ -74,7 +76,7 @@ pub extern "C" fn dolzhev_costs_of(d: usize, address: u64) -> CostsOf
 }
 
 #[no_mangle]
-pub extern "C" fn dolzhev_region(d: usize, a: u64, b: u64) -> RegionOf
+pub extern "C" fn dolzhev_region(d: usize, a: Words, b: Words) -> RegionOf
     ensures { λ r. ⌜ RegionExported d a b r ⌝ }
 {
     let r = zorder::region(d, a, b);

@@ -6,10 +6,10 @@ use mathlib.Core.Logic.{_↔_}
 use mathlib.Core.Path.{_≡_, refl, sym, ap, subst, _∙_}
 use native.Mathlib.Nat.{mod-eq-of-lt, div-eq-of-lt, div-lt-iff-lt-mul, le-div-iff-mul-le, add-mul, sub-add-cancel, lt-of-lt-of-le, lt-of-not-le, le-of-suc-le-suc, pow-suc, one-mul}
 use native.Mathlib.Omega.{arith}
-use borrow.Author.Tests.{leb-true, leb-false, eq-eqb, ne-eqb}
+use borrow.Author.Tests.{leb-true, leb-false, lt-ltb, le-ltb}
 use lib.Bits.{bitAnd, bitOr, bitXor, and-mask, or-shifted, and-le-l, and-le-r, or-add-and, xor-add-and, xor-self, xor-lt, xor-shr}
-use lib.Count.{leadingZeros, leading-length}
-use lib.Dec.{leb, eqb}
+use lib.Count.{leadingZeros, leading-le, leading-length}
+use lib.Dec.{leb, ltb}
 use lib.Arith.{digits-lt}
 use lib.Pow.{pow-pos, pow-mono, pow-add, shl-exact, shr-lt, ones-lt}
 
@@ -28,13 +28,6 @@ shl-one w k h = shl-exact {a = 1} 1 k w (omega arith) (omega arith) ∙ one-mul 
 -- A shift to the right leaves 0 of the numbers below the power, and of no others.
 pub lt-of-shr-zero : (a k : ℕ) → a / 2 ^ k ≡ 0 → a < 2 ^ k
 lt-of-shr-zero a k e = omega (arith, div-lt-iff-lt-mul {x = a} {y = 1} (pow-pos k) .0 (omega arith))
-
-pub shr-nonzero : (a k : ℕ) → not (eqb (a / 2 ^ k) 0) ≡ leb (2 ^ k) a
-shr-nonzero a k = by-test (leb (2 ^ k) a) refl
-  where
-    by-test : (b : Bool) → leb (2 ^ k) a ≡ b → not (eqb (a / 2 ^ k) 0) ≡ b
-    by-test true e = ap not (ne-eqb (a / 2 ^ k) 0 (λ z. omega (arith, lt-of-shr-zero a k z, leb-true (2 ^ k) a e)))
-    by-test false e = ap not (eq-eqb (a / 2 ^ k) 0 (div-eq-of-lt (leb-false (2 ^ k) a e)))
 
 -- Ones in the place of a number's last u bits keep it within its width.
 pub fill-ones-lt : (w u a : ℕ) → u ≤ w → a < 2 ^ w → a / 2 ^ u * 2 ^ u + (2 ^ u - 1) < 2 ^ w
@@ -80,6 +73,17 @@ shr-zero-iff w a fits k =
       λ z. omega (arith, s .1, length-le a k (s .0) (lt-of-shr-zero a k z) (s .3)),
       λ l. div-eq-of-lt (lt-of-lt-of-le (s .2) (pow-mono {i = s .0} (omega (arith, s .1)))),
     )
+
+-- Fewer leading zeros than w - k are those of a number that has a bit from k on.
+pub leading-large : (w k a : ℕ) → a < 2 ^ w → k ≤ w → ltb (leadingZeros w a) (w - k) ≡ leb (2 ^ k) a
+leading-large w k a fits within = by-test (leb (2 ^ k) a) refl
+  where
+    left : (a / 2 ^ k ≡ 0) ↔ (w - leadingZeros w a ≤ k)
+    left = shr-zero-iff w a fits k
+
+    by-test : (b : Bool) → leb (2 ^ k) a ≡ b → ltb (leadingZeros w a) (w - k) ≡ b
+    by-test true e = lt-ltb (leadingZeros w a) (w - k) (lt-of-not-le (λ l. omega (arith, lt-of-shr-zero a k (left .1 (omega arith)), leb-true (2 ^ k) a e)))
+    by-test false e = le-ltb (leadingZeros w a) (w - k) (omega (arith, left .0 (div-eq-of-lt (leb-false (2 ^ k) a e)), leading-le w a))
 
 -- Two numbers of w bits agree from bit k on where all places from k on are leading zeros of their exclusive or.
 pub shr-eq-leading : (w a b : ℕ) → a < 2 ^ w → b < 2 ^ w → (k : ℕ) → (a / 2 ^ k ≡ b / 2 ^ k) ↔ (w - leadingZeros w (bitXor a b) ≤ k)

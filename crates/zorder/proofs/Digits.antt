@@ -27,16 +27,21 @@ module _ {m : ℕ} {digit value : ℕ → ℕ} (D : Digits m digit value) where
   value-lt zero = rw (D .none, mul-zero) (omega arith)
   value-lt (suc k) = rw (D .more k, power k) (digits-lt (D .small k) (value-lt k))
 
-  digit-in-suc : (w n a k : ℕ) → m * n ≤ w → Whole m value n a (suc k) → Whole m value n (bitOr (a * 2 ^ m % 2 ^ w) (digit k)) k
-  digit-in-suc w n a k room inv =
+  -- One digit more, and room for it.
+  digit-more-suc : (n a k : ℕ) → Whole m value n a (suc k) → Whole m value n (a * 2 ^ m + digit k) k × (a * 2 ^ m < 2 ^ (m * n))
+  digit-more-suc n a k inv =
       let sum : a * (2 ^ m * 2 ^ (m * k)) + (digit k * 2 ^ (m * k) + value k) ≡ value n = rw (power k, D .more k) at inv in
-      let below : a * 2 ^ m < 2 ^ (m * n) = omega (arith, mul-le-mul-left (a * 2 ^ m) (pow-pos (m * k)), value-lt n) in
-      rw (shl-or w m a (digit k) (lt-of-lt-of-le below (pow-mono room)) (D .small k)) (omega arith)
+      (omega arith, omega (arith, mul-le-mul-left (a * 2 ^ m) (pow-pos (m * k)), value-lt n))
+
+  pub digit-more : (n a j : ℕ) → 0 < j → Whole m value n a j → Whole m value n (a * 2 ^ m + digit (j - 1)) (j - 1) × (a * 2 ^ m < 2 ^ (m * n))
+  digit-more n a j some inv =
+      let last : j ≡ suc (j - 1) = omega arith in
+      digit-more-suc n a (j - 1) (subst (Whole m value n a) last inv)
 
   pub digit-in : (w n a j : ℕ) → m * n ≤ w → 0 < j → Whole m value n a j → Whole m value n (bitOr (a * 2 ^ m % 2 ^ w) (digit (j - 1))) (j - 1)
   digit-in w n a j room some inv =
-      let last : j ≡ suc (j - 1) = omega arith in
-      digit-in-suc w n a (j - 1) room (subst (Whole m value n a) last inv)
+      let next = digit-more n a j some inv in
+      rw (shl-or w m a (digit (j - 1)) (lt-of-lt-of-le (next .1) (pow-mono room)) (D .small (j - 1))) (next .0)
 
   pub digits-end : (n a j : ℕ) → j ≤ 0 → Whole m value n a j → a ≡ value n
   digits-end n a j end inv =

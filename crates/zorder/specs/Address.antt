@@ -3,9 +3,9 @@ use Prim.Native.Nat.{ℕ, zero, suc, _+_, _-_, _*_, _/_, _%_, _^_}
 use mathlib.Core.List.{List, [], _∷_, _++_}
 use lib.ListN.{length, take, replicate}
 
--- How many costs a row holds ("an array of four costs").
+-- How many costs a row holds (Card 13: "a row has eight costs").
 abbrev pub rowCosts : ℕ
-rowCosts = 4
+rowCosts = 8
 
 -- How many bits a cost has ("each 0 to 65,535"), and so how many groups an address has.
 abbrev pub costBits : ℕ

@@ -5,6 +5,7 @@ use mathlib.Core.List.{List}
 use lib.ListN.{replicate}
 use Rattle.zorder.specs.Address.{rowCosts, address, costsOf, padded}
 use Rattle.zorder.specs.Region.{nearCorner, farCorner, side}
+use Rattle.zorder.specs.Words.{wordsOf}
 use Rattle.zorder.specs.Refusal.{orZero, orZeros, addressRefusal, costsRefusal, regionRefusal}
 use Rattle.zorder.specs.declared.Verdict.{Verdict}
 use Rattle.zorder.specs.declared.Verdict.the-variants.{Accepted, BadCostCount, BadArgument}
@@ -28,7 +29,7 @@ detailOf BadArgument = 0
 pub record AddressPromise (d : ℕ) (costs : List ℕ) (r : AddressAnswer) : Type 0 where
   pub number : numberOf (r .verdict) ≡ addressRefusal d costs
   pub detail : detailOf (r .verdict) ≡ 0
-  pub address : r .address ≡ orZero (addressRefusal d costs) (address d costs)
+  pub address : r .address ≡ wordsOf (orZero (addressRefusal d costs) (address d costs))
 
 -- "Costs from address"
 pub record CostsPromise (d a : ℕ) (r : CostsAnswer) : Type 0 where

@@ -3,9 +3,13 @@ use crate::BITS;
 use crate::COSTS;
 use crate::RegionAnswer;
 use crate::Verdict;
+use crate::Words;
 use crate::interleave::count_bad;
 use crate::separate::separated;
 use crate::separate::too_large;
+use crate::two_words::below;
+use crate::two_words::leading_zeros;
+use crate::two_words::xor;
 ghost use mathlib.Core.Path.{_≡_};
 ghost use mathlib.Core.List.{map};
 ghost use Prim.Native.Nat.{_≤_, _<_, _*_, _^_};
@@ -13,14 +17,15 @@ ghost use lib.ListN.{take};
 ghost use Rattle.zorder.specs.Address.{rowCosts, padded};
 ghost use Rattle.zorder.specs.Region as definition;
 ghost use Rattle.zorder.specs.Promise.{RegionPromise, RefusedRegion};
+ghost use Rattle.zorder.specs.Words.{value};
 
 // How many groups of the two addresses are not kept.
-fn unkept(d: usize, a: u64, b: u64) -> usize
-    requires { ⌜ (1 ≤ d) × (d ≤ rowCosts) × (a < 2 ^ (16 * d)) × (b < 2 ^ (16 * d)) ⌝ }
-    ensures { λ r. ⌜ (r ≡ definition.unkept d a b) × (r ≤ 16) ⌝ }
+fn unkept(d: usize, a: Words, b: Words) -> usize
+    requires { ⌜ (1 ≤ d) × (d ≤ rowCosts) × (value a < 2 ^ (16 * d)) × (value b < 2 ^ (16 * d)) ⌝ }
+    ensures { λ r. ⌜ (r ≡ definition.unkept d (value a) (value b)) × (r ≤ 16) ⌝ }
 {
-    let zeros = u64::leading_zeros(a ^ b) as usize;
-    BITS - (zeros - (64 - BITS * d)) / d
+    let zeros = leading_zeros(xor(a, b));
+    BITS - (zeros - (128 - BITS * d)) / d
 }
 
 // A cost with its last u bits filled with 0.
@@ -78,13 +83,13 @@ fn refused(verdict: Verdict) -> RegionAnswer
     }
 }
 
-pub fn region(d: usize, a: u64, b: u64) -> RegionAnswer
-    ensures { λ r. ⌜ RegionPromise d a b r ⌝ }
+pub fn region(d: usize, a: Words, b: Words) -> RegionAnswer
+    ensures { λ r. ⌜ RegionPromise d (value a) (value b) r ⌝ }
 {
     if count_bad(d) {
         return refused(Verdict::BadCostCount);
     }
-    if too_large(d, a) || too_large(d, b) || b < a {
+    if too_large(d, a) || too_large(d, b) || below(b, a) {
         return refused(Verdict::BadArgument);
     }
     let u = unkept(d, a, b);

@@ -3,6 +3,8 @@ use crate::AddressAnswer;
 use crate::BITS;
 use crate::COSTS;
 use crate::Verdict;
+use crate::Words;
+use crate::two_words::shift_in;
 ghost use mathlib.Core.Path.{_≡_};
 ghost use Prim.Native.Nat.{_≤_, _<_};
 ghost use lib.ListN.{take, drop};
@@ -10,6 +12,7 @@ ghost use Rattle.zorder.specs.Address as definition;
 ghost use Rattle.zorder.specs.Address.{rowCosts};
 ghost use Rattle.zorder.specs.Refusal.{allZero, costCountBad};
 ghost use Rattle.zorder.specs.Promise.{AddressPromise};
+ghost use Rattle.zorder.specs.Words.{value};
 
 fn wide(c: u16) -> u64
     ensures { λ r. ⌜ r ≡ c ⌝ }
@@ -32,15 +35,15 @@ pub(crate) fn group(d: usize, costs: [u16; COSTS], j: usize) -> u64
 }
 
 // The groups of the first d costs, highest first.
-fn interleaved(d: usize, costs: [u16; COSTS]) -> u64
-    requires { ⌜ d ≤ rowCosts ⌝ }
-    ensures { λ r. ⌜ r ≡ definition.address d costs ⌝ }
+fn interleaved(d: usize, costs: [u16; COSTS]) -> Words
+    requires { ⌜ (1 ≤ d) × (d ≤ rowCosts) ⌝ }
+    ensures { λ r. ⌜ value r ≡ definition.address d costs ⌝ }
 {
-    let mut a: u64 = 0;
+    let mut a = Words { upper: 0, lower: 0 };
     let mut j = BITS;
     while 0 < j {
         j -= 1;
-        a = (a << d) | group(d, costs, j);
+        a = shift_in(a, d, group(d, costs, j));
     }
     a
 }
@@ -72,7 +75,7 @@ pub fn address(d: usize, costs: [u16; COSTS]) -> AddressAnswer
     if count_bad(d) {
         return AddressAnswer {
             verdict: Verdict::BadCostCount,
-            address: 0,
+            address: Words { upper: 0, lower: 0 },
         };
     }
     if zero_past(d, costs) {
@@ -83,6 +86,6 @@ pub fn address(d: usize, costs: [u16; COSTS]) -> AddressAnswer
     }
     AddressAnswer {
         verdict: Verdict::BadArgument,
-        address: 0,
+        address: Words { upper: 0, lower: 0 },
     }
 }

@@ -6,6 +6,7 @@ mod between;
 mod corners;
 mod interleave;
 mod separate;
+mod two_words;
 
 pub use between::compare;
 pub use between::far_of;
@@ -17,7 +18,7 @@ pub use interleave::zero_past;
 pub use separate::costs;
 
 // How many costs a row holds.
-pub const COSTS: usize = 4;
+pub const COSTS: usize = 8;
 
 // How many bits a cost has, and so how many groups an address has.
 pub const BITS: usize = 16;
@@ -29,9 +30,16 @@ pub enum Verdict {
     BadArgument,
 }
 
+// An address of up to 128 bits: upper * 2^64 + lower.
+#[repr(C)]
+pub struct Words {
+    pub upper: u64,
+    pub lower: u64,
+}
+
 pub struct AddressAnswer {
     pub verdict: Verdict,
-    pub address: u64,
+    pub address: Words,
 }
 
 pub struct CostsAnswer {

@@ -3,26 +3,22 @@ use crate::BITS;
 use crate::COSTS;
 use crate::CostsAnswer;
 use crate::Verdict;
+use crate::Words;
 use crate::interleave::count_bad;
+use crate::two_words::bit;
+use crate::two_words::leading_zeros;
 ghost use mathlib.Core.Path.{_≡_};
 ghost use Prim.Native.Nat.{_≤_, _<_, _+_, _*_};
 ghost use Rattle.zorder.specs.Address as definition;
 ghost use Rattle.zorder.specs.Address.{rowCosts};
 ghost use Rattle.zorder.specs.Refusal.{addressBad};
 ghost use Rattle.zorder.specs.Promise.{CostsPromise};
-
-// Bit `place` of an address.
-fn bit(a: u64, place: usize) -> u16
-    requires { ⌜ place < 64 ⌝ }
-    ensures { λ r. ⌜ (r ≡ definition.bit place a) × (r < 2) ⌝ }
-{
-    ((a >> place) & 1) as u16
-}
+ghost use Rattle.zorder.specs.Words.{value};
 
 // The cost whose bits stand at place e, counted from the right, of each group of d.
-fn cost_in(d: usize, a: u64, e: usize) -> u16
+fn cost_in(d: usize, a: Words, e: usize) -> u16
     requires { ⌜ (e < d) × (d ≤ rowCosts) ⌝ }
-    ensures { λ r. ⌜ r ≡ definition.costFromBits d e 16 a ⌝ }
+    ensures { λ r. ⌜ r ≡ definition.costFromBits d e 16 (value a) ⌝ }
 {
     let mut c: u16 = 0;
     let mut j = BITS;
@@ -34,9 +30,9 @@ fn cost_in(d: usize, a: u64, e: usize) -> u16
 }
 
 // The d costs of an address, and zeros past them.
-pub(crate) fn separated(d: usize, a: u64) -> [u16; COSTS]
+pub(crate) fn separated(d: usize, a: Words) -> [u16; COSTS]
     requires { ⌜ d ≤ rowCosts ⌝ }
-    ensures { λ r. ⌜ r ≡ definition.padded d (definition.costsOf d a) ⌝ }
+    ensures { λ r. ⌜ r ≡ definition.padded d (definition.costsOf d (value a)) ⌝ }
 {
     let mut costs = [0u16; COSTS];
     let mut e = d;
@@ -47,19 +43,16 @@ pub(crate) fn separated(d: usize, a: u64) -> [u16; COSTS]
     costs
 }
 
-// Whether a has a bit beyond the 16 groups of d. With four costs no word has.
-pub(crate) fn too_large(d: usize, a: u64) -> bool
+// Whether a has a bit beyond the 16 groups of d. With eight costs no two words have.
+pub(crate) fn too_large(d: usize, a: Words) -> bool
     requires { ⌜ d ≤ rowCosts ⌝ }
-    ensures { λ r. ⌜ r ≡ addressBad d a ⌝ }
+    ensures { λ r. ⌜ r ≡ addressBad d (value a) ⌝ }
 {
-    if d == COSTS {
-        return false;
-    }
-    (a >> (BITS * d)) != 0
+    leading_zeros(a) < 128 - BITS * d
 }
 
-pub fn costs(d: usize, address: u64) -> CostsAnswer
-    ensures { λ r. ⌜ CostsPromise d address r ⌝ }
+pub fn costs(d: usize, address: Words) -> CostsAnswer
+    ensures { λ r. ⌜ CostsPromise d (value address) r ⌝ }
 {
     if count_bad(d) {
         return CostsAnswer {

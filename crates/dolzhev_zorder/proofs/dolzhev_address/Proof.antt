@@ -6,7 +6,7 @@ use Rattle.dolzhev_zorder.proofs.dolzhev_address.Tie as tie
 
 returns : tie.Need-returns
 returns c =
-    let promise = c .before .address .ensures in
+    let promise = c .before .before .address .ensures in
     record { verdict = _; refusal = c .number-of .ensures; detail = sym (promise .detail); promise = promise }
 
 pub dolzhev-address-spec : {M : Type 1} → statement M

@@ -75,7 +75,7 @@ bit-top : (k b r : ℕ) → b < 2 → r < 2 ^ k → bit k (b * 2 ^ k + r) ≡ b
 unfolding bit
 bit-top k b r h l = ap (λ (x : ℕ). x % 2) (high b k l) ∙ mod-eq-of-lt h
 
-bit-below : (j k b r : ℕ) → j < k → r < 2 ^ k → bit j (b * 2 ^ k + r) ≡ bit j r
+pub bit-below : (j k b r : ℕ) → j < k → r < 2 ^ k → bit j (b * 2 ^ k + r) ≡ bit j r
 bit-below j k b r h l = sym (bit-mod j k (b * 2 ^ k + r) h) ∙ ap (bit j) (low b k l)
 
 pub costFromBits-lt : (d e k a : ℕ) → costFromBits d e k a < 2 ^ k

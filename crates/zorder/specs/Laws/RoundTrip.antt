@@ -12,6 +12,8 @@ use Rattle.zorder.specs.Address.{rowCosts, costBits, groups, address, co
 use Rattle.zorder.specs.Between.{RowCosts}
 use Rattle.zorder.specs.Promise.{numberOf, AddressPromise, CostsPromise}
 use Rattle.zorder.specs.Refusal.{refusal, orZero, orZeros, costCountBad, costPastBad, addressBad, addressRefusal, costsRefusal}
+use Rattle.zorder.specs.Words.{wordBits, value, wordsOf}
+use Rattle.zorder.specs.declared.Words.{Words}
 use Rattle.zorder.specs.declared.Verdict.{Verdict}
 use Rattle.zorder.specs.declared.Verdict.the-variants.{Accepted, BadCostCount, BadArgument}
 use Rattle.zorder.specs.declared.AddressAnswer.{AddressAnswer}
@@ -19,6 +21,7 @@ use Rattle.zorder.specs.declared.CostsAnswer.{CostsAnswer}
 use Rattle.zorder.specs.Laws.Address.{address-lt'}
 use Rattle.zorder.specs.Laws.Between.{padded-row, row-costs, row-padded}
 use Rattle.zorder.specs.Laws.Inverse.{costsOf-costs, address-costs, costs-address}
+use Rattle.zorder.specs.Laws.Words.{value-words, words-value}
 use Rattle.zorder.specs.Laws.Refusal.{count-right, address-right, first-passes, rest-passes}
 
 -- ---- rows and addresses
@@ -68,54 +71,57 @@ module _ (d : ℕ) (cs : List ℕ) (count : length cs ≡ rowCosts) (small : (i 
   unfolding addressRefusal
   address-passed = passed (costCountBad d) (costPastBad d cs) (sym (p .number) ∙ number-zero good)
 
-  address-told : r .address ≡ address d cs
+  address-told : value (r .address) ≡ address d cs
   unfolding orZero
-  address-told = p .address ∙ ap (λ (n : ℕ). orZero n (address d cs)) (sym (p .number) ∙ number-zero good)
+  address-told =
+      ap value (p .address ∙ ap (λ (n : ℕ). wordsOf (orZero n (address d cs))) (sym (p .number) ∙ number-zero good))
+      ∙ value-words (address d cs)
 
   costs-row : RowCosts d cs
   costs-row = record { count = count; small = small; past = address-passed .1 }
 
   -- Costs, their address, and its costs.
-  pub costs-back : (s : CostsAnswer) → CostsPromise d (r .address) s → (s .verdict ≡ Accepted) × (s .costs ≡ cs)
+  pub costs-back : (s : CostsAnswer) → CostsPromise d (value (r .address)) s → (s .verdict ≡ Accepted) × (s .costs ≡ cs)
   unfolding costsRefusal orZeros
   costs-back s q = (accepted-number (s .verdict) (q .number ∙ none), costs)
     where
       l : d ≤ rowCosts
       l = count-right d (address-passed .0) .1
 
-      none : costsRefusal d (r .address) ≡ 0
+      none : costsRefusal d (value (r .address)) ≡ 0
       none = accepts (address-passed .0) (ap (addressBad d) address-told ∙ row-address d cs l costs-row)
 
       costs : s .costs ≡ cs
       costs =
           q .costs
-          ∙ ap (λ (n : ℕ). orZeros n (padded d (costsOf d (r .address)))) none
+          ∙ ap (λ (n : ℕ). orZeros n (padded d (costsOf d (value (r .address))))) none
           ∙ ap (λ (a : ℕ). padded d (costsOf d a)) address-told
           ∙ row-again d cs l costs-row
 
 -- An address, its costs, and their address.
-module _ (d a : ℕ) (s : CostsAnswer) (p : CostsPromise d a s) (good : s .verdict ≡ Accepted) where
-  costs-passed : (costCountBad d ≡ false) × (addressBad d a ≡ false)
+module _ (d : ℕ) (a : Words) (s : CostsAnswer) (p : CostsPromise d (value a) s) (good : s .verdict ≡ Accepted) where
+  costs-passed : (costCountBad d ≡ false) × (addressBad d (value a) ≡ false)
   unfolding costsRefusal
-  costs-passed = passed (costCountBad d) (addressBad d a) (sym (p .number) ∙ number-zero good)
+  costs-passed = passed (costCountBad d) (addressBad d (value a)) (sym (p .number) ∙ number-zero good)
 
-  costs-told : s .costs ≡ padded d (costsOf d a)
+  costs-told : s .costs ≡ padded d (costsOf d (value a))
   unfolding orZeros
-  costs-told = p .costs ∙ ap (λ (n : ℕ). orZeros n (padded d (costsOf d a))) (sym (p .number) ∙ number-zero good)
+  costs-told = p .costs ∙ ap (λ (n : ℕ). orZeros n (padded d (costsOf d (value a)))) (sym (p .number) ∙ number-zero good)
 
-  pub address-back : (r : AddressAnswer) → AddressPromise d (s .costs) r → (r .verdict ≡ Accepted) × (r .address ≡ a)
+  pub address-back : a .lower < 2 ^ wordBits → (r : AddressAnswer) → AddressPromise d (s .costs) r → (r .verdict ≡ Accepted) × (r .address ≡ a)
   unfolding addressRefusal orZero
-  address-back r q = (accepted-number (r .verdict) (q .number ∙ none), told)
+  address-back word r q = (accepted-number (r .verdict) (q .number ∙ none), told)
     where
       l : d ≤ rowCosts
       l = count-right d (costs-passed .0) .1
 
       none : addressRefusal d (s .costs) ≡ 0
-      none = accepts (costs-passed .0) (ap (costPastBad d) costs-told ∙ address-row d a l .past)
+      none = accepts (costs-passed .0) (ap (costPastBad d) costs-told ∙ address-row d (value a) l .past)
 
       told : r .address ≡ a
       told =
           q .address
-          ∙ ap (λ (n : ℕ). orZero n (address d (s .costs))) none
-          ∙ ap (address d) costs-told
-          ∙ address-again d a l (costs-passed .1)
+          ∙ ap (λ (n : ℕ). wordsOf (orZero n (address d (s .costs)))) none
+          ∙ ap (λ (cs : List ℕ). wordsOf (address d cs)) costs-told
+          ∙ ap wordsOf (address-again d (value a) l (costs-passed .1))
+          ∙ words-value a word

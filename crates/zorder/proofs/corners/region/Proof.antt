@@ -19,6 +19,7 @@ use Rattle.zorder.specs.Laws.Inverse.{costsOf-costs}
 use Rattle.zorder.specs.declared.RegionAnswer.{RegionAnswer}
 use Rattle.zorder.specs.declared.Verdict.{Verdict}
 use Rattle.zorder.specs.declared.Verdict.the-variants.{Accepted, BadCostCount, BadArgument}
+use Rattle.zorder.specs.Words.{value}
 use Rattle.zorder.specs.Laws.Refusal.{count-right, address-right}
 use Rattle.zorder.proofs.Checks.{three-checks, no-detail}
 use Rattle.zorder.proofs.Row.{take-padded}
@@ -82,17 +83,17 @@ passed d a b right good ordered = three-checks false false false right good orde
 right-count : (c : tie.Else1) → costCountBad (c .before .before .args .d) ≡ false
 right-count c = sym (c .before .count-bad .ensures) ∙ c .if1 .left
 
-first-good : (c : tie.Else2) → addressBad (c .before .before .before .before .args .d) (c .before .before .before .before .args .a) ≡ false
+first-good : (c : tie.Else2) → addressBad (c .before .before .before .before .args .d) (value (c .before .before .before .before .args .a)) ≡ false
 first-good c = sym (c .before .too-large .ensures) ∙ c .if2 .left
 
-second-good : (c : tie.Else3) → addressBad (c .before .before .before .before .before .before .args .d) (c .before .before .before .before .before .before .args .b) ≡ false
+second-good : (c : tie.Else3) → addressBad (c .before .before .before .before .before .before .args .d) (value (c .before .before .before .before .before .before .args .b)) ≡ false
 second-good c = sym (c .before .too-large2 .ensures) ∙ c .if3 .left
 
 returns : tie.Need-returns
 returns c =
     let s = c .before .before in
     let a = s .before .args in
-    bad-count (a .d) (a .a) (a .b) (c .refused .result) (sym (s .count-bad .ensures) ∙ c .before .if1 .taken) (c .refused .ensures)
+    bad-count (a .d) (value (a .a)) (value (a .b)) (c .refused .result) (sym (s .count-bad .ensures) ∙ c .before .if1 .taken) (c .refused .ensures)
 
 too-large-requires : tie.Need-too-large-requires
 too-large-requires c κs = count-right (c .before .before .args .d) (right-count c) .1
@@ -107,26 +108,26 @@ returns-2 c =
     let right = right-count (s .before) in
     let R = c .refused2 .ensures in
     let first = sym (s .too-large .ensures) in
-    let large = bad-large (a .d) (a .a) (a .b) (c .refused2 .result) right R in
-    let order = bad-order (a .d) (a .a) (a .b) (c .refused2 .result) right R in
+    let large = bad-large (a .d) (value (a .a)) (value (a .b)) (c .refused2 .result) right R in
+    let order = bad-order (a .d) (value (a .a)) (value (a .b)) (c .refused2 .result) right R in
     ⊎-elim
-    (λ w. large (ap (λ (t : Bool). t || addressBad (a .d) (a .b)) (first ∙ w .taken)))
+    (λ w. large (ap (λ (t : Bool). t || addressBad (a .d) (value (a .b))) (first ∙ w .taken)))
     (⊎-elim
     (λ w. large (ap₂ _||_ (first ∙ w .0 .left) (sym (w .1 .ensures) ∙ w .2 .taken)))
-    (λ w. order (ap₂ _||_ (first ∙ w .0 .left) (sym (w .1 .ensures) ∙ w .2 .left)) (w .3 .taken)))
+    (λ w. order (ap₂ _||_ (first ∙ w .0 .left) (sym (w .1 .ensures) ∙ w .2 .left)) (sym (w .3 .ensures) ∙ w .4 .taken)))
     (c .before .if2 .came)
 
 unkept-requires : tie.Need-unkept-requires
 unkept-requires c κs =
-    let s = c .before .before .before in
+    let s = c .before .before .before .before in
     let a = s .before .before .before .before .args in
     let right = count-right (a .d) (right-count (s .before .before)) in
-    let below = address-right (a .d) (a .a) (first-good s) in
-    let also = address-right (a .d) (a .b) (second-good (c .before)) in
+    let below = address-right (a .d) (value (a .a)) (first-good s) in
+    let also = address-right (a .d) (value (a .b)) (second-good (c .before .before)) in
     (omega arith, right .1, below, also)
 
-right-at : (c : tie.After-unkept) → c .before .before .before .before .before .before .before .before .args .d ≤ rowCosts
-right-at c = count-right (c .before .before .before .before .before .before .before .before .args .d) (right-count (c .before .before .before .before .before .before)) .1
+right-at : (c : tie.After-unkept) → c .before .before .before .before .before .before .before .before .before .args .d ≤ rowCosts
+right-at c = count-right (c .before .before .before .before .before .before .before .before .before .args .d) (right-count (c .before .before .before .before .before .before .before)) .1
 
 separated-requires : tie.Need-separated-requires
 separated-requires c κs = right-at c
@@ -140,12 +141,12 @@ far-requires c κs = (right-at (c .before .before), c .before .before .unkept .e
 returns-3 : tie.Need-returns-3
 returns-3 c =
     let u = c .before .before .before in
-    let e = u .before .before in
+    let e = u .before .before .before in
     let a = e .before .before .before .before .before .before .args in
     accepted
     (a .d)
-    (a .a)
-    (a .b)
+    (value (a .a))
+    (value (a .b))
     (u .unkept .result)
     (c .before .before .separated .result)
     (u .unkept .ensures .0)
@@ -158,11 +159,11 @@ returns-3 c =
     (omega (arith, pow-mono (u .unkept .ensures .1)))
     (passed
     (a .d)
-    (a .a)
-    (a .b)
+    (value (a .a))
+    (value (a .b))
     (right-count (e .before .before .before .before))
     (ap₂ _||_ (first-good (e .before .before)) (second-good e))
-    (u .before .if4 .left))
+    (sym (u .before .before .below .ensures) ∙ u .before .if4 .left))
 
 pub region-spec : {M : Type 1} → statement M
 region-spec =
@@ -173,6 +174,7 @@ region-spec =
     returns
     too-large-requires
     too-large-requires-2
+    (λ c κs. search needs)
     (λ c κs. search needs)
     returns-2
     unkept-requires

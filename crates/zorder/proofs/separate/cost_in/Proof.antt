@@ -5,6 +5,7 @@ use mathlib.Core.Path.{refl, sym, ap}
 use native.Mathlib.Nat.{one-mul, mul-le-mul}
 use native.Mathlib.Omega.{arith}
 use Rattle.zorder.specs.Address.{rowCosts, bit, costFromBits}
+use Rattle.zorder.specs.Words.{value}
 use Rattle.zorder.proofs.Digits.{Digits, Whole, digit-in, digits-end}
 use Rattle.zorder.proofs.separate.cost_in.Statement.{statement}
 use Rattle.zorder.proofs.separate.cost_in.Tie as tie
@@ -19,18 +20,18 @@ cost-bits d e a = record {
 }
 
 abbrev Inv-loop : tie.InvT-loop
-Inv-loop d a e c₀ j₀ c j = (j ≤ 16) × Whole 1 (λ (k : ℕ). costFromBits d e k a) 16 c j
+Inv-loop d a e c₀ j₀ c j = (j ≤ 16) × Whole 1 (λ (k : ℕ). costFromBits d e k (value a)) 16 c j
 
 abbrev μ-loop : tie.MeasureT-loop
 μ-loop d a e c₀ j₀ c j = j
 
--- The place of a bit is below 64.
-place-lt : (d e j : ℕ) → e < d → d ≤ rowCosts → 0 < j → j ≤ 16 → d * (j - 1) + e < 64
+-- The place of a bit is below 128.
+place-lt : (d e j : ℕ) → e < d → d ≤ rowCosts → 0 < j → j ≤ 16 → d * (j - 1) + e < 128
 place-lt d e j inside few some most =
     let low : j - 1 ≤ 15 = omega arith in
     omega (arith, mul-le-mul few low)
 
-place-in : (c : tie.In-loop Inv-loop μ-loop) → c .before .before .args .d * (c .before .loop .j - 1) + c .before .before .args .e < 64
+place-in : (c : tie.In-loop Inv-loop μ-loop) → c .before .before .args .d * (c .before .loop .j - 1) + c .before .before .args .e < 128
 place-in c =
     let a = c .before .before .args in
     place-lt (a .d) (a .e) (c .before .loop .j) (omega arith) (omega arith) (omega arith) (omega arith)
@@ -51,14 +52,14 @@ loop-again c =
       omega arith,
       rw
           (c .bit .ensures .0)
-          (digit-in (cost-bits (a .d) (a .e) (a .a)) 16 16 (own .c) (own .j) (omega arith) (c .before .loop-test .taken) (own .inv .1)),
+          (digit-in (cost-bits (a .d) (a .e) (value (a .a))) 16 16 (own .c) (own .j) (omega arith) (c .before .loop-test .taken) (own .inv .1)),
     )
 
 returns : tie.Need-returns Inv-loop μ-loop
 returns c =
     let a = c .before .before .args in
     let own = c .before .loop in
-    digits-end (cost-bits (a .d) (a .e) (a .a)) 16 (own .c) (own .j) (c .loop-test .left) (own .inv .1)
+    digits-end (cost-bits (a .d) (a .e) (value (a .a))) 16 (own .c) (own .j) (c .loop-test .left) (own .inv .1)
 
 pub cost-in-spec : {M : Type 1} → statement M
 cost-in-spec =

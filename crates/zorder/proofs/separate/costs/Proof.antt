@@ -11,6 +11,7 @@ use Rattle.zorder.specs.Refusal.{orZeros, costCountBad, addressBad, cost
 use Rattle.zorder.specs.declared.Verdict.{Verdict}
 use Rattle.zorder.specs.declared.Verdict.the-variants.{Accepted, BadCostCount, BadArgument}
 use Rattle.zorder.specs.Laws.Refusal.{count-right}
+use Rattle.zorder.specs.Words.{value}
 use Rattle.zorder.proofs.Checks.{two-checks, no-detail}
 use Rattle.zorder.proofs.separate.costs.Statement.{statement}
 use Rattle.zorder.proofs.separate.costs.Tie as tie
@@ -41,7 +42,7 @@ module _ (d a : ℕ) where
 returns : tie.Need-returns
 returns c =
     let a = c .before .before .args in
-    bad-count (a .d) (a .address) (sym (c .before .count-bad .ensures) ∙ c .if1 .taken)
+    bad-count (a .d) (value (a .address)) (sym (c .before .count-bad .ensures) ∙ c .if1 .taken)
 
 right-count : (c : tie.Else1) → costCountBad (c .before .before .args .d) ≡ false
 right-count c = sym (c .before .count-bad .ensures) ∙ c .if1 .left
@@ -53,7 +54,7 @@ returns-2 : tie.Need-returns-2
 returns-2 c =
     let s = c .before .before in
     let a = s .before .before .args in
-    bad-address (a .d) (a .address) (right-count s) (sym (c .before .too-large .ensures) ∙ c .if2 .taken)
+    bad-address (a .d) (value (a .address)) (right-count s) (sym (c .before .too-large .ensures) ∙ c .if2 .taken)
 
 separated-requires : tie.Need-separated-requires
 separated-requires c κs = count-right (c .before .before .before .before .args .d) (right-count (c .before .before)) .1
@@ -64,7 +65,7 @@ returns-3 c =
     let a = s .before .before .args in
     accepted
     (a .d)
-    (a .address)
+    (value (a .address))
     (right-count s)
     (sym (c .before .before .too-large .ensures) ∙ c .before .if2 .left)
     (c .separated .result)

@@ -8,6 +8,7 @@ use native.Mathlib.Omega.{arith}
 use lib.ListN.{length, getD, set}
 use Rattle.zorder.specs.Address.{rowCosts, costFromBits, costsFrom, costsOf}
 use Rattle.zorder.specs.Laws.Inverse.{costsOf-costs}
+use Rattle.zorder.specs.Words.{value}
 use Rattle.zorder.proofs.Fill.{filled, filled-none, filled-more, filled-all}
 use Rattle.zorder.proofs.separate.separated.Statement.{statement}
 use Rattle.zorder.proofs.separate.separated.Tie as tie
@@ -32,7 +33,7 @@ cost-more d a e some most room =
     ∙ ap (filled t) next
 
 abbrev Inv-loop : tie.InvT-loop
-Inv-loop d a costs₀ e₀ costs e = (e ≤ d) × (costs ≡ filled (costsOf d a) (d - e))
+Inv-loop d a costs₀ e₀ costs e = (e ≤ d) × (costs ≡ filled (costsOf d (value a)) (d - e))
 
 abbrev μ-loop : tie.MeasureT-loop
 μ-loop d a costs₀ e₀ costs e = e
@@ -40,7 +41,7 @@ abbrev μ-loop : tie.MeasureT-loop
 loop-holds : tie.Need-loop-holds Inv-loop μ-loop
 loop-holds c =
     let none : 0 ≡ c .args .d - c .args .d = omega arith in
-    let t : List ℕ = costsOf (c .args .d) (c .args .a) in
+    let t : List ℕ = costsOf (c .args .d) (value (c .args .a)) in
     (omega arith, filled-none t ∙ ap (filled t) none)
 
 loop-again : tie.Need-loop-again Inv-loop μ-loop
@@ -50,16 +51,16 @@ loop-again c =
     let at : ℕ = a .d - 1 - (own .e - 1) in (
       omega arith,
       ap₂ (λ (row : List ℕ) (v : ℕ). set row at v) (own .inv .1) (c .cost-in .ensures)
-          ∙ cost-more (a .d) (a .a) (own .e) (omega arith) (omega arith) (omega arith),
+          ∙ cost-more (a .d) (value (a .a)) (own .e) (omega arith) (omega arith) (omega arith),
     )
 
 returns : tie.Need-returns Inv-loop μ-loop
 returns c =
     let a = c .before .before .args in
     let own = c .before .loop in
-    let t : List ℕ = costsOf (a .d) (a .a) in
+    let t : List ℕ = costsOf (a .d) (value (a .a)) in
     let all : a .d - own .e ≡ a .d = omega arith in
-    own .inv .1 ∙ ap (filled t) all ∙ filled-all t (a .d) (costsOf-costs (a .d) (a .a) .count)
+    own .inv .1 ∙ ap (filled t) all ∙ filled-all t (a .d) (costsOf-costs (a .d) (value (a .a)) .count)
 
 pub separated-spec : {M : Type 1} → statement M
 separated-spec =
