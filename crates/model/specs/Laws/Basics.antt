@@ -7,7 +7,7 @@ use mathlib.Core.Path.{_≡_, refl, sym, ap, ap₂, _∙_, subst}
 use native.Mathlib.Nat.{zero-lt-suc, not-suc-le-zero, le-of-suc-le-suc}
 use native.Mathlib.Omega.{arith}
 use lib.Dec.{eqb}
-use lib.ListN.{length, getD, set, length-append, length-map}
+use lib.ListN.{length, getD, set, take, length-append, length-map}
 use borrow.Author.Tests.{eqb-true, eq-eqb}
 use Rattle.model.specs.Basics.{Each, consIf, select, any, all, count, lastOr, equal}
 use Rattle.model.specs.Laws.Bool.{and-left, and-right, and-both, or-cases, or-left, or-right, or-false-left, or-false-right, or-false-both, same-test, both-ways}
@@ -285,6 +285,13 @@ module _ {A B : Type 0} where
     pub count-map : (xs : List A) → count p (map f xs) ≡ count (λ x. p (f x)) xs
     unfolding count
     count-map xs = ap length (select-map xs) ∙ length-map (select (λ x. p (f x)) xs) f
+
+-- ---- the first entries, mapped
+
+pub map-take : {A B : Type 0} (f : A → B) (n : ℕ) (xs : List A) → map f (take n xs) ≡ take n (map f xs)
+map-take f zero xs = refl
+map-take f (suc n) [] = refl
+map-take {B = B} f (suc n) (x ∷ xs) = ap (λ (ys : List B). f x ∷ ys) (map-take f n xs)
 
 -- ---- two lists of numbers
 

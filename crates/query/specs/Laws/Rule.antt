@@ -1,11 +1,11 @@
--- Dominance on some k costs by counting, and on k and chosen costs as tests of the sums.
+-- Dominance on some k costs by counting, and on k and chosen costs as the code tests it.
 use Prim.Native.Nat.{ℕ, zero, suc, _+_, _-_, _%_, _^_, _≤_}
 use mathlib.Core.Bool.{Bool, true, false, cond, not, _&&_, _||_, and-true, and-comm, or-false}
 use mathlib.Core.List.{List, [], _∷_, map}
 use mathlib.Core.Path.{_≡_, refl, sym, ap, ap₂, _∙_, fun-ext}
 use native.Mathlib.Omega.{arith}
 use lib.Dec.{ltb, leb, eqb, leb·zero, leb·suc-zero, leb·suc-suc}
-use lib.ListN.{length, getD}
+use lib.ListN.{length, getD, take}
 use borrow.Author.Tests.{leb-true, le-leb, ltb-true, le-ltb}
 use Rattle.zorder.specs.Address.{rowCosts}
 use Rattle.model.specs.Basics.{select, any, all, count, parts, numbersFrom}
@@ -15,9 +15,9 @@ use Rattle.model.specs.Laws.Bool.{same-test, or-cases, or-left, and-left, and-b
 use Rattle.model.specs.Laws.Basics.{any-append, any-map, any-witness, count-cons, count-pos}
 use Rattle.model.specs.Laws.Range.{length-numbers}
 use Rattle.model.specs.Laws.Chosen.{chosen-within}
-use Rattle.dominance.specs.Sums.{countLess, Summed}
-use Rattle.dominance.specs.Laws.Sums.{somewhere-sum, sums-at}
-use Rattle.dominance.specs.declared.Sums.{Sums}
+use Rattle.model.specs.Laws.Queries.{at-first}
+use Rattle.dominance.specs.Sums.{countLess}
+use Rattle.dominance.specs.Laws.Sums.{exceeds-better}
 
 -- ---- some k entries that all pass one test, and one of which passes another
 
@@ -142,7 +142,7 @@ module _ (p q : List ℕ) where
       ap (λ (t : List ℕ → Bool). any t (parts (suc k) (numbersFrom 0 d))) (fun-ext dominates-at)
       ∙ parts-one-passes fits lower lower-fits k (numbersFrom 0 d)
 
--- ---- the tests of the sums
+-- ---- the tests of the code
 
 fit-turn : (g : Bool) (n m k : ℕ) → n + m ≡ k → cond (not g) (suc n) n + (cond g 1 0 + m) ≡ suc k
 fit-turn true n m k e = omega arith
@@ -157,22 +157,26 @@ module _ (p q : List ℕ) where
       ap (λ (n : ℕ). n + countLess (at (i ∷ s) q) (at (i ∷ s) p)) (count-cons (fits p q) i s)
       ∙ fit-turn (less (getD q i 0) (getD p i 0)) (count (fits p q) s) (countLess (at s q) (at s p)) (length s) (fit-sum s)
 
-  module _ (d : ℕ) (r : Sums) (t : Summed (numbersFrom 0 d) p q r) where
-    fitting : count (fits p q) (numbersFrom 0 d) + r .greater ≡ d
-    fitting = omega (arith, t .greater, fit-sum (numbersFrom 0 d), length-numbers d 0)
+  module _ (d : ℕ) (h : d ≤ length p) (l : d ≤ length q) where
+    greater-first : countLess (at (numbersFrom 0 d) q) (at (numbersFrom 0 d) p) ≡ countLess (take d q) (take d p)
+    greater-first = ap₂ countLess (at-first d q l) (at-first d p h)
+
+    fitting : count (fits p q) (numbersFrom 0 d) + countLess (take d q) (take d p) ≡ d
+    fitting = omega (arith, greater-first, fit-sum (numbersFrom 0 d), length-numbers d 0)
 
     -- On some k of the first d costs.
-    pub sums-on-k : (k : ℕ) → 1 ≤ k → (leb k (d - r .greater) && ltb 0 (r .lesser)) ≡ dominatesOn d k p q
-    sums-on-k k l =
-        let fit : d - r .greater ≡ count (fits p q) (numbersFrom 0 d) = omega (arith, fitting) in
-        ap₂ (λ (n m : ℕ). leb k n && ltb 0 m) fit (t .lesser)
-        ∙ ap (λ (b : Bool). leb k (count (fits p q) (numbersFrom 0 d)) && b) (somewhere-sum (at (numbersFrom 0 d) p) (at (numbersFrom 0 d) q) ∙ somewhere-at p q (numbersFrom 0 d))
+    pub count-on-k : (k : ℕ) → 1 ≤ k → (leb k (d - countLess (take d q) (take d p)) && somewhereLess (take d p) (take d q)) ≡ dominatesOn d k p q
+    count-on-k k m =
+        let fit : d - countLess (take d q) (take d p) ≡ count (fits p q) (numbersFrom 0 d) = omega (arith, fitting) in
+        ap₂ (λ (n : ℕ) (b : Bool). leb k n && b) fit (ap₂ somewhereLess (sym (at-first d p h)) (sym (at-first d q l)) ∙ somewhere-at p q (numbersFrom 0 d))
         ∙ and-comm (leb k (count (fits p q) (numbersFrom 0 d))) (any (lower p q) (numbersFrom 0 d))
-        ∙ sym (dominates-on p q d k l)
+        ∙ sym (dominates-on p q d k m)
 
   -- On those of the first d costs that are in a set.
-  pub sums-chosen : (d set : ℕ) (r : Sums) → d ≤ rowCosts → Summed (chosenCosts rowCosts (set % 2 ^ d)) p q r
-      → (eqb (r .greater) 0 && ltb 0 (r .lesser)) ≡ dominatesAt (chosenCosts d set) p q
-  sums-chosen d set r h t =
-      sums-at (chosenCosts rowCosts (set % 2 ^ d)) p q r t
+  pub exceeds-chosen : (d set : ℕ) → d ≤ rowCosts
+      → let s : List ℕ = chosenCosts rowCosts (set % 2 ^ d) in
+      (not (somewhereLess (at s q) (at s p)) && somewhereLess (at s p) (at s q)) ≡ dominatesAt (chosenCosts d set) p q
+  unfolding dominatesAt
+  exceeds-chosen d set h =
+      exceeds-better (at (chosenCosts rowCosts (set % 2 ^ d)) p) (at (chosenCosts rowCosts (set % 2 ^ d)) q)
       ∙ ap (λ (s : List ℕ). dominatesAt s p q) (chosen-within rowCosts d set h)

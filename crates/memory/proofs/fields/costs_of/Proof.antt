@@ -1,21 +1,18 @@
 -- `fields::costs_of` meets its contract. The loop's invariant: the row holds the first j costs. Assumes nothing.
 use Rattle.zorder.specs.Address.{rowCosts, padded}
-use Prim.Native.Nat.{ℕ, _+_, _-_, _*_, _/_, _%_, _^_, _≤_, _<_}
+use Prim.Native.Nat.{ℕ, _+_, _-_, _*_, _^_, _≤_, _<_}
+use mathlib.Core.Bool.{cond}
 use mathlib.Core.List.{List, _++_, append-nil}
 use mathlib.Core.Path.{_≡_, sym, ap, ap₂, _∙_}
-use native.Mathlib.Nat.{mod-lt, mul-one, mul-zero, mul-le-mul-left}
+use native.Mathlib.Nat.{zero-mul, one-mul}
 use native.Mathlib.Omega.{arith}
 use borrow.Author.Tests.{ltb-true, ltb-false}
 use lib.Dec.{ltb}
-use lib.Pow.{pow-pos}
 use lib.ListN.{length, getD, set, replicate, length-append, length-replicate, getD-replicate, List·getD-append}
 use lib.Seq.{getD-append-add}
-use mir.Syntax.{w16}
-use mir.Val.{Fits}
 use Rattle.zorder.proofs.Fill.{filled, filled-none, filled-more, filled-all}
-use Rattle.zorder.proofs.Bits.{shl-one}
-use Rattle.model.specs.Laws.Bool.{byCases}
-use Rattle.model.specs.Laws.Chosen.{bit-first, bit-past-first}
+use Rattle.model.specs.Laws.Bool.{testCases}
+use Rattle.dominance.specs.Laws.Sums.{times-lt, firstOf, first-small}
 use Rattle.promises.specs.Layout.{costPlace, costIn, tab, costsIn}
 use Rattle.promises.specs.Laws.Tab.{length-tab, getD-tab}
 use Rattle.memory.proofs.fields.costs_of.Statement.{statement}
@@ -47,30 +44,22 @@ module _ (c d : ℕ) (m : List ℕ) (number : ℕ) (few : d ≤ rowCosts) where
       ∙ getD-replicate (rowCosts - d) (j - d) 0 0 (omega arith)
 
   -- a word times 1 if its cost is one of the first d, else times 0
-  row-times : (j w : ℕ) → j < rowCosts → w ≡ costIn c m number j → w * ((2 ^ d - 1) / 2 ^ j % 2) ≡ getD (costsIn c d m number) j 0
-  row-times j w l e =
-      byCases (ltb j d)
-      (λ t. let h = ltb-true j d t in ap (λ (b : ℕ). w * b) (bit-first d j h) ∙ mul-one w ∙ e ∙ sym (row-cost j h))
-      (λ t. let h = ltb-false j d t in ap (λ (b : ℕ). w * b) (bit-past-first d j h) ∙ mul-zero w ∙ sym (row-past j h l))
+  row-times : (j k w : ℕ) → j < rowCosts → k ≡ firstOf d j → w ≡ costIn c m number j → k * w ≡ getD (costsIn c d m number) j 0
+  row-times j k w l f e =
+      ap (λ (n : ℕ). n * w) f
+      ∙ testCases (λ t. cond t 1 0 * w ≡ getD (costsIn c d m number) j 0) (ltb j d)
+      (λ t. one-mul w ∙ e ∙ sym (row-cost j (ltb-true j d t)))
+      (λ t. zero-mul w ∙ sym (row-past j (ltb-false j d t) l))
 
   row-whole : filled (costsIn c d m number) rowCosts ≡ costsIn c d m number
   unfolding padded
   row-whole = filled-all (costsIn c d m number) rowCosts row-length ∙ append-nil (costsIn c d m number)
 
--- A word times a bit is no larger.
-times-bit : (w n : ℕ) → w < 65536 → Fits w16 (w * (n % 2))
-times-bit w n h = record { fits = omega (arith, mul-le-mul-left {m = n % 2} {n = 1} w (omega (arith, mod-lt n {m = 2} (omega arith)))) }
-
 abbrev Inv-loop : tie.InvT-loop
-Inv-loop m c d number at first costs₀ j₀ costs j = (j ≤ rowCosts) × (costs ≡ filled (costsIn c d m number) j)
+Inv-loop m c d number at costs₀ j₀ costs j = (j ≤ rowCosts) × (costs ≡ filled (costsIn c d m number) j)
 
 abbrev μ-loop : tie.MeasureT-loop
-μ-loop m c d number at first costs₀ j₀ costs j = rowCosts - j
-
-sub-first : tie.Need-sub-first Inv-loop μ-loop
-sub-first c =
-    let d = c .before .args .d in
-    omega (arith, shl-one 64 d (omega arith), pow-pos d)
+μ-loop m c d number at costs₀ j₀ costs j = rowCosts - j
 
 loop-holds : tie.Need-loop-holds Inv-loop μ-loop
 loop-holds c =
@@ -78,20 +67,23 @@ loop-holds c =
     (omega arith, filled-none (costsIn (a .c) (a .d) (a .m .now) (a .number)))
 
 mul-costs : tie.Need-mul-costs Inv-loop μ-loop
-mul-costs c = times-bit (c .word .result) _ (omega arith)
+mul-costs c =
+    let f = c .first-factor in
+    let d = c .before .before .before .before .before .args .d in
+    record { fits = times-lt (f .result) (c .before .word .result) (2 ^ 16) (omega (arith, f .ensures, first-small d (c .before .before .before .loop .j))) (omega arith) }
 
 loop-again : tie.Need-loop-again Inv-loop μ-loop
 unfolding costIn costPlace
 loop-again c =
-    let a = c .before .before .before .before .args in
-    let few = c .before .before .before .before .pre .2 in
-    let own = c .before .before .loop in
+    let a = c .before .before .before .before .before .args in
+    let few = c .before .before .before .before .before .pre .2 in
+    let own = c .before .before .before .loop in
+    let w = c .before .word in
     let row = costsIn (a .c) (a .d) (a .m .now) (a .number) in
     let count : length row ≡ rowCosts = row-length (a .c) (a .d) (a .m .now) (a .number) few in (
       omega arith,
       ap₂ (λ (l : List ℕ) (v : ℕ). set l (own .j) v) (own .inv .1)
-          (ap (λ (n : ℕ). c .word .result * ((n - 1) / 2 ^ own .j % 2)) (shl-one 64 (a .d) (omega arith))
-          ∙ row-times (a .c) (a .d) (a .m .now) (a .number) few (own .j) (c .word .result) (omega arith) (c .word .ensures))
+          (row-times (a .c) (a .d) (a .m .now) (a .number) few (own .j) (c .first-factor .result) (w .result) (omega arith) (c .first-factor .ensures) (w .ensures))
           ∙ filled-more row (own .j) 0 (omega arith) (omega arith),
     )
 
@@ -114,14 +106,11 @@ costs-of-spec =
     (λ c. omega arith)
     (λ c. omega arith)
     (λ c. omega arith)
-    (λ c. omega arith)
-    sub-first
     loop-holds
     (λ c. omega arith)
     (λ c. omega arith)
     (λ c κs. omega arith)
-    (λ c. omega arith)
-    (λ c. omega arith)
+    (λ c κs. omega arith)
     mul-costs
     (λ c. omega arith)
     (λ c. omega arith)
