@@ -22,5 +22,3 @@ pub mod Notice
 pub mod Holder
 pub mod Changes
 pub mod TwinChanges
-pub mod Width
-pub mod WidthTree

@@ -15,7 +15,6 @@ pub mod Changing
 pub mod Opening
 pub mod Holder
 pub mod Sound
-pub mod Width
 pub mod Computing
 pub mod Cases
 pub mod Examples

@@ -4,3 +4,7 @@ pub mod Stands
 pub mod Demand3
 pub mod Accept
 pub mod Written
+pub mod Width
+pub mod WidthTree
+pub mod WidthChanges
+pub mod Widened

@@ -6,4 +6,5 @@ pub mod Used
 pub mod Answers
 pub mod Promise
 pub mod Run
+pub mod Width
 pub mod Laws

@@ -8,19 +8,19 @@ use lib.Dec.{ltb, leb, eqb}
 use lib.ListN.{length, take, drop, length-map}
 use Rattle.zorder.specs.Between.{sideOf, nearOf}
 use Rattle.zorder.specs.Laws.FirstCosts.{side-alike, near-alike}
 use Rattle.model.specs.Basics.{select, any, all, count, firstOr, lastOr, within}
 use Rattle.model.specs.Moves.{Move, noMove, moveBefore, insert, inZOrder, ordered}
-use Rattle.model.specs.Dominance.{dominates}
+use Rattle.model.specs.Dominance.{better, dominates}
 use Rattle.model.specs.Tree.{Entry, Tree, empty, rooted, movesUnder, movesOf, firstMove, lastMove, nodeSide, filled, rootLeast, filledTree, ruled}
 use Rattle.model.specs.Loading.{eights, evened, mended, cut, levels, built, loadTree}
 use Rattle.model.specs.Entering.{earlierInGap, goesInto, childPlace, sidesAt, leastBy, leftPart, split, replaceAt, enterNode, rootOf, enterTree}
 use Rattle.model.specs.Withdrawing.{without, Remainder, keepChild, keepChildren, withdrawNode, settled, enterAll, withdrawTree}
 use Rattle.model.specs.Nodes.{Node, nodeOf, nodesFrom, nodesOf, nearCornerOf, opens, nodesOpened}
-use Rattle.model.specs.Width.{moveWith, entryWith, treeWith}
+use Rattle.promises.specs.Width.{moveWith, entryWith, treeWith}
 use Rattle.model.specs.Laws.Bool.{cond-map}
 use Rattle.model.specs.Laws.Basics.{any-map, select-map, count-map, map-take}
 use Rattle.model.specs.Laws.Sorting.{map-insert, map-sort, map-rising}
-use Rattle.model.specs.Laws.Width.{KeepsFirst, dominates-with, move-before-with}
+use Rattle.promises.specs.Laws.Width.{KeepsFirst, dominates-with, move-before-with}
 
 -- ---- lists mapped
 
@@ -39,6 +39,12 @@ module _ {A B : Type 0} (f : A → B) where
   unfolding lastOr
   last-map z [] = refl
   last-map z (x ∷ xs) = last-map x xs
+
+module _ {A B : Type 0} (f : A → B) (p : A → Bool) (q : B → Bool) (e : (x : A) → q (f x) ≡ p x) where
+  all-map : (xs : List A) → all q (map f xs) ≡ all p xs
+  unfolding all
+  all-map [] = refl
+  all-map (x ∷ xs) = ap₂ _&&_ (e x) (all-map xs)
 
 module _ {A A' B B' : Type 0} (f : A → A') (k : B → B') (j : A → List B) (j' : A' → List B') (e : (x : A) → j' (f x) ≡ map k (j x)) where
   flat-map : (xs : List A) → flatMap j' (map f xs) ≡ map k (flatMap j xs)
@@ -109,7 +115,7 @@ module _ (g : List ℕ → List ℕ) where
   built-with (m ∷ ms) = ap (λ (n : ℕ). levels n 0 (map (moveWith g) (m ∷ ms))) (length-map ms (moveWith g)) ∙ levels-with (length ms) 0 (m ∷ ms)
 
 module _ (d : ℕ) (g : List ℕ → List ℕ) (G : KeepsFirst d g) where
-  sorted-with : (ms : List Move) → inZOrder d (map (moveWith g) ms) ≡ map (moveWith g) (inZOrder d ms)
+  pub sorted-with : (ms : List Move) → inZOrder d (map (moveWith g) ms) ≡ map (moveWith g) (inZOrder d ms)
   unfolding inZOrder
   sorted-with ms = sym (map-sort (moveWith g) (moveBefore d) (moveBefore d) (λ m n. sym (move-before-with d g G m n)) ms)
 
@@ -143,6 +149,10 @@ module _ (d : ℕ) (g : List ℕ → List ℕ) (G : KeepsFirst d g) where
   node-side-with h es =
       ap₂ (λ (m n : Move). sideOf d (m .costs) (n .costs)) (first-with (suc h) es) (last-with (suc h) es)
       ∙ side-with (firstMove (suc h) es) (lastMove (suc h) es)
+
+  first-dominates : (p q : List ℕ) → dominates d (g p) q ≡ dominates d p q
+  unfolding dominates
+  first-dominates p q = ap (λ (cs : List ℕ). better cs (take d q)) (G .first p)
 
   -- ---- entering
 
@@ -213,3 +223,124 @@ module _ (d : ℕ) (g : List ℕ → List ℕ) (G : KeepsFirst d g) where
   unfolding enterTree treeWith entryWith
   enter-with x empty = refl
   enter-with x (rooted h es) = ap (λ (fs : List (Entry h)). rootOf h (split d h fs)) (node-with h x es) ∙ ap (rootOf h) (split-with h (enterNode d h x es)) ∙ root-with h (split d h (enterNode d h x es))
+
+  -- ---- withdrawing
+
+  pub without-with : (n : ℕ) (ms : List Move) → without n (map (moveWith g) ms) ≡ map (moveWith g) (without n ms)
+  unfolding without
+  without-with n ms = select-map (λ m. not (eqb (m .number) n)) (moveWith g) ms
+
+  abbrev remainderWith : (h : ℕ) → Remainder h → Remainder h
+  remainderWith h r = record { entries = map (entryWith g h) (r .entries); moves = map (moveWith g) (r .moves) }
+
+  keep-child-with : (h : ℕ) (c : Remainder h) (rest : Remainder (suc h))
+      → keepChild h (remainderWith h c) (remainderWith (suc h) rest) ≡ remainderWith (suc h) (keepChild h c rest)
+  unfolding keepChild entryWith
+  keep-child-with h c rest =
+      (λ i. cond (ltb (length-map (c .entries) (entryWith g h) i) 3)
+      (record { entries = map (entryWith g (suc h)) (rest .entries); moves = gone i })
+      (record { entries = map (entryWith g h) (c .entries) ∷ map (entryWith g (suc h)) (rest .entries); moves = sym (map-append (moveWith g) (c .moves) (rest .moves)) i }))
+      ∙ sym (cond-map (remainderWith (suc h)) (ltb (length (c .entries)) 3) _ _)
+    where
+      gone : (movesUnder (suc h) (map (entryWith g h) (c .entries)) ++ map (moveWith g) (c .moves) ++ map (moveWith g) (rest .moves))
+          ≡ map (moveWith g) (movesUnder (suc h) (c .entries) ++ c .moves ++ rest .moves)
+      gone =
+          ap (λ (ms : List Move). ms ++ map (moveWith g) (c .moves) ++ map (moveWith g) (rest .moves)) (moves-with (suc h) (c .entries))
+          ∙ ap (λ (ms : List Move). ms ++ map (moveWith g) (rest .moves)) (sym (map-append (moveWith g) (movesUnder (suc h) (c .entries)) (c .moves)))
+          ∙ sym (map-append (moveWith g) (movesUnder (suc h) (c .entries) ++ c .moves) (rest .moves))
+
+  module _ (h : ℕ) (f : List (Entry h) → Remainder h) (e : (c : List (Entry h)) → f (map (entryWith g h) c) ≡ remainderWith h (f c)) where
+    keep-children-with : (cs : List (List (Entry h))) → keepChildren h f (map (entryWith g (suc h)) cs) ≡ remainderWith (suc h) (keepChildren h f cs)
+    unfolding keepChildren entryWith
+    keep-children-with [] = refl
+    keep-children-with (c ∷ cs) = ap₂ (keepChild h) (e c) (keep-children-with cs) ∙ keep-child-with h (f c) (keepChildren h f cs)
+
+  withdraw-node-with : (n h : ℕ) (es : List (Entry h)) → withdrawNode n h (map (entryWith g h) es) ≡ remainderWith h (withdrawNode n h es)
+  unfolding withdrawNode entryWith
+  withdraw-node-with n zero ms = ap (λ (es : List Move). record { entries = es; moves = [] }) (without-with n ms)
+  withdraw-node-with n (suc h) es = keep-children-with h (withdrawNode n h) (withdraw-node-with n h) es
+
+  settled-with : (h : ℕ) (es : List (Entry h)) → settled h (map (entryWith g h) es) ≡ treeWith g (settled h es)
+  unfolding settled treeWith entryWith
+  settled-with zero [] = refl
+  settled-with zero (m ∷ ms) = refl
+  settled-with (suc h) [] = refl
+  settled-with (suc h) (c ∷ []) = settled-with h c
+  settled-with (suc h) (c ∷ e ∷ es) = refl
+
+  enter-all-with : (ms : List Move) (t : Tree) → enterAll d (map (moveWith g) ms) (treeWith g t) ≡ treeWith g (enterAll d ms t)
+  unfolding enterAll
+  enter-all-with [] t = refl
+  enter-all-with (m ∷ ms) t = ap (enterAll d (map (moveWith g) ms)) (enter-with m t) ∙ enter-all-with ms (enterTree d m t)
+
+  pub withdraw-with : (n : ℕ) (t : Tree) → withdrawTree d n (treeWith g t) ≡ treeWith g (withdrawTree d n t)
+  unfolding withdrawTree treeWith
+  withdraw-with n empty = refl
+  withdraw-with n (rooted h es) =
+      ap (λ (r : Remainder h). enterAll d (inZOrder d (r .moves)) (settled h (r .entries))) (withdraw-node-with n h es)
+      ∙ ap₂ (enterAll d) (sorted-with (r .moves)) (settled-with h (r .entries))
+      ∙ enter-all-with (inZOrder d (r .moves)) (settled h (r .entries))
+    where
+      r : Remainder h
+      r = withdrawNode n h es
+
+  -- ---- the rules, and the nodes that a list opens
+
+  pub moves-of-with : (t : Tree) → movesOf (treeWith g t) ≡ map (moveWith g) (movesOf t)
+  unfolding movesOf treeWith entryWith
+  moves-of-with empty = refl
+  moves-of-with (rooted h es) = moves-with (suc h) es
+
+  filled-with : (h : ℕ) (e : Entry h) → filled h (entryWith g h e) ≡ filled h e
+  unfolding filled entryWith
+  filled-with zero m = refl
+  filled-with (suc h) es = ap₂ (λ (n : ℕ) (b : Bool). within 3 8 n && b) (length-map es (entryWith g h)) (all-map (entryWith g h) (filled h) (filled h) (filled-with h) es)
+
+  pub ruled-with : (t : Tree) → ruled d (treeWith g t) ≡ ruled d t
+  unfolding ruled filledTree treeWith ordered
+  ruled-with empty = refl
+  ruled-with (rooted h es) =
+      ap₂ _&&_
+      (ap₂ (λ (n : ℕ) (b : Bool). within (rootLeast h) 8 n && b) (length-map es (entryWith g h)) (all-map (entryWith g h) (filled h) (filled h) (filled-with h) es))
+      (ap (ordered d) (moves-of-with (rooted h es)) ∙ sym (map-rising (moveWith g) (moveBefore d) (moveBefore d) (λ m n. sym (move-before-with d g G m n)) (movesOf (rooted h es))))
+
+  abbrev nodeWith : Node → Node
+  nodeWith n = record { first = moveWith g (n .first); last = moveWith g (n .last); under = map (moveWith g) (n .under) }
+
+  node-of-with : (ms : List Move) → nodeOf (map (moveWith g) ms) ≡ nodeWith (nodeOf ms)
+  unfolding nodeOf
+  node-of-with ms =
+      λ i. record {
+        first = (ap (λ (m : Move). firstOr m (map (moveWith g) ms)) (sym none-with) ∙ first-map (moveWith g) noMove ms) i;
+        last = (ap (λ (m : Move). lastOr m (map (moveWith g) ms)) (sym none-with) ∙ last-map (moveWith g) noMove ms) i;
+        under = map (moveWith g) ms;
+      }
+
+  nodes-from-with : (h : ℕ) (es : List (Entry h)) → nodesFrom h (map (entryWith g h) es) ≡ map nodeWith (nodesFrom h es)
+  unfolding nodesFrom entryWith
+  nodes-from-with zero ms = ap (λ (n : Node). n ∷ []) (ap nodeOf (moves-with 1 ms) ∙ node-of-with (movesUnder 1 ms))
+  nodes-from-with (suc h) es =
+      ap₂ _∷_
+      (ap nodeOf (moves-with (suc (suc h)) es) ∙ node-of-with (movesUnder (suc (suc h)) es))
+      (flat-map (entryWith g (suc h)) nodeWith (nodesFrom h) (nodesFrom h) (nodes-from-with h) es)
+
+  nodes-with : (t : Tree) → nodesOf (treeWith g t) ≡ map nodeWith (nodesOf t)
+  unfolding nodesOf treeWith
+  nodes-with empty = refl
+  nodes-with (rooted h es) = nodes-from-with h es
+
+  opens-with : (ms : List Move) (n : Node) → opens d (map (moveWith g) ms) (nodeWith n) ≡ opens d ms n
+  unfolding opens nearCornerOf
+  opens-with ms n = ap not (any-map (λ m. dominates d (m .costs) (nearOf d (g (n .first .costs)) (g (n .last .costs)))) (moveWith g) ms ∙ (λ i. any (λ m. near m i) ms))
+    where
+      near : (m : Move) → dominates d (g (m .costs)) (nearOf d (g (n .first .costs)) (g (n .last .costs))) ≡ dominates d (m .costs) (nearOf d (n .first .costs) (n .last .costs))
+      near m =
+          ap (dominates d (g (m .costs))) (near-alike d (g (n .first .costs)) (n .first .costs) (g (n .last .costs)) (n .last .costs) (G .first (n .first .costs)) (G .first (n .last .costs)))
+          ∙ first-dominates (m .costs) (nearOf d (n .first .costs) (n .last .costs))
+
+  pub opened-with : (t : Tree) → nodesOpened d (treeWith g t) ≡ nodesOpened d t
+  unfolding nodesOpened
+  opened-with t =
+      ap₂ (λ (ms : List Move) (ns : List Node). count (opens d ms) ns) (moves-of-with t) (nodes-with t)
+      ∙ count-map (opens d (map (moveWith g) (movesOf t))) nodeWith (nodesOf t)
+      ∙ (λ i. count (λ n. opens-with (movesOf t) n i) (nodesOf t))

@@ -8,21 +8,23 @@ use lib.Dec.{ltb, leb, eqb}
 use lib.ListN.{length, take, getD, length-map}
 use lib.Seq.{getD-take}
 use Rattle.zorder.specs.Between.{before, samePlace}
+use Rattle.zorder.specs.Refusal.{costPastBad}
 use Rattle.zorder.specs.Laws.FirstCosts.{before-alike, same-place-alike}
 use Rattle.model.specs.Basics.{Each, select, any, count, insertBy, sortBy, rising, parts, numbersFrom, equal}
 use Rattle.model.specs.Moves.{Move, Row, rowOf, listed, zBefore, moveBefore, rowBefore, insert, inZOrder, ordered}
 use Rattle.model.specs.Dominance.{better, dominates, at, dominatesAt, dominatesOn, equalCosts, lowerTwin, hides}
 use Rattle.model.specs.Lists.{hidden, skyline, dominators, band, dominated, rankBefore, rank, onK, chosen, chosenCosts, listedRows}
 use Rattle.model.specs.Withdrawing.{without}
 use Rattle.model.specs.Calls.{Board, Change, enter, withdraw, recost, Query, list, bandQuery, rankQuery, onKQuery, chosenQuery, listOf, queryRows, queryRefusal, queryAnswer, orElse, refusedWith, rowsAnswer}
-use Rattle.model.specs.Width.{moveWith, rowWith, boardWith}
+use Rattle.promises.specs.Width.{moveWith, rowWith, boardWith}
 use Rattle.model.specs.Laws.Basics.{each-mem, mem-each, each-map, each-append, each-select, any-map, any-ext, select-map, count-map, map-take}
 use Rattle.model.specs.Laws.Range.{each-place}
 use Rattle.model.specs.Laws.Sorting.{map-sort}
 
--- What g keeps of a row's costs: the first d, and that there are none.
+-- What g keeps of a row's costs: the first d, that those past d are zero, and that there are none.
 pub record KeepsFirst (d : ℕ) (g : List ℕ → List ℕ) : Type 0 where
   pub first : (cs : List ℕ) → take d (g cs) ≡ take d cs
+  pub past : (cs : List ℕ) → costPastBad d cs ≡ false → costPastBad d (g cs) ≡ false
   pub none : g [] ≡ []
 
 -- ---- a set of the first d costs
@@ -155,19 +157,23 @@ module _ (d : ℕ) (g : List ℕ → List ℕ) (G : KeepsFirst d g) where
 
 -- ---- what calls tell
 
-listed-with : (g : List ℕ → List ℕ) (ms : List Move) → listedRows (map (moveWith g) ms) ≡ map (rowWith g) (listedRows ms)
-unfolding listedRows rowOf
-listed-with g ms = map-map (rowOf listed) (moveWith g) ms ∙ sym (map-map (rowWith g) (rowOf listed) ms)
+pub rows-with : (g : List ℕ → List ℕ) (mark : ℕ) (ms : List Move) → map (rowOf mark) (map (moveWith g) ms) ≡ map (rowWith g) (map (rowOf mark) ms)
+unfolding rowOf
+rows-with g mark ms = map-map (rowOf mark) (moveWith g) ms ∙ sym (map-map (rowWith g) (rowOf mark) ms)
 
 module _ (g : List ℕ → List ℕ) (b : Board) (G : KeepsFirst (b .dimension) g) where
+  told-with : (ms : List Move) {ns : List Move} → ns ≡ map (moveWith g) ms → listedRows ns ≡ map (rowWith g) (listedRows ms)
+  unfolding listedRows
+  told-with ms e = ap (map (rowOf listed)) e ∙ rows-with g listed ms
+
   -- Lists of any kind: the same rows, with the costs that g gives.
   pub query-rows-with : (q : Query) → queryRows (boardWith g b) q ≡ map (rowWith g) (queryRows b q)
   unfolding queryRows listOf
-  query-rows-with list = ap listedRows (skyline-with (b .dimension) g G (b .moves)) ∙ listed-with g _
-  query-rows-with (bandQuery n) = ap listedRows (band-with (b .dimension) g G (b .moves) n) ∙ listed-with g _
+  query-rows-with list = told-with (skyline (b .dimension) (b .moves)) (skyline-with (b .dimension) g G (b .moves))
+  query-rows-with (bandQuery n) = told-with (band (b .dimension) n (b .moves)) (band-with (b .dimension) g G (b .moves) n)
   query-rows-with (rankQuery t) = rank-with (b .dimension) g G (b .moves) t
-  query-rows-with (onKQuery k) = ap listedRows (on-k-with (b .dimension) g G (b .moves) k) ∙ listed-with g _
-  query-rows-with (chosenQuery set) = ap listedRows (chosen-with (b .dimension) g G (b .moves) set) ∙ listed-with g _
+  query-rows-with (onKQuery k) = told-with (onK (b .dimension) k (b .moves)) (on-k-with (b .dimension) g G (b .moves) k)
+  query-rows-with (chosenQuery set) = told-with (chosen (chosenCosts (b .dimension) set) (b .moves)) (chosen-with (b .dimension) g G (b .moves) set)
 
   query-refusal-with : (q : Query) → queryRefusal (boardWith g b) q ≡ queryRefusal b q
   unfolding queryRefusal
