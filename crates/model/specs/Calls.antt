@@ -31,7 +31,7 @@ orElse a b = cond (eqb (a .number) 0) b a
 unfoldable pub rowsAnswer : ℕ → ℕ → Answer
 rowsAnswer need lent = cond (ltb lent need) (record { number = 8; detail = need }) accepted
 
--- "A board has a size C (16 to 4,096) and d costs (2 to 4)", and moves, here in Z-order.
+-- "A board has a size C (16 to 4,096) and d costs", 2 to 8 (Card 13), and moves, here in Z-order.
 pub record Board : Type 0 where
   pub size : ℕ
   pub dimension : ℕ

@@ -1,16 +1,22 @@
--- Document 01's worked board (d = 2) and its cases A to K, D, G and J as Card 4 has them: one table, checked by one theorem.
+-- Document 01's worked board (d = 2) and its cases A to K, A by the two words of Card 13, D, G and J as Card 4 has them: one
+-- table, checked by one theorem.
 use Prim.Native.Nat.{ℕ}
 use mathlib.Core.List.{List, [], _∷_, _++_, map, flatMap}
 use mathlib.Core.Path.{_≡_, refl}
-use Rattle.zorder.specs.Address.{address}
+use Rattle.zorder.specs.Address.{address, padded}
+use Rattle.zorder.specs.Words.{wordsOf}
 use Rattle.zorder.specs.Between.{nearOf, farOf}
 use Rattle.model.specs.Moves.{Move, Row, inZOrder}
 use Rattle.model.specs.Lists.{skyline, band, rank, onK, chosen}
 use Rattle.model.specs.Computing.{computing}
 use Rattle.model.specs.Calls.{Board, Change, withdraw, changed, changeNotice}
 
+-- Two costs as a row holds them.
+unfoldable pub pair : ℕ → ℕ → List ℕ
+pair p q = padded 2 (p ∷ q ∷ [])
+
 unfoldable pub move : ℕ → ℕ → ℕ → Move
-move n p q = record { number = n; costs = p ∷ q ∷ 0 ∷ 0 ∷ [] }
+move n p q = record { number = n; costs = pair p q }
 
 unfoldable pub moves : List Move
 moves = move 0 1 6 ∷ move 1 3 7 ∷ move 2 2 2 ∷ move 3 5 1 ∷ move 4 6 2 ∷ move 5 2 2 ∷ []
@@ -36,7 +42,8 @@ notices b (c ∷ cs) = marks (changeNotice b c) ∷ notices (changed b c) cs
 
 unfoldable pub results : List (List ℕ)
 results =
-    map (λ m. address 2 (m .costs)) moves
+    map (λ m. wordsOf (address 2 (m .costs)) .upper) moves
+    ∷ map (λ m. wordsOf (address 2 (m .costs)) .lower) moves
     ∷ corners (2 ∷ 2 ∷ []) (1 ∷ 6 ∷ [])
     ∷ corners (5 ∷ 1 ∷ []) (6 ∷ 2 ∷ [])
     ∷ numbers (skyline 2 (worked .moves))
@@ -49,7 +56,8 @@ results =
 
 unfoldable pub expected : List (List ℕ)
 expected =
-    (22 ∷ 31 ∷ 12 ∷ 35 ∷ 44 ∷ 12 ∷ [])
+    (0 ∷ 0 ∷ 0 ∷ 0 ∷ 0 ∷ 0 ∷ [])
+    ∷ (22 ∷ 31 ∷ 12 ∷ 35 ∷ 44 ∷ 12 ∷ [])
     ∷ (0 ∷ 0 ∷ 7 ∷ 7 ∷ [])
     ∷ (4 ∷ 0 ∷ 7 ∷ 3 ∷ [])
     ∷ (2 ∷ 0 ∷ 3 ∷ [])
@@ -64,5 +72,5 @@ expected =
     ∷ []
 
 pub cases : results ≡ expected
-unfolding computing results expected moves move worked corners numbers marks notices
+unfolding computing results expected moves pair move worked corners numbers marks notices
 cases = refl

@@ -1,6 +1,7 @@
 -- One name that opens every definition, for theorems that compute examples.
 use mathlib.Core.List.{flatMap}
 use Rattle.zorder.specs.Address.{bit, group, groups, address, costFromBits, costsFrom, costsOf, padded}
+use Rattle.zorder.specs.Words.{wordsOf}
 use Rattle.zorder.specs.Region.{groupsOf, agreeing, kept, unkept, zerosBelow, onesBelow, nearCorner, farCorner, side}
 use Rattle.zorder.specs.Between.{before, samePlace, sideOf, nearOf, farOf}
 use Rattle.zorder.specs.Refusal.{refusal, allZero, costCountBad, costPastBad}
@@ -17,5 +18,5 @@ use Rattle.model.specs.Notice.{missing, noticeOf}
 use Rattle.model.specs.Calls.{accepted, refusedWith, orElse, rowsAnswer, sizeBad, memoryNeed, rowRefusal, rowsRefusal, loadAnswer, loaded, onBoard, changeRefusal, changedMoves, changed, listOf, changeNotice, changeAnswer, queryRefusal, queryRows, queryAnswer}
 
 unfoldable pub computing : Unit {0}
-unfolding flatMap bit group groups address costFromBits costsFrom costsOf padded groupsOf agreeing kept unkept zerosBelow onesBelow nearCorner farCorner side before samePlace sideOf nearOf farOf refusal allZero costCountBad costPastBad select any all count insertBy sortBy rising firstOr lastOr parts numbersFrom within has distinct equal moveOf rowOf sameRow zBefore moveBefore rowBefore insert inZOrder ordered less nowhereGreater somewhereLess better dominates at dominatesAt dominatesOn equalCosts lowerTwin hides hidden skyline dominators band dominated rankBefore rank onK chosen chosenCosts listedRows movesUnder movesOf firstMove lastMove nodeSide filled rootLeast filledTree ruled eights evened mended cut levels built loadTree earlierInGap goesInto childPlace sidesAt leastBy leftPart split replaceAt enterNode rootOf enterTree without keepChild keepChildren withdrawNode settled enterAll withdrawTree costsOn unchanged recostTree nodeOf nodesFrom nodesOf nearCornerOf farCornerOf opens nodesOpened missing noticeOf accepted refusedWith orElse rowsAnswer sizeBad memoryNeed rowRefusal rowsRefusal loadAnswer loaded onBoard changeRefusal changedMoves changed listOf changeNotice changeAnswer queryRefusal queryRows queryAnswer
+unfolding flatMap bit group groups address costFromBits costsFrom costsOf padded wordsOf groupsOf agreeing kept unkept zerosBelow onesBelow nearCorner farCorner side before samePlace sideOf nearOf farOf refusal allZero costCountBad costPastBad select any all count insertBy sortBy rising firstOr lastOr parts numbersFrom within has distinct equal moveOf rowOf sameRow zBefore moveBefore rowBefore insert inZOrder ordered less nowhereGreater somewhereLess better dominates at dominatesAt dominatesOn equalCosts lowerTwin hides hidden skyline dominators band dominated rankBefore rank onK chosen chosenCosts listedRows movesUnder movesOf firstMove lastMove nodeSide filled rootLeast filledTree ruled eights evened mended cut levels built loadTree earlierInGap goesInto childPlace sidesAt leastBy leftPart split replaceAt enterNode rootOf enterTree without keepChild keepChildren withdrawNode settled enterAll withdrawTree costsOn unchanged recostTree nodeOf nodesFrom nodesOf nearCornerOf farCornerOf opens nodesOpened missing noticeOf accepted refusedWith orElse rowsAnswer sizeBad memoryNeed rowRefusal rowsRefusal loadAnswer loaded onBoard changeRefusal changedMoves changed listOf changeNotice changeAnswer queryRefusal queryRows queryAnswer
 computing = tt

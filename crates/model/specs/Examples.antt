@@ -1,10 +1,15 @@
--- Computed examples of the tree's rules and of the notice, beside document 01's own cases (d = 2).
+-- Computed examples of the tree's rules and of the notice, beside document 01's own cases (d = 2), and of eight costs.
 use Prim.Native.Nat.{ℕ, zero, suc, _+_, _-_, _*_, _^_}
+use mathlib.Core.Bool.{true, false}
 use mathlib.Core.List.{List, [], _∷_, _++_, map, flatMap}
 use mathlib.Core.Path.{_≡_, refl}
-use lib.ListN.{length}
+use lib.ListN.{length, getD, set, replicate}
+use Rattle.zorder.specs.Address.{rowCosts, address, padded}
+use Rattle.zorder.specs.Words.{wordsOf}
+use Rattle.zorder.specs.Between.{before, sideOf, farOf}
 use Rattle.model.specs.Basics.{numbersFrom}
 use Rattle.model.specs.Moves.{Move, inZOrder}
+use Rattle.model.specs.Dominance.{dominates}
 use Rattle.model.specs.Tree.{Entry, Tree, empty, rooted}
 use Rattle.model.specs.Loading.{loadTree}
 use Rattle.model.specs.Entering.{enterTree}
@@ -13,7 +18,7 @@ use Rattle.model.specs.Nodes.{nodesOpened}
 use Rattle.model.specs.Lists.{skyline, band, rank}
 use Rattle.model.specs.Calls.{Board, enter, withdraw, recost, chosenQuery, queryRows}
 use Rattle.model.specs.Computing.{computing}
-use Rattle.model.specs.Cases.{move, numbers, marks, notices}
+use Rattle.model.specs.Cases.{pair, move, numbers, marks, notices}
 
 -- ---- how trees are written and shown
 
@@ -37,7 +42,7 @@ threes zero p = move p p 0
 threes (suc h) p = threes h p ∷ threes h (p + 3 ^ h) ∷ threes h (p + 2 * 3 ^ h) ∷ []
 
 showing : Unit {0}
-unfolding computing move numbers marks notices shapeFrom shape row threes
+unfolding computing pair move numbers marks notices shapeFrom shape row threes
 showing = tt
 
 -- ---- loading
@@ -111,7 +116,7 @@ chain : Board
 chain = record { size = 16; dimension = 2; moves = inZOrder 2 (move 0 1 1 ∷ move 1 2 2 ∷ move 2 3 3 ∷ []) }
 
 -- Its withdrawal brings up 1 only. A re-cost of 0 with equal costs tells nothing; one to (2,3), which 1 hides, brings up 1.
-chain-notices : map (λ c. notices chain (c ∷ [])) (withdraw 0 ∷ recost 0 (1 ∷ 1 ∷ 0 ∷ 0 ∷ []) ∷ recost 0 (2 ∷ 3 ∷ 0 ∷ 0 ∷ []) ∷ [])
+chain-notices : map (λ c. notices chain (c ∷ [])) (withdraw 0 ∷ recost 0 (pair 1 1) ∷ recost 0 (pair 2 3) ∷ [])
     ≡ ((1 ∷ 0 ∷ 2 ∷ 1 ∷ []) ∷ []) ∷ ([] ∷ []) ∷ ((1 ∷ 0 ∷ 2 ∷ 1 ∷ []) ∷ []) ∷ []
 unfolding showing chain
 chain-notices = refl
@@ -135,7 +140,7 @@ twins-withdrawn = refl
 
 -- A hidden twin goes, or one of a higher number than the listed one comes: nothing is told. One of a lower number comes: it
 -- takes the listed one's place. The listed one gets other costs: the next comes up.
-twin-notices : map (λ c. notices twins (c ∷ [])) (withdraw 3 ∷ enter 2 (2 ∷ 2 ∷ 0 ∷ 0 ∷ []) ∷ enter 0 (2 ∷ 2 ∷ 0 ∷ 0 ∷ []) ∷ recost 1 (2 ∷ 3 ∷ 0 ∷ 0 ∷ []) ∷ [])
+twin-notices : map (λ c. notices twins (c ∷ [])) (withdraw 3 ∷ enter 2 (pair 2 2) ∷ enter 0 (pair 2 2) ∷ recost 1 (pair 2 3) ∷ [])
     ≡ ([] ∷ []) ∷ ([] ∷ []) ∷ ((1 ∷ 1 ∷ 2 ∷ 0 ∷ []) ∷ []) ∷ ((1 ∷ 1 ∷ 2 ∷ 3 ∷ []) ∷ []) ∷ []
 unfolding showing twins
 twin-notices = refl
@@ -155,3 +160,39 @@ chosen-of-all = refl
 rank-tie : marks (rank 2 2 (inZOrder 2 (move 0 3 0 ∷ move 1 0 3 ∷ []))) ≡ 0 ∷ 1 ∷ 0 ∷ 0 ∷ []
 unfolding showing
 rank-tie = refl
+
+-- ---- eight costs
+
+-- A row with one cost, at place i, that is not zero.
+only : ℕ → ℕ → List ℕ
+only i c = set (replicate rowCosts 0) i c
+
+words : ℕ → List ℕ → List ℕ
+words d p = let a = wordsOf (address d p) in a .upper ∷ a .lower ∷ []
+
+-- The highest bit of the first cost is the address's highest, the lowest bit of the last its lowest; bit 8 begins the upper word.
+-- Five costs have 80 bits.
+eight-words : map (words 8) (only 0 32768 ∷ only 7 1 ∷ only 0 256 ∷ only 7 256 ∷ only 0 128 ∷ []) ++ words 5 (padded 5 (replicate 5 65535)) ∷ []
+    ≡ (9223372036854775808 ∷ 0 ∷ [])
+    ∷ (0 ∷ 1 ∷ [])
+    ∷ (128 ∷ 0 ∷ [])
+    ∷ (1 ∷ 0 ∷ [])
+    ∷ (0 ∷ 9223372036854775808 ∷ [])
+    ∷ (65535 ∷ 18446744073709551615 ∷ [])
+    ∷ []
+unfolding showing only words
+eight-words = refl
+
+-- Order, dominance and region by the last of eight costs, and by costs whose bits stand in both words.
+eight-order : map (λ p. before 8 p (only 7 256)) (only 7 255 ∷ only 0 255 ∷ only 7 256 ∷ only 6 256 ∷ []) ≡ true ∷ true ∷ false ∷ false ∷ []
+unfolding showing only
+eight-order = refl
+
+eight-dominates : map (λ d. dominates d (only 7 1) (only 7 2)) (7 ∷ 8 ∷ []) ≡ false ∷ true ∷ []
+unfolding showing only
+eight-dominates = refl
+
+eight-region : map (λ p. sideOf 8 p (only 7 256)) (only 7 256 ∷ only 7 255 ∷ only 0 32768 ∷ []) ++ getD (farOf 8 (only 7 255) (only 7 256)) 3 0 ∷ []
+    ≡ 1 ∷ 512 ∷ 65536 ∷ 511 ∷ []
+unfolding showing only
+eight-region = refl

@@ -9,7 +9,8 @@ use Rattle.model.specs.Basics.{Each, distinct}
 use Rattle.model.specs.Moves.{Move, ordered}
 use Rattle.model.specs.Calls.{Board, sizeBad}
 
--- "A row is a move number and an array of four costs, each 0 to 65,535; costs past d are zero. Numbers run from 0 to C−1."
+-- "A row is a move number and an array of" eight (Card 13) "costs, each 0 to 65,535; costs past d are zero. Numbers run from 0
+-- to C−1."
 pub record Fit (c d : ℕ) (m : Move) : Type 0 where
   pub number : m .number < c
   pub costs : RowCosts d (m .costs)

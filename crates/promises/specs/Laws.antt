@@ -8,3 +8,4 @@ pub mod Width
 pub mod WidthTree
 pub mod WidthChanges
 pub mod Widened
+pub mod Earlier

@@ -1,8 +1,8 @@
 -- Costs past the first d do not matter (Card 13): order, dominance, lists and notices of a board are those of the same board
 -- with other costs past d in its rows.
-use Prim.Native.Nat.{ℕ, zero, suc, _≤_, _<_}
-use mathlib.Core.Bool.{Bool, true, false, cond, not, _&&_, _||_}
-use mathlib.Core.List.{List, [], _∷_, _++_, map, map-map, map-append}
+use Prim.Native.Nat.{ℕ, zero, suc, _<_}
+use mathlib.Core.Bool.{Bool, false, not, _&&_, _||_}
+use mathlib.Core.List.{List, [], _∷_, map, map-map}
 use mathlib.Core.Path.{_≡_, refl, sym, ap, ap₂, _∙_}
 use lib.Dec.{ltb, leb, eqb}
 use lib.ListN.{length, take, getD, length-map}
@@ -10,12 +10,11 @@ use lib.Seq.{getD-take}
 use Rattle.zorder.specs.Between.{before, samePlace}
 use Rattle.zorder.specs.Refusal.{costPastBad}
 use Rattle.zorder.specs.Laws.FirstCosts.{before-alike, same-place-alike}
-use Rattle.model.specs.Basics.{Each, select, any, count, insertBy, sortBy, rising, parts, numbersFrom, equal}
-use Rattle.model.specs.Moves.{Move, Row, rowOf, listed, zBefore, moveBefore, rowBefore, insert, inZOrder, ordered}
+use Rattle.model.specs.Basics.{Each, select, any, count, sortBy, parts, numbersFrom, equal}
+use Rattle.model.specs.Moves.{Move, Row, rowOf, listed, zBefore, moveBefore, rowBefore}
 use Rattle.model.specs.Dominance.{better, dominates, at, dominatesAt, dominatesOn, equalCosts, lowerTwin, hides}
 use Rattle.model.specs.Lists.{hidden, skyline, dominators, band, dominated, rankBefore, rank, onK, chosen, chosenCosts, listedRows}
-use Rattle.model.specs.Withdrawing.{without}
-use Rattle.model.specs.Calls.{Board, Change, enter, withdraw, recost, Query, list, bandQuery, rankQuery, onKQuery, chosenQuery, listOf, queryRows, queryRefusal, queryAnswer, orElse, refusedWith, rowsAnswer}
+use Rattle.model.specs.Calls.{Board, Query, list, bandQuery, rankQuery, onKQuery, chosenQuery, listOf, queryRows, queryRefusal, queryAnswer, orElse, refusedWith, rowsAnswer}
 use Rattle.promises.specs.Width.{moveWith, rowWith, boardWith}
 use Rattle.model.specs.Laws.Basics.{each-mem, mem-each, each-map, each-append, each-select, any-map, any-ext, select-map, count-map, map-take}
 use Rattle.model.specs.Laws.Range.{each-place}

@@ -5,14 +5,14 @@ use mathlib.Core.Bool.{Bool, true, false, cond, not, _&&_, _||_, false≢true}
 use mathlib.Core.List.{List, [], _∷_, _++_, map, map-map, map-append, List·Memᴰ}
 use mathlib.Core.Path.{_≡_, refl, sym, ap, ap₂, _∙_, subst}
 use borrow.Author.Tests.{not-false}
-use lib.Dec.{ltb, leb, eqb}
+use lib.Dec.{leb, eqb}
 use lib.ListN.{length, take, length-map}
 use Rattle.zorder.specs.Address.{rowCosts, padded}
 use Rattle.zorder.specs.Between.{RowCosts}
-use Rattle.zorder.specs.Refusal.{refusal, costPastBad, costCountBad}
+use Rattle.zorder.specs.Refusal.{refusal, costPastBad}
 use Rattle.zorder.specs.Laws.Between.{row-padded}
 use Rattle.zorder.specs.Laws.Refusal.{first-passes, rest-passes}
-use Rattle.model.specs.Basics.{Each, select, any, has, equal}
+use Rattle.model.specs.Basics.{Each, any, has, equal}
 use Rattle.model.specs.Moves.{Move, InputRow, Row, moveOf, rowOf, sameRow, left, entered, moveBefore, insert, inZOrder}
 use Rattle.model.specs.Lists.{skyline}
 use Rattle.model.specs.Tree.{Tree, movesOf}
@@ -21,9 +21,9 @@ use Rattle.model.specs.Entering.{enterTree}
 use Rattle.model.specs.Withdrawing.{without, withdrawTree, costsOn, unchanged, recostTree}
 use Rattle.model.specs.Notice.{missing, noticeOf}
 use Rattle.model.specs.Changing.{changeTree}
-use Rattle.model.specs.Calls.{Answer, accepted, refusedWith, orElse, rowsAnswer, Board, sizeBad, memoryNeed, rowRefusal, rowsRefusal, loadAnswer, loaded, Change, enter, withdraw, recost, onBoard, changeRefusal, changedMoves, changed, listOf, changeNotice, changeAnswer}
-use Rattle.model.specs.Laws.Bool.{same-test, testCases, cond-map}
-use Rattle.model.specs.Laws.Basics.{each-mem, mem-each, each-map, each-append, each-select, any-map, any-ext, select-map, select-ext, equal-refl, equal-true}
+use Rattle.model.specs.Calls.{Answer, accepted, refusedWith, orElse, rowsAnswer, Board, rowRefusal, rowsRefusal, loadAnswer, loaded, Change, enter, withdraw, recost, onBoard, changeRefusal, changedMoves, changed, listOf, changeNotice, changeAnswer}
+use Rattle.model.specs.Laws.Bool.{same-test, cond-map}
+use Rattle.model.specs.Laws.Basics.{each-mem, mem-each, each-map, each-select, any-map, any-ext, select-map, select-ext, equal-refl, equal-true}
 use Rattle.model.specs.Laws.Sorting.{map-insert, each-insert}
 use Rattle.promises.specs.Width.{moveWith, inputWith, rowWith, boardWith, changeWith, treeWith}
 use Rattle.promises.specs.Laws.Width.{KeepsFirst, move-before-with, skyline-with, rows-with}

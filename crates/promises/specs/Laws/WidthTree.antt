@@ -2,13 +2,13 @@
 -- open the same nodes, with other costs past d in the rows.
 use Prim.Native.Nat.{ℕ, zero, suc, _+_, _-_}
 use mathlib.Core.Bool.{Bool, true, false, cond, not, _&&_}
-use mathlib.Core.List.{List, [], _∷_, _++_, map, flatMap, map-map, map-append}
+use mathlib.Core.List.{List, [], _∷_, _++_, map, flatMap, map-append}
 use mathlib.Core.Path.{_≡_, refl, sym, ap, ap₂, _∙_}
 use lib.Dec.{ltb, leb, eqb}
 use lib.ListN.{length, take, drop, length-map}
 use Rattle.zorder.specs.Between.{sideOf, nearOf}
 use Rattle.zorder.specs.Laws.FirstCosts.{side-alike, near-alike}
-use Rattle.model.specs.Basics.{select, any, all, count, firstOr, lastOr, within}
+use Rattle.model.specs.Basics.{any, all, count, firstOr, lastOr, within}
 use Rattle.model.specs.Moves.{Move, noMove, moveBefore, insert, inZOrder, ordered}
 use Rattle.model.specs.Dominance.{better, dominates}
 use Rattle.model.specs.Tree.{Entry, Tree, empty, rooted, movesUnder, movesOf, firstMove, lastMove, nodeSide, filled, rootLeast, filledTree, ruled}
@@ -20,7 +20,7 @@ use Rattle.promises.specs.Width.{moveWith, entryWith, treeWith}
 use Rattle.model.specs.Laws.Bool.{cond-map}
 use Rattle.model.specs.Laws.Basics.{any-map, select-map, count-map, map-take}
 use Rattle.model.specs.Laws.Sorting.{map-insert, map-sort, map-rising}
-use Rattle.promises.specs.Laws.Width.{KeepsFirst, dominates-with, move-before-with}
+use Rattle.promises.specs.Laws.Width.{KeepsFirst, move-before-with}
 
 -- ---- lists mapped
 
@@ -47,7 +47,7 @@ module _ {A B : Type 0} (f : A → B) (p : A → Bool) (q : B → Bool) (e : (x 
   all-map (x ∷ xs) = ap₂ _&&_ (e x) (all-map xs)
 
 module _ {A A' B B' : Type 0} (f : A → A') (k : B → B') (j : A → List B) (j' : A' → List B') (e : (x : A) → j' (f x) ≡ map k (j x)) where
-  flat-map : (xs : List A) → flatMap j' (map f xs) ≡ map k (flatMap j xs)
+  pub flat-map : (xs : List A) → flatMap j' (map f xs) ≡ map k (flatMap j xs)
   unfolding flatMap
   flat-map [] = refl
   flat-map (x ∷ xs) = ap₂ _++_ (e x) (flat-map xs) ∙ sym (map-append k (j x) (flatMap j xs))

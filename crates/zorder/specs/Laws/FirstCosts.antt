@@ -5,7 +5,7 @@ use mathlib.Core.Path.{_≡_, ap, ap₂}
 use lib.Dec.{ltb, eqb}
 use lib.ListN.{take}
 use Rattle.zorder.specs.Address.{costBits, groups, address, padded}
-use Rattle.zorder.specs.Between.{before, samePlace, orderOf, sideOf, nearOf, farOf}
+use Rattle.zorder.specs.Between.{before, samePlace, sideOf, nearOf, farOf}
 use Rattle.zorder.specs.Region.{nearCorner, farCorner, side}
 
 module _ (d : ℕ) where

@@ -1,5 +1,5 @@
 -- `separate::too_large` meets its contract: an address below the power has that many leading zeros. Assumes nothing.
-use Prim.Native.Nat.{ℕ, _-_, _*_, _^_, _<_}
+use Prim.Native.Nat.{ℕ, _-_, _*_}
 use mathlib.Core.Path.{ap, _∙_}
 use native.Mathlib.Omega.{arith}
 use borrow.Author.Needs.{needs}
