@@ -16,10 +16,10 @@ use Rattle.zorder.specs.Laws.Address.{bit-shr}
 use Rattle.zorder.specs.Laws.Inverse.{bit-below}
 use Rattle.zorder.proofs.Bits.{shl-or}
 
--- Two words of k + d bits moved up by d bits, with g in the freed ones.
-moved-at : (k d u l g : ℕ) → l < 2 ^ (k + d) → g < 2 ^ d → u * 2 ^ d < 2 ^ (k + d)
+-- Two words of k + d bits shifted up by d bits, with g in the freed ones.
+shifted-at : (k d u l g : ℕ) → l < 2 ^ (k + d) → g < 2 ^ d → u * 2 ^ d < 2 ^ (k + d)
     → bitOr (u * 2 ^ d % 2 ^ (k + d)) (l / 2 ^ k) * 2 ^ (k + d) + bitOr (l * 2 ^ d % 2 ^ (k + d)) g ≡ (u * 2 ^ (k + d) + l) * 2 ^ d + g
-moved-at k d u l g word small fits =
+shifted-at k d u l g word small fits =
     let h : ℕ = l / 2 ^ k in
     let r : ℕ = l % 2 ^ k in
     let top : h < 2 ^ d = shr-lt d k (rw (pow-add 2 d k) (omega (arith, rw (pow-add 2 k d) at word))) in
@@ -33,12 +33,12 @@ moved-at k d u l g word small fits =
 fits-at : (w u l m : ℕ) → (u * 2 ^ w + l) * m < 2 ^ w * 2 ^ w → u * m < 2 ^ w
 fits-at w u l m fits = lt-of-not-le (λ h. omega (arith, mul-le-mul-left (2 ^ w) h))
 
-pub moved : (d u l g : ℕ) → l < 2 ^ 64 → d < 64 → g < 2 ^ d → (u * 2 ^ 64 + l) * 2 ^ d < 2 ^ 128
+pub shifted-in : (d u l g : ℕ) → l < 2 ^ 64 → d < 64 → g < 2 ^ d → (u * 2 ^ 64 + l) * 2 ^ d < 2 ^ 128
     → bitOr (u * 2 ^ d % 2 ^ 64) (l / 2 ^ (64 - d)) * 2 ^ 64 + bitOr (l * 2 ^ d % 2 ^ 64) g ≡ (u * 2 ^ 64 + l) * 2 ^ d + g
-moved d u l g word few small fits =
+shifted-in d u l g word few small fits =
     let w : 64 - d + d ≡ 64 = omega arith in
     subst (λ (n : ℕ). bitOr (u * 2 ^ d % 2 ^ n) (l / 2 ^ (64 - d)) * 2 ^ n + bitOr (l * 2 ^ d % 2 ^ n) g ≡ (u * 2 ^ n + l) * 2 ^ d + g) w
-    (moved-at (64 - d) d u l g (subst (λ (n : ℕ). l < 2 ^ n) (sym w) word) small (subst (λ (n : ℕ). u * 2 ^ d < 2 ^ n) (sym w) (fits-at 64 u l (2 ^ d) fits)))
+    (shifted-at (64 - d) d u l g (subst (λ (n : ℕ). l < 2 ^ n) (sym w) word) small (subst (λ (n : ℕ). u * 2 ^ d < 2 ^ n) (sym w) (fits-at 64 u l (2 ^ d) fits)))
 
 -- A bit stands in one of the words.
 pub bit-lower : (place u l : ℕ) → l < 2 ^ 64 → place < 64 → bit place l ≡ bit place (u * 2 ^ 64 + l)
@@ -71,9 +71,9 @@ none-upper u l e = sym (zero-add l) ∙ ap (λ (x : ℕ). x * 2 ^ 64 + l) (sym e
 pub upper-lt : (u l v m : ℕ) {w : ℕ} → l < w → u < v → u * w + l < v * w + m
 upper-lt u l v m {w} word less = lt-of-lt-of-le (digits-lt less word) (le-add-right (v * w) m)
 
--- Tests that hold together have one answer.
-pub same-test : (a b c d : ℕ) → (a < b → c < d) → (b ≤ a → d ≤ c) → ltb a b ≡ ltb c d
-same-test a b c d f g = by-test (ltb a b) refl
+-- Two comparisons that hold together have one answer.
+pub same-order : (a b c d : ℕ) → (a < b → c < d) → (b ≤ a → d ≤ c) → ltb a b ≡ ltb c d
+same-order a b c d f g = by-test (ltb a b) refl
   where
     by-test : (t : Bool) → ltb a b ≡ t → t ≡ ltb c d
     by-test true e = sym (lt-ltb c d (f (ltb-true a b e)))

@@ -51,23 +51,8 @@ counted-here c =
     (sym (c .leading-zeros .ensures ∙ ap (leadingZeros 128) (c .before .xor .ensures)))
     (counted (a .d) (value (a .a)) (value (a .b)) (s .pre .0) (s .pre .1) (s .pre .2) (s .pre .3))
 
-xor-requires : tie.Need-xor-requires
-xor-requires c κs = tt
-
-zeros-requires : tie.Need-leading-zeros-requires
-zeros-requires c κs = tt
-
-mul-result : tie.Need-mul-result
-mul-result c = search needs
-
-sub-result : tie.Need-sub-result
-sub-result c = search needs
-
 sub-result-2 : tie.Need-sub-result-2
 sub-result-2 c = counted-here c .room
-
-div-result : tie.Need-div-result
-div-result c = search needs
 
 sub-result-3 : tie.Need-sub-result-3
 sub-result-3 c = counted-here c .most
@@ -78,4 +63,4 @@ returns c = (counted-here c .count, omega arith)
 pub unkept-spec : {M : Type 1} → statement M
 unkept-spec =
     tie.close
-    (tie.spec xor-requires zeros-requires mul-result sub-result sub-result-2 div-result sub-result-3 returns)
+    (tie.spec (λ c κs. tt) (λ c κs. tt) (λ c. search needs) (λ c. search needs) sub-result-2 (λ c. search needs) sub-result-3 returns)

@@ -36,13 +36,7 @@ loop-holds : tie.Need-loop-holds Inv-loop μ-loop
 unfolding value
 loop-holds c = omega arith
 
-sub-j : tie.Need-sub-j Inv-loop μ-loop
-sub-j c = omega arith
-
-group-requires : tie.Need-group-requires Inv-loop μ-loop
-group-requires c κs = omega arith
-
--- A turn: the groups so far moved up, and the next one in.
+-- A turn: the groups so far shifted up, and the next one in.
 turn : (d : ℕ) (costs : List ℕ) (a j : ℕ) → d ≤ length costs → 0 < j → Whole d (λ (k : ℕ). groups k (take d costs)) 16 a j
     → Whole d (λ (k : ℕ). groups k (take d costs)) 16 (a * 2 ^ d + group (j - 1) (take d costs)) (j - 1) × (a * 2 ^ d < 2 ^ (d * 16))
 turn d costs a j room = digit-more (group-digits d costs room) 16 a j
@@ -58,9 +52,6 @@ shift-in-requires c κs =
       rw (c .group .ensures) (group-digits (a .d) (a .costs) (omega arith) .small (own .j - 1)),
       lt-of-lt-of-le (next .1) (pow-mono few),
     )
-
-loop-less : tie.Need-loop-less Inv-loop μ-loop
-loop-less c = omega arith
 
 loop-again : tie.Need-loop-again Inv-loop μ-loop
 loop-again c =
@@ -84,4 +75,4 @@ returns c =
 pub interleaved-spec : {M : Type 1} → statement M
 interleaved-spec =
     tie.close
-    (tie.spec Inv-loop μ-loop loop-holds sub-j group-requires shift-in-requires loop-less loop-again returns)
+    (tie.spec Inv-loop μ-loop loop-holds (λ c. omega arith) (λ c κs. omega arith) shift-in-requires (λ c. omega arith) loop-again returns)

@@ -7,17 +7,11 @@ use Rattle.zorder.proofs.TwoWords.{bit-lower, bit-upper}
 use Rattle.zorder.proofs.two_words.bit.Statement.{statement}
 use Rattle.zorder.proofs.two_words.bit.Tie as tie
 
-bit-of-requires : tie.Need-bit-of-requires
-bit-of-requires c κs = search needs
-
 returns : tie.Need-returns
 unfolding value
 returns c =
     let a = c .before .before .args in
     (c .bit-of .ensures .0 ∙ bit-lower (a .place) (a .a .upper) (a .a .lower) (omega arith) (c .before .if1 .taken), c .bit-of .ensures .1)
-
-bit-of-requires-2 : tie.Need-bit-of-requires-2
-bit-of-requires-2 c κs = search needs
 
 returns-2 : tie.Need-returns-2
 unfolding value
@@ -26,4 +20,4 @@ returns-2 c =
     (c .bit-of2 .ensures .0 ∙ bit-upper (a .place) (a .a .upper) (a .a .lower) (omega arith) (c .before .if1 .left), c .bit-of2 .ensures .1)
 
 pub bit-spec : {M : Type 1} → statement M
-bit-spec = tie.close (tie.spec bit-of-requires returns bit-of-requires-2 returns-2)
+bit-spec = tie.close (tie.spec (λ c κs. search needs) returns (λ c κs. search needs) returns-2)

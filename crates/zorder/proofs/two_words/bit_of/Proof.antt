@@ -7,9 +7,6 @@ use Rattle.zorder.proofs.Bits.{and-one}
 use Rattle.zorder.proofs.two_words.bit_of.Statement.{statement}
 use Rattle.zorder.proofs.two_words.bit_of.Tie as tie
 
-shr-result : tie.Need-shr-result
-shr-result c = search needs
-
 cast-result : tie.Need-cast-result
 cast-result c = omega (arith, and-one (c .args .word / 2 ^ c .args .place))
 
@@ -18,4 +15,4 @@ unfolding bit
 returns c = omega (arith, and-one (c .args .word / 2 ^ c .args .place))
 
 pub bit-of-spec : {M : Type 1} → statement M
-bit-of-spec = tie.close (tie.spec shr-result cast-result returns)
+bit-of-spec = tie.close (tie.spec (λ c. search needs) cast-result returns)
