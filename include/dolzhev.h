@@ -45,14 +45,14 @@ enum {
 /* A move: a number from 0 to C - 1, and its costs, those past d zero. Less is better. */
 typedef struct {
     uint16_t number;
-    uint16_t costs[4];
+    uint16_t costs[DOLZHEV_COSTS];
 } dolzhev_move;
 
 /* A row told. dolzhev_rank puts the number of moves dominated in place of a mark. */
 typedef struct {
     uint16_t mark;
     uint16_t number;
-    uint16_t costs[4];
+    uint16_t costs[DOLZHEV_COSTS];
 } dolzhev_row;
 
 typedef struct {
@@ -62,11 +62,11 @@ typedef struct {
     size_t opened;
 } dolzhev_answer;
 
-DOLZHEV_HOLDS(sizeof(dolzhev_move) == 10, "five numbers of two bytes");
-DOLZHEV_HOLDS(sizeof(dolzhev_row) == 12, "six numbers of two bytes");
+DOLZHEV_HOLDS(sizeof(dolzhev_move) == 18, "nine numbers of two bytes");
+DOLZHEV_HOLDS(sizeof(dolzhev_row) == 20, "ten numbers of two bytes");
 DOLZHEV_HOLDS(sizeof(dolzhev_answer) == 32, "four words");
 
-/* Overwrites what the memory held with a board of size c (16 to 4,096) and d costs (2 to 4) that holds the rows; none is
+/* Overwrites what the memory held with a board of size c (16 to 4,096) and d costs (2 to 8) that holds the rows; none is
  * allowed.
  * Refusals, in order: 2 if c or d is out of range, 1 if the memory is under 64 * c + 1024 bytes; then the rows in turn, each
  * for 4 (number at or above c), 7 (a cost past d not zero), 5 (number in an earlier row). */

@@ -1,14 +1,16 @@
-/* A board from C, to start from: load, list and changes on document 01's worked board, then an address and a region.
+/* A board from C, to start from: load, list and changes on document 01's worked board, then addresses and a region.
  * bindings/c/check has the line that compiles it. */
+#include <inttypes.h>
 #include <stdio.h>
 
 #include "dolzhev.h"
 
 #define SIZE 16
-#define COSTS 2
+#define D 2
 
+/* Costs that are not named are zero, as those past d must be. */
 static const dolzhev_move worked[] = {
-    {0, {1, 6, 0, 0}}, {1, {3, 7, 0, 0}}, {2, {2, 2, 0, 0}}, {3, {5, 1, 0, 0}}, {4, {6, 2, 0, 0}}, {5, {2, 2, 0, 0}},
+    {0, {1, 6}}, {1, {3, 7}}, {2, {2, 2}}, {3, {5, 1}}, {4, {6, 2}}, {5, {2, 2}},
 };
 
 /* All that a board needs: the caller lends it to every call. */
@@ -44,7 +46,7 @@ static void print_list(void)
 
 static void change(void)
 {
-    dolzhev_move six = {6, {4, 1, 0, 0}}, one = {1, {0, 1, 0, 0}};
+    dolzhev_move six = {6, {4, 1}}, one = {1, {0, 1}};
     print_answer("enter 6 (4, 1)", dolzhev_enter(memory, sizeof memory, six, rows, rows_len));
     print_answer("enter 6 again", dolzhev_enter(memory, sizeof memory, six, rows, rows_len));
     print_answer("withdraw 6", dolzhev_withdraw(memory, sizeof memory, 6, rows, rows_len));
@@ -55,23 +57,35 @@ static void change(void)
     print_answer("re-cost 1 to (0, 1)", dolzhev_recost(memory, sizeof memory, one, rows, rows_len));
 }
 
+static void print_address(const char *costs, dolzhev_address_words address)
+{
+    printf("address of %s: upper word %" PRIu64 ", lower word %" PRIu64 "\n", costs, address.upper, address.lower);
+}
+
 static void print_first_address(void)
 {
-    dolzhev_costs costs = {{1, 6, 0, 0}};
-    dolzhev_address_answer address = dolzhev_address(COSTS, costs);
-    dolzhev_region_answer region = dolzhev_region(COSTS, 12, address.address);
-    printf("address of (1, 6): %llu\n", (unsigned long long)address.address);
+    dolzhev_costs costs = {{1, 6}};
+    dolzhev_address_words twelve = {0, 12}, address = dolzhev_address(D, costs).address;
+    dolzhev_region_answer region = dolzhev_region(D, twelve, address);
+    print_address("(1, 6)", address);
     printf("region of 12 and it: (%u, %u) to (%u, %u), side %zu\n", region.near_corner.costs[0], region.near_corner.costs[1],
            region.far_corner.costs[0], region.far_corner.costs[1], region.side);
+}
+
+static void print_long_address(void)
+{
+    dolzhev_costs costs = {{256, 0, 0, 0, 0, 0, 0, 1}};
+    print_address("(256, 0, 0, 0, 0, 0, 0, 1)", dolzhev_address(DOLZHEV_COSTS, costs).address);
 }
 
 int main(void)
 {
     print_list();
-    print_answer("load", dolzhev_load(memory, sizeof memory, SIZE, COSTS, worked, sizeof worked / sizeof worked[0]));
+    print_answer("load", dolzhev_load(memory, sizeof memory, SIZE, D, worked, sizeof worked / sizeof worked[0]));
     print_list();
     change();
     print_list();
     print_first_address();
+    print_long_address();
     return 0;
 }

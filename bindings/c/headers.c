@@ -25,6 +25,9 @@ static void board_structs(void)
 static void zorder_structs(void)
 {
     SIZE(dolzhev_costs);
+    SIZE(dolzhev_address_words);
+    FIELD(dolzhev_address_words, upper);
+    FIELD(dolzhev_address_words, lower);
     SIZE(dolzhev_address_answer);
     FIELD(dolzhev_address_answer, refusal);
     FIELD(dolzhev_address_answer, detail);

@@ -40,7 +40,7 @@ impl<'m> Board<'m> {
         Board { memory }
     }
 
-    /// Overwrites the memory with a board of size c, 16 to 4,096, and d costs, 2 to 4, that holds the moves.
+    /// Overwrites the memory with a board of size c, 16 to 4,096, and d costs, 2 to 8, that holds the moves.
     pub fn load(&mut self, c: usize, d: usize, moves: &[Move]) -> Result<(), Refusal> {
         let answer = raw::load(self.memory, c, d, moves);
         Refusal::judge(answer.refusal, answer.detail, Some(answer.detail))

@@ -6,14 +6,14 @@
 //! this crate, since it answers with numbers that the crate does not know, makes a call panic.
 //!
 //! ```
-//! use dolzhev::{Board, Mark, Move, Refusal, Row};
+//! use dolzhev::{padded, Board, Mark, Move, Refusal, Row};
 //!
 //! let mut memory = [0; Board::bytes(16)];
 //! let mut rows = [Row::default(); Board::notice_rows(16)];
 //! let mut board = Board::over(&mut memory);
-//! board.load(16, 2, &[Move { number: 0, costs: [1, 6, 0, 0] }, Move { number: 1, costs: [3, 7, 0, 0] }])?;
+//! board.load(16, 2, &[Move { number: 0, costs: padded([1, 6]) }, Move { number: 1, costs: padded([3, 7]) }])?;
 //!
-//! let notice = board.enter(Move { number: 2, costs: [2, 2, 0, 0] }, &mut rows)?;
+//! let notice = board.enter(Move { number: 2, costs: padded([2, 2]) }, &mut rows)?;
 //! assert_eq!((notice[0].mark(), notice[0].number), (Mark::Entered, 2));
 //! assert_eq!(board.list(&mut rows)?.rows.len(), 2);
 //! assert_eq!(board.withdraw(9, &mut rows), Err(Refusal::NumberAbsent));
@@ -26,6 +26,6 @@ mod row;
 pub mod zorder;
 
 pub use board::{Board, Listed};
-pub use dolzhev_sys::{Costs, Move};
+pub use dolzhev_sys::{Costs, Move, COSTS};
 pub use refusal::Refusal;
-pub use row::{Mark, Ranked, Row};
+pub use row::{padded, Mark, Ranked, Row};

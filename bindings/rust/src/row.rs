@@ -1,8 +1,16 @@
 //! The rows that the calls write into what the caller lends.
 use dolzhev_sys as raw;
-use raw::Costs;
+use raw::{Costs, COSTS};
 use std::fmt;
 use std::mem::{align_of, offset_of, size_of};
+
+/// The costs given, and zeros past them up to the length of a row.
+pub fn padded<const D: usize>(given: [u16; D]) -> Costs {
+    const { assert!(D <= COSTS, "more costs than a row has") };
+    let mut costs = [0; COSTS];
+    costs[..D].copy_from_slice(&given);
+    costs
+}
 
 /// What a row says of its move.
 #[derive(Clone, Copy, Debug, PartialEq, Eq)]

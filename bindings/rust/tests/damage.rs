@@ -6,7 +6,7 @@ use reference::library;
 use reference::plain;
 use reference::random::{Random, Shape};
 use reference::tries::{flipped, try_all, used_board, Seen};
-use reference::Call;
+use reference::{Call, COSTS};
 
 /// The bytes of a board of size c that may decide: head, numbers, heights, marks, costs.
 fn fields(c: usize) -> Vec<usize> {
@@ -16,7 +16,7 @@ fn fields(c: usize) -> Vec<usize> {
 fn damage_fields(ask: Ask, seed: u64) -> Seen {
     let mut random = Random::new(seed);
     let mut seen = Seen::default();
-    for (c, d, n) in [(16, 2, 12), (16, 3, 14), (17, 4, 13), (40, 2, 36)] {
+    for (c, d, n) in [(16, 2, 12), (16, 3, 14), (17, 4, 13), (16, 5, 14), (17, COSTS, 13), (40, 2, 36)] {
         let bytes = used_board(library::ask, c, d, n, seed + d as u64);
         for at in fields(c) {
             try_all(ask, &flipped(&bytes, at, &mut random), &mut random, &mut seen);
@@ -56,7 +56,7 @@ fn board_of_forty(d: usize) -> Vec<u8> {
 #[test]
 fn every_byte_three_ways() {
     let mut seen = Seen::default();
-    for mut bytes in [2, 3, 4].map(board_of_forty) {
+    for mut bytes in (2..=COSTS).map(board_of_forty) {
         for at in 0..bytes.len() {
             let old = bytes[at];
             for new in [old ^ 1, old ^ 255, 0] {
@@ -74,10 +74,10 @@ fn every_byte_three_ways() {
 fn much_damage() {
     let mut random = Random::new(16);
     let mut seen = Seen::default();
-    let bytes = used_board(library::ask, 16, 3, 14, 5);
+    let boards = [3, COSTS].map(|d| used_board(library::ask, 16, d, 14, 5));
     let places = fields(16);
-    for _ in 0..1500 {
-        let mut damaged = bytes.clone();
+    for round in 0..3000 {
+        let mut damaged = boards[round % boards.len()].clone();
         for _ in 0..1 + random.below(4) {
             damaged = flipped(&damaged, random.one_of(&places), &mut random);
         }

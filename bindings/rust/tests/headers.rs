@@ -1,6 +1,6 @@
 //! The structs and the words of Rust are those of the headers: bindings/c/headers.c, compiled here, prints them.
 use dolzhev::Refusal;
-use dolzhev_sys::{AddressAnswer, Answer, Costs, CostsAnswer, Move, RegionAnswer, Row};
+use dolzhev_sys::{AddressAnswer, AddressWords, Answer, Costs, CostsAnswer, Move, RegionAnswer, Row};
 use std::mem::{align_of, offset_of, size_of};
 use std::path::Path;
 use std::process::{Command, Output};
@@ -33,10 +33,13 @@ fn board_structs() -> Vec<String> {
 fn zorder_structs() -> Vec<String> {
     vec![
         size::<Costs>("dolzhev_costs"),
+        size::<AddressWords>("dolzhev_address_words"),
+        field::<u64>("dolzhev_address_words.upper", offset_of!(AddressWords, upper)),
+        field::<u64>("dolzhev_address_words.lower", offset_of!(AddressWords, lower)),
         size::<AddressAnswer>("dolzhev_address_answer"),
         field::<usize>("dolzhev_address_answer.refusal", offset_of!(AddressAnswer, refusal)),
         field::<usize>("dolzhev_address_answer.detail", offset_of!(AddressAnswer, detail)),
-        field::<u64>("dolzhev_address_answer.address", offset_of!(AddressAnswer, address)),
+        field::<AddressWords>("dolzhev_address_answer.address", offset_of!(AddressAnswer, address)),
         size::<CostsAnswer>("dolzhev_costs_answer"),
         field::<usize>("dolzhev_costs_answer.refusal", offset_of!(CostsAnswer, refusal)),
         field::<usize>("dolzhev_costs_answer.detail", offset_of!(CostsAnswer, detail)),
@@ -97,8 +100,8 @@ fn structs_and_words_of_the_headers() {
 /// The header's own table.
 #[test]
 fn sizes_as_documented() {
-    assert_eq!([size_of::<Move>(), size_of::<Row>(), size_of::<Answer>(), size_of::<Costs>()], [10, 12, 32, 8]);
-    assert_eq!([size_of::<AddressAnswer>(), size_of::<CostsAnswer>(), size_of::<RegionAnswer>()], [24, 24, 40]);
+    assert_eq!([size_of::<Move>(), size_of::<Row>(), size_of::<Answer>(), size_of::<Costs>()], [18, 20, 32, 16]);
+    assert_eq!([size_of::<AddressAnswer>(), size_of::<CostsAnswer>(), size_of::<RegionAnswer>()], [32, 32, 56]);
     assert_eq!([align_of::<Move>(), align_of::<Row>()], [2, 2]);
 }
 

@@ -1,9 +1,10 @@
 //! Rows lent: none, one fewer than needed, as many, one more; and the bounds of document 01's "Run besides".
+use dolzhev::padded;
 use reference::against::Against;
 use reference::draw::Draw;
 use reference::library;
 use reference::random::Shape;
-use reference::{Call, Move};
+use reference::{Call, Move, COSTS};
 
 fn loaded(c: usize, d: usize, shape: Shape, n: usize, seed: u64) -> Against {
     let mut draw = Draw::new(seed, shape, 65536, c);
@@ -33,7 +34,7 @@ fn calls_on(against: &Against, free: u16) -> Vec<Call> {
     let board = against.model().board.as_ref().unwrap();
     let (first, last) = (board.moves[0], board.moves[board.moves.len() - 1]);
     let listed = board.list[board.list.len() / 2];
-    let least = [0; 4];
+    let least = [0; COSTS];
     vec![
         Call::Enter { number: free, costs: least },
         Call::Enter { number: free, costs: last.costs },
@@ -61,7 +62,7 @@ fn four_numbers_of_rows() {
     for (seed, shape) in
         [Shape::Uniform, Shape::Correlated, Shape::AntiCorrelated, Shape::AllListed].into_iter().enumerate()
     {
-        for d in 2..=4 {
+        for d in 2..=COSTS {
             let against = loaded(64, d, shape, 63, seed as u64);
             let free = (0..64).find(|&x| against.model().board.as_ref().unwrap().find(x).is_none()).unwrap();
             let needs: Vec<usize> = calls_on(&against, free).iter().map(|call| lend_each(&against, call)).collect();
@@ -75,11 +76,11 @@ fn four_numbers_of_rows() {
 #[test]
 fn notice_of_one_row_more_than_the_board() {
     let against = loaded(64, 2, Shape::AllListed, 64, 9);
-    assert_eq!(lend_each(&against, &Call::Recost { number: 5, costs: [0; 4] }), 65);
+    assert_eq!(lend_each(&against, &Call::Recost { number: 5, costs: [0; COSTS] }), 65);
 }
 
-fn row(number: u16, costs: [u16; 4]) -> Move {
-    Move { number, costs }
+fn row<const D: usize>(number: u16, costs: [u16; D]) -> Move {
+    Move { number, costs: padded(costs) }
 }
 
 fn load_answer(bytes: usize, c: usize, d: usize, rows: Vec<Move>) -> (usize, usize) {
@@ -95,7 +96,7 @@ fn sizes_and_memory() {
         let short = if refusal == 0 { 1 } else { refusal };
         assert_eq!(load_answer(bytes - 1, c, 2, vec![]), (short, 0), "C of {c}, one byte short");
     }
-    for (d, refusal) in [(0, 2), (1, 2), (2, 0), (4, 0), (5, 2), (usize::MAX, 2)] {
+    for (d, refusal) in [(0, 2), (1, 2), (2, 0), (COSTS, 0), (COSTS + 1, 2), (usize::MAX, 2)] {
         assert_eq!(load_answer(2048, 16, d, vec![]), (refusal, 0), "d of {d}");
     }
     assert_eq!(load_answer(0, 16, 2, vec![]), (1, 0));
@@ -104,19 +105,59 @@ fn sizes_and_memory() {
 
 #[test]
 fn numbers_at_the_bound() {
-    let good = row(15, [1, 2, 0, 0]);
+    let good = row(15, [1, 2]);
     assert_eq!(load_answer(2048, 16, 2, vec![good]), (0, 0));
-    assert_eq!(load_answer(2048, 16, 2, vec![good, row(16, [1, 2, 0, 0])]), (4, 1));
-    assert_eq!(load_answer(2048, 16, 2, vec![good, row(0, [1, 2, 0, 3]), row(16, [0; 4])]), (7, 1));
-    assert_eq!(load_answer(2048, 16, 2, vec![good, row(0, [0; 4]), good]), (5, 2));
+    assert_eq!(load_answer(2048, 16, 2, vec![good, row(16, [1, 2])]), (4, 1));
+    assert_eq!(load_answer(2048, 16, 2, vec![good, row(0, [1, 2, 0, 3]), row(16, [])]), (7, 1));
+    assert_eq!(load_answer(2048, 16, 2, vec![good, row(0, []), good]), (5, 2));
     let mut against = Against::over(library::ask, &[0; 2048]);
     against.check(&Call::Load { c: 16, d: 2, rows: vec![] }, 0);
     for (number, refusal) in [(15, 0), (16, 4), (15, 5), (65535, 4)] {
-        assert_eq!(against.check(&Call::Enter { number, costs: [3, 3, 0, 0] }, 17).answer.refusal, refusal);
+        assert_eq!(against.check(&Call::Enter { number, costs: padded([3, 3]) }, 17).answer.refusal, refusal);
     }
     assert_eq!(against.check(&Call::Withdraw { number: 16 }, 17).answer.refusal, 4);
     assert_eq!(against.check(&Call::Withdraw { number: 14 }, 17).answer.refusal, 6);
-    assert_eq!(against.check(&Call::Recost { number: 16, costs: [0, 0, 0, 1] }, 17).answer.refusal, 4);
-    assert_eq!(against.check(&Call::Recost { number: 14, costs: [0, 0, 0, 1] }, 17).answer.refusal, 7);
-    assert_eq!(against.check(&Call::Recost { number: 14, costs: [0, 0, 0, 0] }, 17).answer.refusal, 6);
+    assert_eq!(against.check(&Call::Recost { number: 16, costs: padded([0, 0, 0, 1]) }, 17).answer.refusal, 4);
+    assert_eq!(against.check(&Call::Recost { number: 14, costs: padded([0, 0, 0, 1]) }, 17).answer.refusal, 7);
+    assert_eq!(against.check(&Call::Recost { number: 14, costs: padded([0, 0]) }, 17).answer.refusal, 6);
+}
+
+/// What a call on a copy of the board is refused with.
+fn refusal(against: &Against, call: Call) -> usize {
+    Against::over(library::ask, against.memory()).check(&call, 17).answer.refusal
+}
+
+/// A cost past d is refused wherever it stands, in a load, an enter and a re-cost.
+#[test]
+fn costs_past_d() {
+    for d in 2..COSTS {
+        let mut against = Against::over(library::ask, &[0; 2048]);
+        let mut costs = [1; COSTS];
+        costs[d..].fill(0);
+        against.check(&Call::Load { c: 16, d, rows: vec![Move { number: 3, costs }] }, 0);
+        assert_eq!(refusal(&against, Call::Enter { number: 4, costs }), 0);
+        for place in d..COSTS {
+            let mut costs = costs;
+            costs[place] = 1;
+            let rows = vec![row(4, []), Move { number: 3, costs }];
+            assert_eq!(load_answer(2048, 16, d, rows), (7, 1), "d {d}: cost {place}");
+            assert_eq!(refusal(&against, Call::Enter { number: 4, costs }), 7, "d {d}: cost {place}");
+            assert_eq!(refusal(&against, Call::Recost { number: 3, costs }), 7, "d {d}: cost {place}");
+        }
+    }
+}
+
+/// k is 1 to d, a set of costs 1 to 2 to the power d less 1.
+#[test]
+fn bounds_of_k_and_sets() {
+    for d in 2..=COSTS {
+        let against = loaded(16, d, Shape::Uniform, 12, d as u64);
+        for (k, expected) in [(0, 7), (1, 0), (d, 0), (d + 1, 7), (usize::MAX, 7)] {
+            assert_eq!(refusal(&against, Call::OnK(k)), expected, "d {d}, k of {k}");
+        }
+        let all = (1 << d) - 1;
+        for (set, expected) in [(0, 7), (1, 0), (1 << (d - 1), 0), (all, 0), (all + 1, 7), (all | 1 << 63, 7)] {
+            assert_eq!(refusal(&against, Call::Chosen(set)), expected, "d {d}, set {set}");
+        }
+    }
 }

@@ -1,11 +1,12 @@
 //! Loads: the leaves that they make, and refused ones, which leave every byte of the board that stands.
+use dolzhev::padded;
 use reference::against::Against;
 use reference::draw::Draw;
 use reference::layout;
 use reference::library;
 use reference::node::Node;
 use reference::random::Shape;
-use reference::{Call, Move};
+use reference::{Call, Move, COSTS};
 
 fn leaf_sizes(node: &Node) -> Vec<usize> {
     match node {
@@ -28,12 +29,13 @@ fn leaves(c: usize, d: usize, span: usize, n: usize) -> Vec<usize> {
 fn groups_of_a_load() {
     let expected: [(usize, &[usize]); 8] =
         [(0, &[]), (1, &[1]), (8, &[8]), (9, &[6, 3]), (10, &[7, 3]), (11, &[8, 3]), (12, &[8, 4]), (16, &[8, 8])];
-    for (c, d, span) in [(16, 2, 65536), (16, 2, 8), (16, 3, 8), (40, 2, 8), (40, 3, 8), (40, 4, 65536)] {
+    for (c, d, span) in [(16, 2, 65536), (16, 2, 8), (16, 3, 8), (40, 2, 8), (40, 3, 8), (40, 5, 8), (40, COSTS, 65536)]
+    {
         for (n, sizes) in expected {
             assert_eq!(leaves(c, d, span, n), sizes, "C {c}, d {d}: a load of {n}");
         }
     }
-    for d in 2..=4 {
+    for d in 2..=COSTS {
         assert_eq!(leaves(40, d, 8, 17), [8, 6, 3]);
         assert_eq!(leaves(40, d, 8, 40), [8; 5]);
     }
@@ -41,7 +43,8 @@ fn groups_of_a_load() {
 
 /// 40 rows whose numbers below c go round in steps of seven.
 fn rows(c: usize) -> Vec<Move> {
-    let row = |i: usize| Move { number: ((7 * i + 3) % c) as u16, costs: [(i % 8) as u16, (i % 5) as u16, 0, 0] };
+    let row =
+        |i: usize| Move { number: ((7 * i + 3) % c) as u16, costs: padded([i % 8, i % 5].map(|cost| cost as u16)) };
     (0..40).map(row).collect()
 }
 
@@ -62,18 +65,18 @@ fn refused(bytes: usize, c: usize, d: usize, rows: Vec<Move>) -> (usize, usize) 
 }
 
 /// The load with another row at a place.
-fn with_row(place: usize, number: u16, costs: [u16; 4]) -> (usize, usize) {
+fn with_row<const D: usize>(place: usize, number: u16, costs: [u16; D]) -> (usize, usize) {
     let mut altered = rows(40);
-    altered[place] = Move { number, costs };
+    altered[place] = Move { number, costs: padded(costs) };
     refused(3584, 40, 2, altered)
 }
 
 #[test]
 fn rows_refused() {
-    assert_eq!(with_row(5, 3, [1, 1, 0, 0]), (5, 5));
-    assert_eq!(with_row(7, 40, [1, 1, 0, 0]), (4, 7));
-    assert_eq!(with_row(9, 26, [1, 1, 1, 0]), (7, 9));
-    assert_eq!(with_row(39, 36, [1, 1, 0, 1]), (7, 39));
+    assert_eq!(with_row(5, 3, [1, 1]), (5, 5));
+    assert_eq!(with_row(7, 40, [1, 1]), (4, 7));
+    assert_eq!(with_row(9, 26, [1, 1, 1]), (7, 9));
+    assert_eq!(with_row(39, 36, [1, 1, 0, 0, 0, 0, 0, 1]), (7, 39));
     assert_eq!(with_row(0, u16::MAX, [0, 0, 0, 1]), (4, 0));
     assert_eq!(refused(8192, 16, 2, rows(16)), (5, 16));
 }
@@ -83,7 +86,7 @@ fn sizes_refused() {
     for (bytes, c, refusal) in [(3583, 40, 1), (3584, 15, 2), (8192, 4097, 2), (8192, 4096, 1), (0, 40, 1)] {
         assert_eq!(refused(bytes, c, 2, rows(40)), (refusal, 0), "{bytes} bytes, C of {c}");
     }
-    for d in [0, 1, 5] {
+    for d in [0, 1, COSTS + 1] {
         assert_eq!(refused(3584, 40, d, rows(40)), (2, 0), "d of {d}");
     }
 }

@@ -6,7 +6,7 @@ use reference::draw::Draw;
 use reference::library;
 use reference::plain;
 use reference::random::{Random, Shape};
-use reference::{Call, Move, Row};
+use reference::{Call, Move, Row, COSTS};
 use Shape::{AllListed, AntiCorrelated, Correlated, Uniform};
 
 struct Run {
@@ -107,7 +107,7 @@ fn play_all(ask: Ask, runs: &[Run]) -> Seen {
 /// Every d and shape, on a narrow grid where many moves are equal, and on a wide one.
 fn runs(c: usize, start: usize, steps: usize) -> Vec<Run> {
     let mut runs = Vec::new();
-    for d in 2..=4 {
+    for d in 2..=COSTS {
         for (shape, span) in
             [(Uniform, 4), (Uniform, 65536), (Correlated, 200), (AntiCorrelated, 60), (AllListed, 65536)]
         {
@@ -151,7 +151,8 @@ fn greatest_boards() {
         (2, Uniform, 65536),
         (3, Uniform, 300),
         (4, Correlated, 65536),
-        (3, AntiCorrelated, 65536),
+        (5, AntiCorrelated, 65536),
+        (COSTS, Uniform, 65536),
         (2, AllListed, 65536),
     ];
     for (seed, (d, shape, span)) in shapes.into_iter().enumerate() {

@@ -1,5 +1,5 @@
-//! The comparison of costs has no branch (document 02, Card 5), and each test makes one pass over them (Card 4): the source
-//! of its functions, looked at as text.
+//! The comparison of costs has no branch (document 02, Card 5), and each test of them makes no pass too many (Card 4): the
+//! source of its functions, looked at as text.
 use reference::source::{crate_source, faults};
 
 #[test]
@@ -7,74 +7,130 @@ fn no_branch() {
     assert_eq!(faults(crate_source), [""; 0]);
 }
 
-/// The faults that are found once a crate's source is edited.
-fn edited(krate: &str, old: &str, new: &str) -> Vec<String> {
-    assert_eq!(crate_source(krate).matches(old).count(), 1, "{krate} has one `{old}`");
-    faults(|k| if k == krate { crate_source(k).replace(old, new) } else { crate_source(k) })
+/// The faults that are found once a text is replaced, the first of that kind from `start` on.
+fn edited(krate: &str, start: &str, old: &str, new: &str) -> Vec<String> {
+    let source = crate_source(krate);
+    let (before, rest) = source.split_at(source.find(start).expect(start));
+    assert!(rest.split("\n}").next().is_some_and(|part| part.contains(old)), "{start} has `{old}`");
+    let source = before.to_string() + &rest.replacen(old, new, 1);
+    faults(|k| if k == krate { source.clone() } else { crate_source(k) })
+}
+
+/// A function, a text of its own, another in its place.
+type Edit = (&'static str, &'static str, &'static str);
+
+fn faults_with((function, old, new): Edit) -> Vec<String> {
+    let (krate, name) = function.split_once("::").expect("crate::function");
+    edited(krate, &format!("fn {name}("), old, new)
+}
+
+fn is_found(edit: Edit, fault: &str) {
+    let found = faults_with(edit);
+    assert!(found.contains(&format!("{}: {fault}", edit.0)), "{edit:?}: {found:?}");
 }
 
 const LESS: &str = "(65535 + wide(b) - wide(a)) / 65536";
-const COUNT: &str = "greater += counted * less(q[i], p[i]);";
-const WHILE: &str = "while i < COSTS {";
-const TEST: &str = "(s.greater == 0) & (0 < s.lesser)";
-const PASS: &str = "let s = sums_over_first(d, a, b);";
-const HIDES: &str = "(s.greater == 0) & (0 < lower + s.lesser)";
+const FACTOR: &str = "((d as u16) + WIDTH - 1 - (i as u16)) / WIDTH";
+const LOOP: &str = "while i < COSTS {";
+const GATHER: &str = "greater = greater | less_times(first_factor(d, i), q[i], p[i]);";
+const ANY: &str = "0 < greater";
+const DOMINATES: &str = "!exceeds(d, p, q) & exceeds(d, q, p)";
+const CHOSEN: &str = "!exceeds_in(s, p, q) & exceeds_in(s, q, p)";
+const ON_K: &str = "(k <= d - greater) & exceeds(d, q, p)";
+const LOWER: &str = "less(p.number, q.number)";
 
-/// A branch, a sign, a call or a function that is missing: each is found, wherever it stands.
 #[test]
 fn branches_are_found() {
-    for (krate, old, new, fault) in [
-        ("dominance", LESS, "if a < b { 1 } else { 0 }", "dominance::less: `if`"),
-        ("dominance", LESS, "(a < b) as usize", "dominance::less: the sign `<`"),
-        ("dominance", LESS, "match b / a { 0 => 0, _ => 1 }", "dominance::less: `match`"),
-        ("dominance", LESS, "below(wide(a), wide(b))", "dominance::less: calls [\"below\", \"wide\", \"wide\"]"),
-        ("dominance", "cost as usize", "if cost == 0 { 0 } else { cost as usize }", "dominance::wide: `if`"),
-        ("dominance", COUNT, "if less(q[i], p[i]) == 1 { return none(); }", "dominance::sums_over: `return`"),
-        ("dominance", COUNT, "greater += (q[i] < p[i]) as usize;", "dominance::sums_over: the sign `<`"),
-        ("dominance", WHILE, "while i < COSTS && greater == 0 {", "dominance::sums_over: `&&`"),
-        ("dominance", WHILE, "while (i < COSTS) & (greater == 0) {", "dominance::sums_over: the sign `==`"),
-        ("dominance", WHILE, "while p[i] < q[i] {", "dominance::sums_over: the sign `<`"),
-        ("dominance", TEST, "(s.greater == 0) & (p[0] < q[0] + s.lesser)", "dominance::dominates: the sign `==`"),
-        ("dominance", TEST, "s.greater == 0 && 0 < s.lesser", "dominance::dominates: `&&`"),
+    for (function, old, new, branch) in [
+        ("dominance::wide", "cost as usize", "if cost == 0 { 0 } else { cost as usize }", "`if`"),
+        ("dominance::less", LESS, "if a < b { 1 } else { 0 }", "`if`"),
+        ("dominance::less", LESS, "match b / a { 0 => 0, _ => 1 }", "`match`"),
+        ("dominance::first_factor", FACTOR, "if i < d { 1 } else { 0 }", "`else`"),
         (
-            "dominance",
-            TEST,
-            "let none = s.greater == 0;\n    none & (0 < s.lesser)",
-            "dominance::dominates: the sign `==`",
+            "dominance::less_times",
+            "less(factor * a, factor * b)",
+            "match factor { 0 => 0, _ => less(a, b) }",
+            "`match`",
         ),
         (
-            "dominance",
-            PASS,
-            "let s = sums_over_first(d, a, b);\n    let t = sums_over_first(d, b, a);",
-            "dominance::hides: calls [\"less\", \"sums_over_first\", \"sums_over_first\"]",
+            "dominance::exceeds",
+            GATHER,
+            "if less_times(first_factor(d, i), q[i], p[i]) == 1 { return true; }",
+            "`return`",
         ),
-        (
-            "dominance",
-            HIDES,
-            "dominates(d, a, b) | (s.greater + s.lesser < lower)",
-            "dominance::hides: calls [\"dominates\", \"less\", \"sums_over_first\"]",
-        ),
-        ("dominance", HIDES, "s.greater == 0 && 0 < lower + s.lesser", "dominance::hides: `&&`"),
-        ("dominance", HIDES, "(s.greater == s.lesser) | (a[0] < b[0])", "dominance::hides: the sign `<`"),
-        ("dominance", "pub fn hides(", "pub fn conceals(", "dominance::hides: found 0 times"),
-        ("query", TEST, "s.greater == 0 || 0 < s.lesser", "query::dominates_at: `||`"),
-        ("query", "fn dominates_on(", "fn dominates_some(", "query::dominates_on: found 0 times"),
-        ("query", "use dominance::sums_over;", "use crate::kept::sums_over;", "query: which `sums_over` is meant?"),
+        ("dominance::exceeds", LOOP, "while i < COSTS && greater == 0 {", "`&&`"),
+        ("dominance::exceeds_in", "i += 1;", "if greater == 1 { break; }\n        i += 1;", "`break`"),
+        ("dominance::count_greater", LOOP, "loop {", "`loop`"),
+        ("dominance::count_greater", LOOP, "while i < COSTS {\n    while i < COSTS {", "`while`"),
+        ("dominance::dominates", DOMINATES, "!exceeds(d, p, q) && exceeds(d, q, p)", "`&&`"),
+        ("dominance::hides", "lower | exceeds(d, b, a)", "lower || exceeds(d, b, a)", "`||`"),
+        ("query::dominates_on", ON_K, "(k <= d - greater) && exceeds(d, q, p)", "`&&`"),
+        ("query::dominates_at", CHOSEN, "!exceeds_in(s, p, q) && exceeds_in(s, q, p)", "`&&`"),
     ] {
-        let found = edited(krate, old, new);
-        assert!(found.iter().any(|f| f == fault), "{new}: {found:?}");
+        is_found((function, old, new), branch);
     }
+}
+
+/// Also in a line that may have one, where the line reads a cost or has another sign besides.
+#[test]
+fn signs_are_found() {
+    for (function, old, new, sign) in [
+        ("dominance::less", LESS, "(a < b) as usize", "`<`"),
+        ("dominance::first_factor", FACTOR, "(i < d) as u16", "`<`"),
+        ("dominance::exceeds", GATHER, "greater = greater | (q[i] < p[i]) as usize;", "`<`"),
+        ("dominance::exceeds", LOOP, "while (i < COSTS) & (greater == 0) {", "`==`"),
+        ("dominance::exceeds", LOOP, "while p[i] < q[i] {", "`<`"),
+        ("dominance::exceeds", ANY, "q[0] < p[0]", "`<`"),
+        ("dominance::exceeds", ANY, "(0 < greater) & (q[0] != p[0])", "`!=`"),
+        ("dominance::exceeds_in", ANY, "let any = 1 <= greater;\n    any", "`<=`"),
+        ("dominance::count_greater", "greater +=", "greater += (p[i] > q[i]) as usize *", "`>`"),
+        ("dominance::dominates", DOMINATES, "exceeds(d, p, q) < exceeds(d, q, p)", "`<`"),
+        ("dominance::hides", LOWER, "less(p.costs[0], q.costs[0])", "`<`"),
+        ("dominance::hides", "(lower |", "(p.number < q.number) & (lower |", "`<`"),
+        ("query::dominates_on", ON_K, "(k <= d - greater) & (p[0] < q[0])", "`<`"),
+        ("query::dominates_at", CHOSEN, "exceeds_in(s, p, q) == exceeds_in(s, q, p)", "`==`"),
+    ] {
+        is_found((function, old, new), sign);
+    }
+}
+
+/// A call that may hide a branch or makes a further pass; a function that is not there.
+#[test]
+fn calls_are_found() {
+    for (function, old, new, calls) in [
+        ("dominance::less", LESS, "below(wide(a), wide(b))", r#"calls ["below", "wide", "wide"]"#),
+        ("dominance::exceeds", "less_times(", "below(", r#"calls ["below", "first_factor"]"#),
+        (
+            "dominance::hides",
+            "let b = q.costs;",
+            "let b = q.costs;\n    let c = exceeds(d, b, a);",
+            r#"calls ["exceeds", "exceeds", "exceeds", "less"]"#,
+        ),
+        ("dominance::hides", "!exceeds(d, a, b)", "!dominates(d, b, a)", r#"calls ["dominates", "exceeds", "less"]"#),
+        ("query::dominates_on", "count_greater(", "fit(", r#"calls ["exceeds", "fit"]"#),
+        ("dominance::hides", "fn hides(", "fn conceals(", "found 0 times"),
+        ("query::dominates_on", "fn dominates_on(", "fn dominates_some(", "found 0 times"),
+    ] {
+        is_found((function, old, new), calls);
+    }
+}
+
+/// The name is called as before, but means another function.
+#[test]
+fn imports_are_found() {
+    let found = edited("query", "use dominance::exceeds;", "dominance::", "crate::kept::");
+    assert!(found.contains(&"query::dominates_on: which `exceeds` is meant?".to_string()), "{found:?}");
 }
 
 /// Words of comments and contracts are no branches, shifts no signs.
 #[test]
 fn comments_contracts_and_shifts_pass() {
-    for (krate, old, new) in [
-        ("dominance", "// 1 if a is less than b, else 0.", "// if a < b { 1 } else { 0 }"),
-        ("dominance", COUNT, "greater += counted * less(q[i], p[i]); // if q[i] < p[i]"),
-        ("dominance", "(set >> i) % 2", "(set >> i << 1 >> 1) % 2"),
-        ("query", "requires { ⌜ d ≤ rowCosts ⌝ }", "requires { ⌜ match d < rowCosts ⌝ }"),
+    for edit in [
+        ("dominance::less", LESS, "// if a < b { 1 } else { 0 }\n    (65535 + wide(b) - wide(a)) / 65536"),
+        ("dominance::exceeds", LOOP, "while i < COSTS { // && greater == 0"),
+        ("dominance::exceeds_in", "(set >> i) % 2", "(set >> i << 1 >> 1) % 2"),
+        ("query::dominates_on", "requires { ⌜ (d ≤ rowCosts)", "requires { ⌜ match (d < rowCosts)"),
     ] {
-        assert_eq!(edited(krate, old, new), [""; 0], "{new}");
+        assert_eq!(faults_with(edit), [""; 0], "{edit:?}");
     }
 }

@@ -1,4 +1,5 @@
 //! Moves with equal costs, shown once (document 02, Card 4).
+use dolzhev::padded;
 use reference::against::Against;
 use reference::library;
 use reference::random::Random;
@@ -9,12 +10,12 @@ const C: usize = 16;
 const TWINS: [u16; 4] = [3, 7, 9, 14];
 
 fn twin(number: u16) -> Move {
-    Move { number, costs: [2, 2, 0, 0] }
+    Move { number, costs: padded([2, 2]) }
 }
 
 /// Four twins, a move beside them in the list and one that they dominate.
 fn loaded() -> Against {
-    let others = [Move { number: 0, costs: [1, 6, 0, 0] }, Move { number: 1, costs: [3, 3, 0, 0] }];
+    let others = [Move { number: 0, costs: padded([1, 6]) }, Move { number: 1, costs: padded([3, 3]) }];
     let rows = TWINS.map(twin).into_iter().chain(others).collect();
     let mut board = Against::over(library::ask, &[0; 64 * (C + 1) + 1024]);
     board.check(&Call::Load { c: C, d: 2, rows }, 0);
@@ -49,7 +50,7 @@ fn twins_that_come() {
     assert_eq!(change(&mut board, Call::Enter { number: 2, costs }), [(1, 3), (2, 2)]);
     assert_eq!(change(&mut board, Call::Recost { number: 1, costs }), [(1, 2), (2, 1)]);
     assert_eq!(change(&mut board, Call::Recost { number: 0, costs }), [(1, 1), (1, 0), (2, 0)]);
-    assert_eq!(change(&mut board, Call::Recost { number: 0, costs: [2, 3, 0, 0] }), [(1, 0), (2, 1)]);
+    assert_eq!(change(&mut board, Call::Recost { number: 0, costs: padded([2, 3]) }), [(1, 0), (2, 1)]);
 }
 
 /// Band, on k and chosen costs show every twin; rank takes the listed one and counts no twin as dominated.

@@ -3,6 +3,7 @@
 use reference::library;
 use reference::random::Random;
 use reference::tries::{try_all, Seen};
+use reference::COSTS;
 
 /// Nothing but random bytes, of any length.
 #[test]
@@ -36,13 +37,13 @@ fn nearly(random: &mut Random) -> Vec<u8> {
     random.fill(&mut bytes);
     let n = random.below(5);
     bytes[..2].copy_from_slice(&(c as u16).to_le_bytes());
-    bytes[2] = random.one_of(&[2, 2, 2, 3, 4, 5]);
+    bytes[2] = random.one_of(&[2, 2, 2, 3, 5, COSTS as u8, COSTS as u8 + 1]);
     bytes[4..6].copy_from_slice(&(n as u16).to_le_bytes());
     for (place, number) in random.numbers(c, n).into_iter().enumerate() {
         bytes[16 + 2 * place..][..2].copy_from_slice(&number.to_le_bytes());
         bytes[16 + 2 * c + place] = if place == 0 { 1 } else { random.one_of(&[0, 0, 0, 0, 0, 0, 1]) };
         bytes[16 + 3 * c + usize::from(number)] = random.one_of(&[0, 1, 1, 2]);
-        let costs = &mut bytes[16 + 5 * c + 16 * usize::from(number)..][..8];
+        let costs = &mut bytes[16 + 5 * c + 16 * usize::from(number)..][..2 * COSTS];
         for (i, byte) in costs.iter_mut().enumerate() {
             *byte = if i % 2 == 0 { (place + random.below(3)) as u8 } else { 0 };
         }

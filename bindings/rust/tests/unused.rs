@@ -3,6 +3,7 @@ use reference::layout;
 use reference::library;
 use reference::random::Random;
 use reference::tries::{flipped, try_all, used_board, Seen};
+use reference::COSTS;
 use std::ops::Range;
 
 /// The bytes that the layout names as not in use whatever the board holds.
@@ -17,7 +18,7 @@ fn unused(c: usize) -> Vec<usize> {
 fn damaged_unused_bytes() {
     let mut random = Random::new(15);
     let mut seen = Seen::default();
-    for (c, d) in [(16, 2), (16, 4)] {
+    for (c, d) in [(16, 2), (16, 5), (16, COSTS)] {
         let bytes = used_board(library::ask, c, d, 13, d as u64);
         for at in unused(c) {
             try_all(library::ask, &flipped(&bytes, at, &mut random), &mut random, &mut seen);
@@ -46,7 +47,7 @@ fn stale(bytes: &[u8]) -> Vec<usize> {
 fn overwritten_unused_bytes() {
     let mut random = Random::new(20);
     let mut seen = Seen::default();
-    for (c, d) in [(16, 2), (17, 3), (40, 4)] {
+    for (c, d) in [(16, 2), (17, 3), (40, 4), (17, 5), (40, COSTS)] {
         let bytes = used_board(library::ask, c, d, 12, 30 + d as u64);
         for byte in [Some(0), Some(1), Some(255), None] {
             let mut damaged = bytes.clone();
@@ -56,5 +57,5 @@ fn overwritten_unused_bytes() {
             try_all(library::ask, &damaged, &mut random, &mut seen);
         }
     }
-    assert_eq!((seen.sound, seen.unsound), (12, 0));
+    assert_eq!((seen.sound, seen.unsound), (20, 0));
 }

@@ -3,7 +3,7 @@ use reference::against::Against;
 use reference::draw::Draw;
 use reference::library;
 use reference::random::{costs, Random, Shape};
-use reference::Call;
+use reference::{Call, COSTS};
 
 fn empty_board(c: usize, d: usize) -> Against {
     let mut against = Against::over(library::ask, &vec![0xFF; 64 * c + 1024]);
@@ -29,7 +29,7 @@ fn fill_and_empty(against: &mut Against, random: &mut Random, c: usize, d: usize
 fn filled_and_emptied() {
     let mut random = Random::new(1);
     for (c, rounds) in [(16, 6), (100, 2), (300, 1)] {
-        for d in 2..=4 {
+        for d in 2..=COSTS {
             let mut against = empty_board(c, d);
             for shape in [Shape::Uniform, Shape::AntiCorrelated, Shape::AllListed].repeat(rounds) {
                 fill_and_empty(&mut against, &mut random, c, d, shape);
@@ -42,7 +42,7 @@ fn filled_and_emptied() {
 #[test]
 fn two_boards_in_turn() {
     let board = |d, seed| (Draw::new(seed, Shape::Uniform, 30, 16), empty_board(16, d));
-    let mut boards = [board(2, 1), board(4, 2)];
+    let mut boards = [board(2, 1), board(COSTS, 2)];
     let mut accepted = 0;
     for _ in 0..1500 {
         for (draw, against) in &mut boards {

@@ -1,12 +1,12 @@
 //! Document 01's worked board, with Card 4's list, through the wrapper.
 use dolzhev::zorder::{self, Region};
 use dolzhev::Mark::{Entered, Left, Listed};
-use dolzhev::{Board, Costs, Mark, Move, Ranked, Refusal, Row};
+use dolzhev::{padded, Board, Mark, Move, Ranked, Refusal, Row, COSTS};
 
-const COSTS: [Costs; 6] = [[1, 6, 0, 0], [3, 7, 0, 0], [2, 2, 0, 0], [5, 1, 0, 0], [6, 2, 0, 0], [2, 2, 0, 0]];
+const WORKED: [[u16; 2]; 6] = [[1, 6], [3, 7], [2, 2], [5, 1], [6, 2], [2, 2]];
 
 fn moves() -> Vec<Move> {
-    COSTS.iter().zip(0..).map(|(&costs, number)| Move { number, costs }).collect()
+    WORKED.map(padded).into_iter().zip(0..).map(|(costs, number)| Move { number, costs }).collect()
 }
 
 fn numbers(rows: &[Row]) -> Vec<u16> {
@@ -19,11 +19,11 @@ fn marked(rows: &[Row]) -> Vec<(Mark, u16)> {
 
 #[test]
 fn cases_of_addresses() {
-    assert_eq!(COSTS.map(|costs| zorder::address(2, costs).unwrap()), [22, 31, 12, 35, 44, 12]);
-    assert_eq!(zorder::region(2, 12, 22), Ok(Region { near: [0; 4], far: [7, 7, 0, 0], side: 8 }));
-    assert_eq!(zorder::region(2, 35, 44), Ok(Region { near: [4, 0, 0, 0], far: [7, 3, 0, 0], side: 4 }));
+    assert_eq!(WORKED.map(|costs| zorder::address(2, padded(costs)).unwrap()), [22, 31, 12, 35, 44, 12]);
+    assert_eq!(zorder::region(2, 12, 22), Ok(Region { near: padded([0, 0]), far: padded([7, 7]), side: 8 }));
+    assert_eq!(zorder::region(2, 35, 44), Ok(Region { near: padded([4, 0]), far: padded([7, 3]), side: 4 }));
     assert_eq!(zorder::region(2, 44, 35), Err(Refusal::BadArgument { place: None }));
-    assert_eq!(zorder::address(5, [0; 4]), Err(Refusal::OutOfRange));
+    assert_eq!(zorder::address(COSTS + 1, padded([])), Err(Refusal::OutOfRange));
 }
 
 #[test]
@@ -34,10 +34,10 @@ fn cases_of_lists() {
     board.load(16, 2, &moves()).unwrap();
     let list = board.list(&mut rows).unwrap();
     assert_eq!((numbers(list.rows), list.opened), (vec![2, 0, 3], 1));
-    assert_eq!((list.rows[1].mark(), list.rows[1].costs), (Listed, COSTS[0]));
+    assert_eq!((list.rows[1].mark(), list.rows[1].costs), (Listed, padded(WORKED[0])));
     assert_eq!(numbers(board.band(2, &mut rows).unwrap()), [2, 5, 0, 3]);
     assert_eq!(numbers(board.band(3, &mut rows).unwrap()), [2, 5, 0, 1, 3, 4]);
-    let ranked = |dominated, number: u16| Ranked { dominated, number, costs: COSTS[usize::from(number)] };
+    let ranked = |dominated, number: u16| Ranked { dominated, number, costs: padded(WORKED[usize::from(number)]) };
     assert_eq!(board.rank(3, &mut [Ranked::default(); 3]).unwrap(), [ranked(2, 2), ranked(1, 0), ranked(1, 3)]);
     assert_eq!(board.on_k(1, &mut rows).unwrap(), []);
     assert_eq!(numbers(board.chosen(1, &mut rows).unwrap()), [0]);
@@ -64,16 +64,16 @@ fn refusals() {
     board.load(16, 2, &moves()).unwrap();
     assert_eq!(board.list(&mut rows), Err(Refusal::FewRows { needed: 3 }));
     assert_eq!(
-        board.enter(Move { number: 5, costs: [1, 1, 0, 0] }, &mut rows),
+        board.enter(Move { number: 5, costs: padded([1, 1]) }, &mut rows),
         Err(Refusal::NumberTwice { place: None })
     );
     assert_eq!(board.withdraw(9, &mut rows), Err(Refusal::NumberAbsent));
     assert_eq!(
-        board.recost(Move { number: 0, costs: [1, 1, 1, 0] }, &mut rows),
+        board.recost(Move { number: 0, costs: padded([1, 1, 1]) }, &mut rows),
         Err(Refusal::BadArgument { place: None })
     );
     assert_eq!(
-        marked(board.recost(Move { number: 0, costs: [0; 4] }, &mut [Row::default(); 17]).unwrap())[3],
+        marked(board.recost(Move { number: 0, costs: padded([0, 0]) }, &mut [Row::default(); 17]).unwrap())[3],
         (Entered, 0)
     );
     assert_eq!(board.load(16, 2, &[moves()[0], moves()[0]]), Err(Refusal::NumberTwice { place: Some(1) }));
@@ -86,7 +86,7 @@ fn the_memory_is_the_board() {
     let mut memory = vec![0; Board::bytes(16)];
     let mut rows = [Row::default(); 17];
     Board::over(&mut memory).load(16, 2, &[]).unwrap();
-    let notice = Board::over(&mut memory).enter(Move { number: 3, costs: [4, 4, 0, 0] }, &mut rows).unwrap();
+    let notice = Board::over(&mut memory).enter(Move { number: 3, costs: padded([4, 4]) }, &mut rows).unwrap();
     assert_eq!(marked(notice), [(Entered, 3)]);
     let mut moved = memory.clone();
     assert_eq!(numbers(Board::over(&mut moved).list(&mut rows).unwrap().rows), [3]);

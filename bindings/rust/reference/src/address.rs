@@ -1,29 +1,29 @@
 //! Addresses, Z-order and regions.
-use crate::{AddressAnswer, Costs, CostsAnswer, Move, RegionAnswer};
+use crate::{AddressAnswer, AddressWords, Costs, CostsAnswer, Move, RegionAnswer, COSTS};
 
 const GROUPS: usize = 16;
 
 /// The group for bit j: bit j of cost i stands before that of cost i + 1.
-fn group(d: usize, costs: &Costs, j: usize) -> u64 {
-    costs[..d].iter().fold(0, |group, cost| group << 1 | u64::from(cost >> j & 1))
+fn group(d: usize, costs: &Costs, j: usize) -> u128 {
+    costs[..d].iter().fold(0, |group, cost| group << 1 | u128::from(cost >> j & 1))
 }
 
-pub fn address(d: usize, costs: &Costs) -> u64 {
+pub fn address(d: usize, costs: &Costs) -> u128 {
     (0..GROUPS).rev().fold(0, |address, j| address << d | group(d, costs, j))
 }
 
 /// Z-order is the order of these.
-pub fn key(d: usize, x: &Move) -> (u64, u16) {
+pub fn key(d: usize, x: &Move) -> (u128, u16) {
     (address(d, &x.costs), x.number)
 }
 
 /// The groups of an address, highest first.
-fn groups(d: usize, address: u64) -> impl Iterator<Item = u64> {
+fn groups(d: usize, address: u128) -> impl Iterator<Item = u128> {
     (0..GROUPS).rev().map(move |j| address >> (d * j) & ((1 << d) - 1))
 }
 
-fn separated(d: usize, address: u64) -> Costs {
-    let mut costs = [0; 4];
+fn separated(d: usize, address: u128) -> Costs {
+    let mut costs = [0; COSTS];
     for group in groups(d, address) {
         for (i, cost) in costs[..d].iter_mut().enumerate() {
             *cost = *cost << 1 | (group >> (d - 1 - i) & 1) as u16;
@@ -32,23 +32,23 @@ fn separated(d: usize, address: u64) -> Costs {
     costs
 }
 
-fn groups_not_kept(d: usize, a: u64, b: u64) -> usize {
+fn groups_not_kept(d: usize, a: u128, b: u128) -> usize {
     let agreeing = groups(d, a).zip(groups(d, b)).take_while(|(g, h)| g == h).count();
     GROUPS - agreeing
 }
 
-pub fn side(d: usize, a: u64, b: u64) -> usize {
+pub fn side(d: usize, a: u128, b: u128) -> usize {
     1 << groups_not_kept(d, a, b)
 }
 
 /// The addresses of the near and the far corner.
-pub fn corners(d: usize, a: u64, b: u64) -> (u64, u64) {
-    let open = (1u128 << (d * groups_not_kept(d, a, b))) - 1;
-    let near = u128::from(a) & !open;
-    (near as u64, (near | open) as u64)
+pub fn corners(d: usize, a: u128, b: u128) -> (u128, u128) {
+    let bits_not_kept = d * groups_not_kept(d, a, b);
+    let kept = u128::MAX.checked_shl(bits_not_kept as u32).unwrap_or(0);
+    (a & kept, a & kept | !kept)
 }
 
-pub fn near_corner(d: usize, a: u64, b: u64) -> Costs {
+pub fn near_corner(d: usize, a: u128, b: u128) -> Costs {
     separated(d, corners(d, a, b).0)
 }
 
@@ -58,11 +58,11 @@ pub fn costs_past(d: usize, costs: &Costs) -> bool {
 }
 
 fn count_bad(d: usize) -> bool {
-    !(2..=4).contains(&d)
+    !(2..=COSTS).contains(&d)
 }
 
-fn too_large(d: usize, address: u64) -> bool {
-    u128::from(address) >= 1 << (16 * d)
+fn too_large(d: usize, address: u128) -> bool {
+    address.checked_shr(16 * d as u32).is_some_and(|above| above != 0)
 }
 
 pub fn address_answer(d: usize, costs: &Costs) -> AddressAnswer {
@@ -72,10 +72,11 @@ pub fn address_answer(d: usize, costs: &Costs) -> AddressAnswer {
     if costs_past(d, costs) {
         return AddressAnswer { refusal: 7, ..Default::default() };
     }
-    AddressAnswer { refusal: 0, detail: 0, address: address(d, costs) }
+    AddressAnswer { refusal: 0, detail: 0, address: address(d, costs).into() }
 }
 
-pub fn costs_answer(d: usize, address: u64) -> CostsAnswer {
+pub fn costs_answer(d: usize, address: AddressWords) -> CostsAnswer {
+    let address = address.into();
     if count_bad(d) {
         return CostsAnswer { refusal: 2, ..Default::default() };
     }
@@ -85,7 +86,8 @@ pub fn costs_answer(d: usize, address: u64) -> CostsAnswer {
     CostsAnswer { refusal: 0, detail: 0, costs: separated(d, address) }
 }
 
-pub fn region_answer(d: usize, a: u64, b: u64) -> RegionAnswer {
+pub fn region_answer(d: usize, a: AddressWords, b: AddressWords) -> RegionAnswer {
+    let (a, b) = (a.into(), b.into());
     if count_bad(d) {
         return RegionAnswer { refusal: 2, ..Default::default() };
     }

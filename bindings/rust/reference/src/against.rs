@@ -3,12 +3,12 @@ use super::board::Foreseen;
 use super::layout;
 use super::lent::Lent;
 use super::model::Model;
-use crate::{Answer, Call, Row};
+use crate::{Answer, Call, Row, COSTS};
 
 /// A board's calls, as the library or another program answers them.
 pub type Ask = fn(&mut [u8], &Call, &mut [Row]) -> Answer;
 
-const ROW: Row = Row { mark: 0xA5A5, number: 0x5A5A, costs: [0xA5A5; 4] };
+const ROW: Row = Row { mark: 0xA5A5, number: 0x5A5A, costs: [0xA5A5; COSTS] };
 const BYTE: u8 = 0xA5;
 
 pub struct Against {
@@ -20,11 +20,7 @@ pub struct Against {
 impl Against {
     /// Over any bytes: the model starts as the board that they hold, if they are sound.
     pub fn over(ask: Ask, bytes: &[u8]) -> Self {
-        let model = match layout::sound(bytes) {
-            Some((content, tree)) => Model::standing(content.c, content.d, tree),
-            None => Model::default(),
-        };
-        Against { ask, memory: Lent::holding(bytes, BYTE), model }
+        Against { ask, memory: Lent::holding(bytes, BYTE), model: Model::of_memory(bytes) }
     }
 
     pub fn memory(&self) -> &[u8] {

@@ -1,7 +1,7 @@
 //! Document 01's plain board: the moves in Z-order and, after every change, the list worked out afresh by all pairs.
 use super::address::{costs_past, key};
 use super::lists::{band, chosen, on_k, rank, row, skyline};
-use crate::{Answer, Call, Costs, Move, Row};
+use crate::{Answer, Call, Costs, Move, Row, COSTS};
 
 #[derive(Clone, Debug, PartialEq, Eq)]
 pub struct PlainBoard {
@@ -72,7 +72,7 @@ fn listed(moves: Vec<Move>) -> Vec<Row> {
 
 /// What a load answers, for memory of that many bytes.
 pub fn foresee_load(bytes: usize, c: usize, d: usize, rows: &[Move]) -> Foreseen {
-    if !(16..=4096).contains(&c) || !(2..=4).contains(&d) {
+    if !(16..=4096).contains(&c) || !(2..=COSTS).contains(&d) {
         return Foreseen::refused(2, 0);
     }
     if bytes < 64 * c + 1024 {
@@ -119,7 +119,7 @@ impl PlainBoard {
         match *call {
             Call::Load { .. } | Call::List => 0,
             Call::Enter { number, costs } => self.change_refusal(number, costs, false),
-            Call::Withdraw { number } => self.change_refusal(number, [0; 4], true),
+            Call::Withdraw { number } => self.change_refusal(number, [0; COSTS], true),
             Call::Recost { number, costs } => self.change_refusal(number, costs, true),
             Call::Band(b) => outside(b <= 4095),
             Call::Rank(t) => outside((1..=4096).contains(&t)),

@@ -1,7 +1,7 @@
 //! Calls drawn at random for a board as it stands: most can be accepted, each refusal comes up.
 use super::board::PlainBoard;
 use super::random::{costs, moves, Random, Shape};
-use crate::{Call, Costs};
+use crate::{Call, Costs, COSTS};
 
 pub struct Draw {
     pub random: Random,
@@ -21,7 +21,7 @@ impl Draw {
     fn costs(&mut self, board: &PlainBoard, number: u16) -> Costs {
         let mut drawn = costs(&mut self.random, self.shape, board.d, self.span, usize::from(number), board.c);
         if self.random.percent(4) {
-            drawn[2 + self.random.below(2)] = 1 + self.random.below(9) as u16;
+            drawn[2 + self.random.below(COSTS - 2)] = 1 + self.random.below(9) as u16;
         }
         drawn
     }
@@ -70,6 +70,17 @@ impl Draw {
         Call::Recost { number, costs }
     }
 
+    /// A set of costs, most of them one that d costs have.
+    fn set(&mut self, d: usize) -> usize {
+        let all = (1 << d) - 1;
+        let edge = self.random.one_of(&[0, 1, all, all + 1, usize::MAX]);
+        if self.random.percent(40) {
+            edge
+        } else {
+            1 + self.random.below(all)
+        }
+    }
+
     pub fn query(&mut self, board: &PlainBoard) -> Call {
         let n = board.moves.len();
         match self.random.below(6) {
@@ -77,7 +88,7 @@ impl Draw {
             2 => Call::Band(self.random.one_of(&[0, 1, 2, 5, n, 4095, 4096, usize::MAX])),
             3 => Call::Rank(self.random.one_of(&[0, 1, 2, 7, n, 4096, 4097, usize::MAX])),
             4 => Call::OnK(self.random.below(board.d + 2)),
-            _ => Call::Chosen(self.random.one_of(&[0, 1, 2, 3, 4, 5, 7, 9, 15, 16, usize::MAX])),
+            _ => Call::Chosen(self.set(board.d)),
         }
     }
 
@@ -89,10 +100,10 @@ impl Draw {
         let place = self.random.below(n);
         match self.random.below(6) {
             0 => c = self.random.one_of(&[0, 15, 4097, usize::MAX]),
-            1 => d = self.random.one_of(&[0, 1, 5, usize::MAX]),
+            1 => d = self.random.one_of(&[0, 1, COSTS + 1, usize::MAX]),
             2 => rows[place].number = c as u16,
             3 => rows.push(rows[place]),
-            4 if d < 4 => rows[place].costs[3] = 1,
+            4 if d < COSTS => rows[place].costs[d + self.random.below(COSTS - d)] = 1,
             _ => c = self.size + 1,
         }
         Call::Load { c, d, rows }
@@ -107,7 +118,7 @@ impl Draw {
     /// Any load that is accepted.
     fn any_load(&mut self) -> Call {
         let c = 16 + self.random.below(self.size - 15);
-        let (d, n) = (2 + self.random.below(3), self.random.below(c + 1));
+        let (d, n) = (2 + self.random.below(COSTS - 1), self.random.below(c + 1));
         self.load(c, d, n)
     }
 

@@ -3,7 +3,7 @@
 use super::address::key;
 use super::lists::skyline;
 use super::node::{Node, LEAST_ENTRIES, MOST_ENTRIES};
-use crate::Move;
+use crate::{Move, COSTS};
 
 /// What the bytes in use say, judged only as far as reading needs it.
 #[derive(Clone, Debug)]
@@ -21,7 +21,7 @@ fn word(bytes: &[u8], at: usize) -> u16 {
 
 fn stored_move(bytes: &[u8], c: usize, d: usize, number: u16) -> Move {
     let at = 16 + 5 * c + 16 * usize::from(number);
-    let mut costs = [0; 4];
+    let mut costs = [0; COSTS];
     for (i, cost) in costs[..d].iter_mut().enumerate() {
         *cost = word(bytes, at + 2 * i);
     }
@@ -32,7 +32,7 @@ fn stored_move(bytes: &[u8], c: usize, d: usize, number: u16) -> Move {
 pub fn content(bytes: &[u8]) -> Option<Content> {
     let head = bytes.get(..16)?;
     let (c, d, n) = (usize::from(word(head, 0)), usize::from(head[2]), usize::from(word(head, 4)));
-    let fits = (16..=4096).contains(&c) && (2..=4).contains(&d) && n <= c && bytes.len() >= 64 * c + 1024;
+    let fits = (16..=4096).contains(&c) && (2..=COSTS).contains(&d) && n <= c && bytes.len() >= 64 * c + 1024;
     if !fits {
         return None;
     }
@@ -82,7 +82,7 @@ impl Content {
 
     /// Whether the moves stand in Z-order, no number twice.
     fn in_order(&self) -> bool {
-        let keys: Vec<(u64, u16)> = self.moves.iter().map(|x| key(self.d, x)).collect();
+        let keys: Vec<(u128, u16)> = self.moves.iter().map(|x| key(self.d, x)).collect();
         let mut numbers: Vec<u16> = self.moves.iter().map(|x| x.number).collect();
         numbers.sort_unstable();
         keys.is_sorted() && numbers.windows(2).all(|w| w[0] != w[1])

@@ -21,4 +21,4 @@ pub mod tries;
 pub mod withdrawing;
 
 pub use call::Call;
-pub use dolzhev_sys::{AddressAnswer, Answer, Costs, CostsAnswer, Move, RegionAnswer, Row};
+pub use dolzhev_sys::{AddressAnswer, AddressWords, Answer, Costs, CostsAnswer, Move, RegionAnswer, Row, COSTS};

@@ -1,6 +1,7 @@
 //! The plain board with document 01's tree beside it.
 use super::board::{foresee_load, Foreseen, PlainBoard};
 use super::entering::enter;
+use super::layout;
 use super::loading::load;
 use super::node::Node;
 use super::withdrawing::{recost, withdraw};
@@ -14,10 +15,13 @@ pub struct Model {
 }
 
 impl Model {
-    /// A board that stands in memory already.
-    pub fn standing(c: usize, d: usize, tree: Option<Node>) -> Self {
+    /// The board that the bytes hold, if they are sound.
+    pub fn of_memory(bytes: &[u8]) -> Self {
+        let Some((content, tree)) = layout::sound(bytes) else {
+            return Model::default();
+        };
         let moves = tree.as_ref().map_or(Vec::new(), Node::moves);
-        Model { board: Some(PlainBoard::new(c, d, moves)), tree }
+        Model { board: Some(PlainBoard::new(content.c, content.d, moves)), tree }
     }
 
     /// What a call answers on memory of that many bytes, given rows enough.

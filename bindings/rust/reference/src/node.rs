@@ -43,7 +43,7 @@ impl Node {
     }
 
     /// The least and the greatest address.
-    fn span(&self, d: usize) -> (u64, u64) {
+    fn span(&self, d: usize) -> (u128, u128) {
         (address(d, &self.first().costs), address(d, &self.last().costs))
     }
 

@@ -1,5 +1,5 @@
 //! Numbers that look random and are the same on every run, and boards made of them.
-use crate::{Costs, Move};
+use crate::{Costs, Move, COSTS};
 
 /// Steele, Lea and Flood's SplitMix64.
 pub struct Random(u64);
@@ -58,7 +58,7 @@ pub enum Shape {
 /// Costs below `span`, 1 to 65,536, for the number of a board of size c. On an all-listed board each number has costs that
 /// no other number's dominate, if the span is at least c.
 pub fn costs(random: &mut Random, shape: Shape, d: usize, span: usize, number: usize, c: usize) -> Costs {
-    let mut costs = [0; 4];
+    let mut costs = [0; COSTS];
     let base = random.below(span);
     let noise = span / 16 + 1;
     for cost in &mut costs[..d] {

@@ -1,35 +1,49 @@
-//! The Rattle source of the comparison of costs, looked at as text: no branch and no comparison sign but for the loop's end
-//! and the line that tests the sums (document 02, Card 5), and no second pass over the costs (Card 4).
+//! The Rattle source of the comparison of costs, looked at as text: no branch and no comparison sign but in the lines that the
+//! table names (document 02, Card 5), and no further pass over the costs (Card 4).
 use std::fs;
 use std::path::Path;
 
-/// A function of the comparison: where it stands, each call that it makes, whether it has the loop, whether its last line
-/// tests sums.
+type Texts = &'static [&'static str];
+
+/// A function of the comparison: where it stands, each call that it makes, and the lines in which it may decide, in their
+/// order. None of these reads a cost.
 struct Function {
     krate: &'static str,
     name: &'static str,
-    calls: &'static [&'static str],
-    loops: bool,
-    tests: bool,
+    calls: Texts,
+    decides: Texts,
 }
 
-const fn function(krate: &'static str, name: &'static str, calls: &'static [&'static str]) -> Function {
-    Function { krate, name, calls, loops: false, tests: false }
+const fn function(krate: &'static str, name: &'static str, calls: Texts, decides: Texts) -> Function {
+    Function { krate, name, calls, decides }
 }
+
+/// The end of the loop.
+const LOOP: &str = "while i < COSTS {";
+/// The test of what was gathered.
+const ANY: &str = "0 < greater";
+/// The test of a number of costs.
+const ON_K: &str = "(k <= d - greater) & exceeds(d, q, p)";
+/// The comparison of two moves' numbers.
+const LOWER: &str = "let lower = 0 < less(p.number, q.number);";
 
 /// Whatever one of these calls is one of them, so that no branch hides in a callee.
-const FUNCTIONS: [Function; 8] = [
-    function("dominance", "wide", &[]),
-    function("dominance", "less", &["wide", "wide"]),
-    Function { loops: true, ..function("dominance", "sums_over", &["less", "less"]) },
-    function("dominance", "sums_over_first", &["sums_over"]),
-    Function { tests: true, ..function("dominance", "dominates", &["sums_over_first"]) },
-    Function { tests: true, ..function("dominance", "hides", &["less", "sums_over_first"]) },
-    Function { tests: true, ..function("query", "dominates_on", &["sums_over_first"]) },
-    Function { tests: true, ..function("query", "dominates_at", &["sums_over"]) },
+const FUNCTIONS: [Function; 11] = [
+    function("dominance", "wide", &[], &[]),
+    function("dominance", "less", &["wide", "wide"], &[]),
+    function("dominance", "first_factor", &[], &[]),
+    function("dominance", "less_times", &["less"], &[]),
+    function("dominance", "exceeds", &["first_factor", "less_times"], &[LOOP, ANY]),
+    function("dominance", "exceeds_in", &["less_times"], &[LOOP, ANY]),
+    function("dominance", "count_greater", &["first_factor", "less_times"], &[LOOP]),
+    function("dominance", "dominates", &["exceeds", "exceeds"], &[]),
+    function("dominance", "hides", &["exceeds", "exceeds", "less"], &[LOWER]),
+    function("query", "dominates_on", &["count_greater", "exceeds"], &[ON_K]),
+    function("query", "dominates_at", &["exceeds_in", "exceeds_in"], &[]),
 ];
 
-const BRANCHES: [&str; 11] = ["if", "else", "match", "for", "loop", "return", "break", "continue", "?", "&&", "||"];
+const BRANCHES: [&str; 12] =
+    ["if", "else", "match", "while", "for", "loop", "return", "break", "continue", "?", "&&", "||"];
 const SIGNS: [&str; 6] = ["<", ">", "<=", ">=", "==", "!="];
 /// Longest first: a shift or an arrow is no sign.
 const OPERATORS: [&str; 14] = ["<<=", ">>=", "<<", ">>", "<=", ">=", "==", "!=", "->", "=>", "&&", "||", "::", "+="];
@@ -92,36 +106,29 @@ fn is_name(text: &str) -> bool {
     text.starts_with(|c: char| c.is_alphabetic() || c == '_')
 }
 
-/// The signs that a body may have: those of the loop's end and those of the line that tests the sums. Neither reads a cost.
-fn is_allowed(function: &Function, body: &[Word], sign: Word) -> bool {
-    let of_line = |line: usize| body.iter().filter(move |w| w.line == line).map(|w| w.text);
-    let ends_loop =
-        of_line(sign.line).next() == Some("while") && of_line(sign.line).filter(|t| SIGNS.contains(t)).count() == 1;
-    let last = body[body.len() - 2].line;
-    let tests_sums = sign.line == last && of_line(last).any(|t| t == "greater") && of_line(last).any(|t| t == "lesser");
-    let reads_cost = of_line(sign.line).any(|t| t == "[");
-    !reads_cost && (function.loops && ends_loop || function.tests && tests_sums)
+fn decides(word: &Word) -> bool {
+    BRANCHES.contains(&word.text) || SIGNS.contains(&word.text)
+}
+
+fn is_text(line: &[Word], text: &str) -> bool {
+    line.iter().map(|w| w.text).eq(words(text).iter().map(|w| w.text))
+}
+
+/// The lines in which a body decides and may not: any but those of the table, each once and in their order.
+fn undue<'a>(function: &Function, body: &'a [Word<'a>]) -> impl Iterator<Item = &'a [Word<'a>]> {
+    let mut due = function.decides.iter().peekable();
+    let deciding = body.chunk_by(|v, w| v.line == w.line).filter(|line| line.iter().any(decides));
+    deciding.filter(move |line| due.next_if(|text| is_text(line, text)).is_none())
 }
 
 fn faults_of(function: &Function, body: &[Word]) -> Vec<String> {
-    let mut faults = Vec::new();
-    let mut fault = |what: String| faults.push(format!("{}::{}: {what}", function.krate, function.name));
-    for word in body.iter().filter(|w| BRANCHES.contains(&w.text)) {
-        fault(format!("`{}`", word.text));
-    }
-    for &word in body.iter().filter(|w| SIGNS.contains(&w.text)) {
-        if !is_allowed(function, body, word) {
-            fault(format!("the sign `{}`", word.text));
-        }
-    }
-    if body.iter().filter(|w| w.text == "while").count() != usize::from(function.loops) {
-        fault("a number of loops that is not its own".into());
-    }
+    let mut faults: Vec<String> =
+        undue(function, body).flatten().filter(|w| decides(w)).map(|w| format!("`{}`", w.text)).collect();
     let mut calls: Vec<&str> =
         body.windows(2).filter(|w| is_name(w[0].text) && w[1].text == "(").map(|w| w[0].text).collect();
     calls.sort_unstable();
     if calls != function.calls {
-        fault(format!("calls {calls:?}"));
+        faults.push(format!("calls {calls:?}"));
     }
     faults
 }
@@ -139,13 +146,13 @@ pub fn faults(source: impl Fn(&str) -> String) -> Vec<String> {
     for function in &FUNCTIONS {
         let text = source(function.krate);
         let words = words(&text);
-        match bodies(&words, function.name)[..] {
-            [body] => faults.extend(faults_of(function, body)),
-            ref found => faults.push(format!("{}::{}: found {} times", function.krate, function.name, found.len())),
-        }
-        for callee in function.calls.iter().filter(|c| !is_known(&words, c)) {
-            faults.push(format!("{}: which `{callee}` is meant?", function.krate));
-        }
+        let mut found = match bodies(&words, function.name)[..] {
+            [body] => faults_of(function, body),
+            ref found => vec![format!("found {} times", found.len())],
+        };
+        let unknown = function.calls.iter().filter(|c| !is_known(&words, c));
+        found.extend(unknown.map(|callee| format!("which `{callee}` is meant?")));
+        faults.extend(found.iter().map(|what| format!("{}::{}: {what}", function.krate, function.name)));
     }
     faults
 }

@@ -19,10 +19,10 @@ impl Seen {
     }
 }
 
-/// One call of each kind, as good as blind.
-fn each_call(random: &mut Random) -> Vec<Call> {
+/// One call of each kind, as good as blind but for the number of costs.
+fn each_call(random: &mut Random, d: usize) -> Vec<Call> {
     let number = random.below(20) as u16;
-    let costs = std::array::from_fn(|i| if i < 2 { random.below(8) as u16 } else { 0 });
+    let costs = std::array::from_fn(|i| if i < d { random.below(8) as u16 } else { 0 });
     vec![
         Call::Enter { number, costs },
         Call::Withdraw { number },
@@ -30,15 +30,16 @@ fn each_call(random: &mut Random) -> Vec<Call> {
         Call::List,
         Call::Band(random.below(4)),
         Call::Rank(1 + random.below(8)),
-        Call::OnK(1 + random.below(3)),
-        Call::Chosen(1 + random.below(6)),
+        Call::OnK(1 + random.below(d + 1)),
+        Call::Chosen(1 + random.below(1 << d)),
     ]
 }
 
 /// Every call on a copy of the bytes, and then load, which takes any.
 pub fn try_all(ask: Ask, bytes: &[u8], random: &mut Random, seen: &mut Seen) {
     let sound = layout::sound(bytes).is_some();
-    for call in each_call(random) {
+    let d = layout::content(bytes).map_or(2, |content| content.d);
+    for call in each_call(random, d) {
         let mut against = Against::over(ask, bytes);
         let lent = random.one_of(&[0, 3, 17, 40]);
         let answer = against.check(&call, lent).answer;

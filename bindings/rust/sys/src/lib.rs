@@ -8,5 +8,5 @@ mod types;
 mod zorder;
 
 pub use calls::{band, chosen, enter, list, load, on_k, rank, recost, withdraw};
-pub use types::{AddressAnswer, Answer, Costs, CostsAnswer, Move, RegionAnswer, Row};
+pub use types::{AddressAnswer, AddressWords, Answer, Costs, CostsAnswer, Move, RegionAnswer, Row, COSTS};
 pub use zorder::{address, costs_of, region};

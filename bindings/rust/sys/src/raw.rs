@@ -1,5 +1,5 @@
 //! The exported functions, as `include/dolzhev.h` and `include/dolzhev_zorder.h` declare them.
-use crate::types::{AddressAnswer, Answer, Costs, CostsAnswer, Move, RegionAnswer, Row};
+use crate::types::{AddressAnswer, AddressWords, Answer, Costs, CostsAnswer, Move, RegionAnswer, Row};
 
 /// C passes an array by value in a struct only.
 #[repr(C)]
@@ -20,6 +20,6 @@ extern "C" {
     pub fn dolzhev_on_k(memory: *const u8, memory_len: usize, k: usize, rows: *mut Row, rows_len: usize) -> Answer;
     pub fn dolzhev_chosen(memory: *const u8, memory_len: usize, set: usize, rows: *mut Row, rows_len: usize) -> Answer;
     pub fn dolzhev_address(d: usize, costs: ByValue) -> AddressAnswer;
-    pub fn dolzhev_costs_of(d: usize, address: u64) -> CostsAnswer;
-    pub fn dolzhev_region(d: usize, a: u64, b: u64) -> RegionAnswer;
+    pub fn dolzhev_costs_of(d: usize, address: AddressWords) -> CostsAnswer;
+    pub fn dolzhev_region(d: usize, a: AddressWords, b: AddressWords) -> RegionAnswer;
 }

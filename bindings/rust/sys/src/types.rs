@@ -1,7 +1,32 @@
 //! The structs of the headers.
 
-/// Four costs, those past d zero. Less is better.
-pub type Costs = [u16; 4];
+/// The costs of a row, whatever d is.
+pub const COSTS: usize = 8;
+
+/// The costs of a row, those past d zero. Less is better.
+pub type Costs = [u16; COSTS];
+
+/// An address: upper · 2^64 + lower. For d up to 4 the upper word is 0.
+#[repr(C)]
+#[derive(Clone, Copy, Debug, Default, PartialEq, Eq)]
+pub struct AddressWords {
+    /// The upper 64 bits.
+    pub upper: u64,
+    /// The lower 64 bits.
+    pub lower: u64,
+}
+
+impl From<u128> for AddressWords {
+    fn from(address: u128) -> Self {
+        AddressWords { upper: (address >> 64) as u64, lower: address as u64 }
+    }
+}
+
+impl From<AddressWords> for u128 {
+    fn from(words: AddressWords) -> Self {
+        u128::from(words.upper) << 64 | u128::from(words.lower)
+    }
+}
 
 /// A move: a number below the board's size, and its costs.
 #[repr(C)]
@@ -48,7 +73,7 @@ pub struct AddressAnswer {
     /// Always 0.
     pub detail: usize,
     /// The address.
-    pub address: u64,
+    pub address: AddressWords,
 }
 
 /// The costs of an address, zeros where refused.

@@ -1,6 +1,6 @@
 //! Addresses and regions, without the board.
 use crate::raw::{self, ByValue};
-use crate::types::{AddressAnswer, Costs, CostsAnswer, RegionAnswer};
+use crate::types::{AddressAnswer, AddressWords, Costs, CostsAnswer, RegionAnswer};
 
 /// The address of the first d costs.
 pub fn address(d: usize, costs: Costs) -> AddressAnswer {
@@ -8,11 +8,11 @@ pub fn address(d: usize, costs: Costs) -> AddressAnswer {
 }
 
 /// The d costs of an address.
-pub fn costs_of(d: usize, address: u64) -> CostsAnswer {
+pub fn costs_of(d: usize, address: AddressWords) -> CostsAnswer {
     unsafe { raw::dolzhev_costs_of(d, address) }
 }
 
 /// The region of the addresses a ≤ b.
-pub fn region(d: usize, a: u64, b: u64) -> RegionAnswer {
+pub fn region(d: usize, a: AddressWords, b: AddressWords) -> RegionAnswer {
     unsafe { raw::dolzhev_region(d, a, b) }
 }

@@ -1,12 +1,18 @@
 //! The fields of the lent memory, by the table of docs/DECISIONS.md.
-use crate::{Costs, Move};
+use crate::{Costs, Move, COSTS};
 
-/// C, d and the number of moves.
+/// C, d and the number of moves; and which costs are in use, by bits.
 #[derive(Clone, Copy)]
 pub struct Head {
     pub c: usize,
     pub d: usize,
     pub n: usize,
+    used: Costs,
+}
+
+/// Every bit of the costs that are chosen, none of the others.
+pub fn all_bits(chosen: impl Fn(usize) -> bool) -> Costs {
+    std::array::from_fn(|i| if chosen(i) { u16::MAX } else { 0 })
 }
 
 fn word(m: &[u8], at: usize) -> u16 {
@@ -19,8 +25,12 @@ fn set_word(m: &mut [u8], at: usize, value: u16) {
 }
 
 impl Head {
+    pub fn new(c: usize, d: usize, n: usize) -> Head {
+        Head { c, d, n, used: all_bits(|i| i < d) }
+    }
+
     pub fn read(m: &[u8]) -> Head {
-        Head { c: word(m, 0).into(), d: m[2].into(), n: word(m, 4).into() }
+        Head::new(word(m, 0).into(), m[2].into(), word(m, 4).into())
     }
 
     pub fn write(self, m: &mut [u8]) {
@@ -58,11 +68,11 @@ impl Head {
         m[16 + 3 * self.c + usize::from(number)] = listed.into();
     }
 
-    /// Those past d are not in use in memory, and zero here: two costs may then be compared on all four.
+    /// Those past d are not in use in memory, and zero here: two rows may then be compared on all their costs.
     pub fn costs(self, m: &[u8], number: u16) -> Costs {
         let at = 16 + 5 * self.c + 16 * usize::from(number);
-        let stored = &m[at..at + 8];
-        std::array::from_fn(|i| if i < self.d { word(stored, 2 * i) } else { 0 })
+        let stored: [u8; 2 * COSTS] = m[at..at + 2 * COSTS].try_into().expect("as many bytes");
+        std::array::from_fn(|i| u16::from_le_bytes([stored[2 * i], stored[2 * i + 1]]) & self.used[i])
     }
 
     pub fn set_costs(self, m: &mut [u8], number: u16, costs: Costs) {

@@ -1,5 +1,6 @@
 //! The benchmark's second yardstick: the library's layout, soundness decision and algorithms in ordinary Rust. Each call
 //! judges the same bytes in the same way, so that a ratio to it shows what the proved code costs and nothing else.
+mod beats;
 mod bytes;
 mod change;
 mod enter;

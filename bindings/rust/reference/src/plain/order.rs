@@ -1,13 +1,13 @@
-//! Z-order, side and near corner of two moves' costs, by the highest bit in which they differ; and hiding.
-use crate::{Costs, Move};
+//! Z-order, side and near corner of two moves' costs, by the highest bit in which they differ.
+use crate::{Costs, Move, COSTS};
 
 fn open_groups(p: &Costs, q: &Costs) -> u32 {
-    let differing = (0..4).fold(0, |bits, i| bits | p[i] ^ q[i]);
+    let differing = (0..COSTS).fold(0, |bits, i| bits | p[i] ^ q[i]);
     16 - differing.leading_zeros()
 }
 
 fn group(costs: &Costs, j: u32) -> u16 {
-    costs.iter().fold(0, |group, cost| group << 1 | cost >> j & 1)
+    (0..COSTS).fold(0, |group, i| group | (costs[i] >> j & 1) << (COSTS - 1 - i))
 }
 
 pub fn stands_before(p: &Move, q: &Move) -> bool {
@@ -24,9 +24,4 @@ pub fn side(p: &Costs, q: &Costs) -> u32 {
 pub fn near(p: &Costs, q: &Costs) -> Costs {
     let open = open_groups(p, q);
     p.map(|cost| (u32::from(cost) >> open << open) as u16)
-}
-
-/// Whether p keeps q out of the list, in one pass: nowhere greater, and of the lower number or somewhere less.
-pub fn hides(p: &Move, q: &Move) -> bool {
-    p.costs.iter().zip(&q.costs).all(|(a, b)| a <= b) && (p.number < q.number || p.costs != q.costs)
 }

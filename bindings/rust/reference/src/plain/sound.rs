@@ -1,14 +1,15 @@
 //! Whether the memory is sound.
+use super::beats::hides;
 use super::bytes::Head;
-use super::order::{hides, stands_before};
-use crate::Move;
+use super::order::stands_before;
+use crate::{Move, COSTS};
 
 fn head(m: &[u8]) -> Option<Head> {
     if m.len() < 2048 {
         return None;
     }
     let head = Head::read(m);
-    let fits = (16..=4096).contains(&head.c) && (2..=4).contains(&head.d) && head.n <= head.c;
+    let fits = (16..=4096).contains(&head.c) && (2..=COSTS).contains(&head.d) && head.n <= head.c;
     (fits && m.len() >= 64 * head.c + 1024).then_some(head)
 }
 

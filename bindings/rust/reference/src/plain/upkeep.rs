@@ -1,6 +1,6 @@
 //! What a change does to the list, found without writing.
+use super::beats::hides;
 use super::bytes::Head;
-use super::order::hides;
 use super::set::Set;
 use crate::Move;
 

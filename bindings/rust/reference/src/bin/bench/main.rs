@@ -7,10 +7,14 @@ mod rounds;
 
 use programs::{programs, Program, PROGRAMS};
 use reference::random::Shape;
+use reference::COSTS;
 use rounds::Rounds;
 use std::time::{Duration, Instant};
 
 const SHAPES: [Shape; 4] = [Shape::Uniform, Shape::Correlated, Shape::AntiCorrelated, Shape::AllListed];
+
+/// The numbers of costs.
+const DIMENSIONS: [usize; 5] = [2, 3, 4, 6, COSTS];
 
 /// The sizes, the time that the library's rounds of a board may take, and the most rounds.
 struct Effort {
@@ -22,14 +26,14 @@ struct Effort {
 fn effort(word: Option<&str>) -> Option<Effort> {
     let effort = |sizes, millis, most| Some(Effort { sizes, budget: Duration::from_millis(millis), most });
     match word {
-        None => effort([256, 4096], 500, 50),
+        None => effort([256, 4096], 250, 50),
         Some("short") => effort([256, 1024], 20, 5),
         Some("long") => effort([256, 4096], 5000, 500),
         Some(_) => None,
     }
 }
 
-const LEAST_ROUNDS: usize = 3;
+const LEAST_ROUNDS: usize = 2;
 
 /// The times that each program took for a call, a time for each round.
 struct Timed {
@@ -38,12 +42,12 @@ struct Timed {
 }
 
 impl Timed {
-    /// The median in microseconds: other work on the machine falls on single rounds.
+    /// The median in microseconds, of two the lesser: other work on the machine falls on single rounds.
     fn micros(&self) -> [f64; PROGRAMS] {
         self.times.each_ref().map(|times| {
             let mut sorted = times.clone();
             sorted.sort_unstable();
-            sorted[sorted.len() / 2].as_secs_f64() * 1e6
+            sorted[(sorted.len() - 1) / 2].as_secs_f64() * 1e6
         })
     }
 }
@@ -105,7 +109,7 @@ fn main() {
         "C", "board", "call", "us a call", "/all-pairs", "/plain"
     );
     for c in effort.sizes {
-        for d in 2..=4 {
+        for d in DIMENSIONS {
             for shape in SHAPES {
                 let mut rounds = Rounds::new(shape, c, d);
                 let sums = measure(&effort, &mut rounds);
