@@ -20,15 +20,13 @@ loop-holds : tie.Need-loop-holds Inv-loop μ-loop
 loop-holds c = (omega arith, or-none (firstOf (c .args .d)) (first-small (c .args .d)) (c .args .t3) (c .args .t2) rowCosts)
 
 less-times-requires : tie.Need-less-times-requires Inv-loop μ-loop
-less-times-requires c κs =
-    let d = c .before .before .before .args .d in
-    omega (arith, c .first-factor .ensures, first-small d (c .before .before .loop .i))
+less-times-requires c κs = c .first-factor .ensures .1
 
 loop-again : tie.Need-loop-again Inv-loop μ-loop
 loop-again c =
     let a = c .before .before .before .before .args in
     let own = c .before .before .before .loop in
-    let told = c .less-times .ensures ∙ ap (λ (k : ℕ). k * cond (less (getD (a .t3) (own .i) 0) (getD (a .t2) (own .i) 0)) 1 0) (c .before .first-factor .ensures) in
+    let told = c .less-times .ensures ∙ ap (λ (k : ℕ). k * cond (less (getD (a .t3) (own .i) 0) (getD (a .t2) (own .i) 0)) 1 0) (c .before .first-factor .ensures .0) in
     (omega arith, or-more (firstOf (a .d)) (first-small (a .d)) (a .t3) (a .t2) (own .greater) (c .less-times .result) (omega arith) told (own .inv .1))
 
 returns : tie.Need-returns Inv-loop μ-loop

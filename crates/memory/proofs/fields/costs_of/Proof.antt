@@ -12,7 +12,7 @@ use lib.ListN.{length, getD, set, replicate, length-append, length-replicate, ge
 use lib.Seq.{getD-append-add}
 use Rattle.zorder.proofs.Fill.{filled, filled-none, filled-more, filled-all}
 use Rattle.model.specs.Laws.Bool.{testCases}
-use Rattle.dominance.specs.Laws.Sums.{times-lt, firstOf, first-small}
+use Rattle.dominance.specs.Laws.Sums.{times-lt, firstOf}
 use Rattle.promises.specs.Layout.{costPlace, costIn, tab, costsIn}
 use Rattle.promises.specs.Laws.Tab.{length-tab, getD-tab}
 use Rattle.memory.proofs.fields.costs_of.Statement.{statement}
@@ -67,10 +67,7 @@ loop-holds c =
     (omega arith, filled-none (costsIn (a .c) (a .d) (a .m .now) (a .number)))
 
 mul-costs : tie.Need-mul-costs Inv-loop μ-loop
-mul-costs c =
-    let f = c .first-factor in
-    let d = c .before .before .before .before .before .args .d in
-    record { fits = times-lt (f .result) (c .before .word .result) (2 ^ 16) (omega (arith, f .ensures, first-small d (c .before .before .before .loop .j))) (omega arith) }
+mul-costs c = record { fits = times-lt (c .first-factor .result) (c .before .word .result) (2 ^ 16) (c .first-factor .ensures .1) (omega arith) }
 
 loop-again : tie.Need-loop-again Inv-loop μ-loop
 unfolding costIn costPlace
@@ -83,7 +80,7 @@ loop-again c =
     let count : length row ≡ rowCosts = row-length (a .c) (a .d) (a .m .now) (a .number) few in (
       omega arith,
       ap₂ (λ (l : List ℕ) (v : ℕ). set l (own .j) v) (own .inv .1)
-          (row-times (a .c) (a .d) (a .m .now) (a .number) few (own .j) (c .first-factor .result) (w .result) (omega arith) (c .first-factor .ensures) (w .ensures))
+          (row-times (a .c) (a .d) (a .m .now) (a .number) few (own .j) (c .first-factor .result) (w .result) (omega arith) (c .first-factor .ensures .0) (w .ensures))
           ∙ filled-more row (own .j) 0 (omega arith) (omega arith),
     )
 
