@@ -5,7 +5,8 @@ use Prim.Native.Nat.{ℕ, zero, suc, _-_, _≤_, _<_}
 use mathlib.Core.Bool.{true, false}
 use mathlib.Core.List.{List, _++_, map}
 use mathlib.Core.Path.{_≡_}
-use lib.ListN.{length, replicate}
+use lib.ListN.{length, take, replicate}
+use Rattle.zorder.specs.Address.{rowCosts}
 use Rattle.model.specs.Basics.{Each}
 use Rattle.model.specs.Moves.{Move, InputRow, Row}
 use Rattle.model.specs.Lists.{skyline}
@@ -13,6 +14,14 @@ use Rattle.model.specs.Tree.{Entry, Tree, empty, rooted, movesOf, ruled}
 use Rattle.model.specs.Calls.{Board, sizeBad, memoryNeed, Change, enter, withdraw, recost}
 use Rattle.line.specs.Line.{Placed, lineOf, movesIn}
 use Rattle.promises.specs.Layout.{sizeIn, dimensionIn, countIn, numberIn, heightIn, costIn, tab, keptFrom}
+
+-- The first n costs of a row.
+abbrev pub narrow : ℕ → List ℕ → List ℕ
+narrow n cs = take n cs
+
+-- A row of n costs with zeros behind.
+abbrev pub widened : ℕ → List ℕ → List ℕ
+widened n cs = cs ++ replicate (rowCosts - n) 0
 
 module _ (g : List ℕ → List ℕ) where
   abbrev pub moveWith : Move → Move

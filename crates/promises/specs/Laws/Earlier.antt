@@ -29,12 +29,12 @@ use Rattle.line.specs.Laws.Line.{moves-line}
 use Rattle.promises.specs.Layout.{sizeIn, dimensionIn, countIn, numberIn, heightIn, costIn, tab, costsIn, moveIn, placedIn, lineFrom, lineIn, boardIn, markIn, keptFrom, keptIn}
 use Rattle.promises.specs.Sound.{Stands}
 use Rattle.promises.specs.Run.{Bytes}
-use Rattle.promises.specs.Width.{moveWith, boardWith, entryWith, treeWith, placedOf, lineOfWidth, StoodAt}
+use Rattle.promises.specs.Width.{narrow, widened, moveWith, boardWith, entryWith, treeWith, placedOf, lineOfWidth, StoodAt}
 use Rattle.promises.specs.Laws.Stands.{costs-row}
 use Rattle.promises.specs.Laws.Tab.{length-tab, map-tab, tab-ext, each-tab}
 use Rattle.promises.specs.Laws.Width.{KeepsFirst, move-before-with, skyline-with}
 use Rattle.promises.specs.Laws.WidthTree.{flat-map, ruled-with}
-use Rattle.promises.specs.Laws.Widened.{narrow, widened, narrow-keeps, narrow-widened}
+use Rattle.promises.specs.Laws.Widened.{narrow-keeps, narrow-widened}
 
 abbrev pub placedWith : (List ℕ → List ℕ) → Placed → Placed
 placedWith g r = record { move = moveWith g (r .move); height = r .height }

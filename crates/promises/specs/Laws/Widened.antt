@@ -2,13 +2,13 @@
 -- (Card 13: "Boards of d up to 4 give the same lists, notices and counts as before"; n is then 4).
 use Prim.Native.Nat.{ℕ, zero, suc, _+_, _-_, _≤_}
 use mathlib.Core.Bool.{Bool, true, false, cond, not, false≢true}
-use mathlib.Core.List.{List, [], _∷_, _++_, map}
+use mathlib.Core.List.{List, [], _∷_, map}
 use mathlib.Core.Path.{_≡_, refl, sym, ap, ap₂, _∙_, subst}
 use native.Mathlib.Nat.{le-trans, le-of-suc-le-suc}
 use native.Mathlib.Omega.{arith}
 use borrow.Author.Tests.{not-false}
 use lib.Dec.{leb, eqb}
-use lib.ListN.{take, drop, replicate}
+use lib.ListN.{take, drop}
 use lib.Seq.{take-take, drop-drop}
 use Rattle.zorder.specs.Address.{rowCosts, padded}
 use Rattle.zorder.specs.Between.{RowCosts}
@@ -23,17 +23,9 @@ use Rattle.model.specs.Calls.{Board, listOf, changed, changedMoves, Query, list
 use Rattle.model.specs.Laws.Basics.{each-map, each-append, each-select}
 use Rattle.model.specs.Laws.Sorting.{each-sort}
 use Rattle.model.specs.Laws.Tree.{each-take}
-use Rattle.promises.specs.Width.{rowWith, boardWith, changeWith}
+use Rattle.promises.specs.Width.{narrow, widened, rowWith, boardWith, changeWith}
 use Rattle.promises.specs.Laws.Width.{KeepsFirst, query-rows-with}
 use Rattle.promises.specs.Laws.WidthChanges.{FitCosts, FitChange, fit-skyline, fit-changed, change-notice-with}
-
--- The first n costs of a row.
-abbrev pub narrow : ℕ → List ℕ → List ℕ
-narrow n cs = take n cs
-
--- A row of n costs with zeros behind.
-abbrev pub widened : ℕ → List ℕ → List ℕ
-widened n cs = cs ++ replicate (rowCosts - n) 0
 
 -- ---- rows of n costs keep the first d
 
