@@ -20,12 +20,12 @@ use Rattle.model.specs.Dominance.{dominatesAt, dominatesOn}
 use Rattle.model.specs.Lists.{hidden, skyline, dominators, band, rankBefore, rank, dominated, onK, chosen, chosenCosts, listedRows}
 use Rattle.model.specs.Notice.{missing, noticeOf}
 use Rattle.model.specs.Calls.{Board, listOf, changed, changedMoves, Query, list, bandQuery, rankQuery, onKQuery, chosenQuery, queryRows, Change, changeNotice}
-use Rattle.model.specs.Laws.Basics.{each-map, each-append, each-select}
+use Rattle.model.specs.Laws.Basics.{each-append, each-select}
 use Rattle.model.specs.Laws.Sorting.{each-sort}
 use Rattle.model.specs.Laws.Tree.{each-take}
 use Rattle.promises.specs.Width.{narrow, widened, rowWith, boardWith, changeWith}
 use Rattle.promises.specs.Laws.Width.{KeepsFirst, query-rows-with}
-use Rattle.promises.specs.Laws.WidthChanges.{FitCosts, FitChange, fit-skyline, fit-changed, change-notice-with}
+use Rattle.promises.specs.Laws.WidthChanges.{FitCosts, FitChange, fit-rows, fit-skyline, fit-changed, change-notice-with}
 
 -- ---- rows of n costs keep the first d
 
@@ -89,10 +89,7 @@ module _ (d n : ℕ) (l : d ≤ n) (m : n ≤ rowCosts) where
   unfolding padded
   narrow-widened cs h = row-padded n cs m (wider-row cs h)
 
-  abbrev FitRow : Row → Type 0
-  FitRow r = RowCosts d (r .costs)
-
-  rows-widened : (rs : List Row) → Each FitRow rs → map (rowWith (widened n)) (map (rowWith (narrow n)) rs) ≡ rs
+  rows-widened : (rs : List Row) → Each (λ r. RowCosts d (r .costs)) rs → map (rowWith (widened n)) (map (rowWith (narrow n)) rs) ≡ rs
   rows-widened [] h = refl
   rows-widened (r ∷ rs) h = ap₂ _∷_ (λ i. record { mark = r .mark; number = r .number; costs = narrow-widened (r .costs) (h .0) i }) (rows-widened rs (h .1))
 
@@ -105,30 +102,26 @@ module _ (b : Board) (h : Each (FitCosts (b .dimension)) (b .moves)) where
   abbrev Told : Row → Type 0
   Told r = RowCosts (b .dimension) (r .costs)
 
-  marked : (mark : Move → ℕ) (ms : List Move) → Each (FitCosts (b .dimension)) ms → Each Told (map (λ m. rowOf (mark m) m) ms)
-  unfolding rowOf
-  marked mark ms k = each-map Told (λ m. rowOf (mark m) m) ms k
-
   some-fit : (p : Move → Bool) → Each (FitCosts (b .dimension)) (select p (b .moves))
   some-fit p = each-select p (FitCosts (b .dimension)) (b .moves) h
 
   query-rows-fit : (q : Query) → Each Told (queryRows b q)
   unfolding queryRows listOf listedRows skyline band rank onK chosen
-  query-rows-fit list = marked (λ m. listed) (skyline dim (b .moves)) (some-fit (λ m. not (hidden dim (b .moves) m)))
-  query-rows-fit (bandQuery n) = marked (λ m. listed) (band dim n (b .moves)) (some-fit (λ m. leb (dominators dim (b .moves) m) n))
+  query-rows-fit list = fit-rows dim (λ m. listed) (skyline dim (b .moves)) (some-fit (λ m. not (hidden dim (b .moves) m)))
+  query-rows-fit (bandQuery n) = fit-rows dim (λ m. listed) (band dim n (b .moves)) (some-fit (λ m. leb (dominators dim (b .moves) m) n))
   query-rows-fit (rankQuery t) =
       let rows : List Row = map (λ m. rowOf (dominated dim (b .moves) m) m) (skyline dim (b .moves)) in
       each-take Told t (sortBy (rankBefore dim) rows)
-      (each-sort (rankBefore dim) Told rows (marked (dominated dim (b .moves)) (skyline dim (b .moves)) (some-fit (λ m. not (hidden dim (b .moves) m)))))
+      (each-sort (rankBefore dim) Told rows (fit-rows dim (dominated dim (b .moves)) (skyline dim (b .moves)) (some-fit (λ m. not (hidden dim (b .moves) m)))))
   query-rows-fit (onKQuery k) =
-      marked (λ m. listed) (onK dim k (b .moves)) (some-fit (λ m. not (any (λ p. dominatesOn dim k (p .costs) (m .costs)) (b .moves))))
+      fit-rows dim (λ m. listed) (onK dim k (b .moves)) (some-fit (λ m. not (any (λ p. dominatesOn dim k (p .costs) (m .costs)) (b .moves))))
   query-rows-fit (chosenQuery set) =
-      marked (λ m. listed) (chosen (chosenCosts dim set) (b .moves))
+      fit-rows dim (λ m. listed) (chosen (chosenCosts dim set) (b .moves))
       (some-fit (λ m. not (any (λ p. dominatesAt (chosenCosts dim set) (p .costs) (m .costs)) (b .moves))))
 
   missing-fit : (mark : ℕ) (ms : List Move) (ss : List Row) → Each (FitCosts (b .dimension)) ms → Each Told (missing (map (rowOf mark) ms) ss)
   unfolding missing
-  missing-fit mark ms ss j = each-select (λ r. not (any (sameRow r) ss)) Told (map (rowOf mark) ms) (marked (λ m. mark) ms j)
+  missing-fit mark ms ss j = each-select (λ r. not (any (sameRow r) ss)) Told (map (rowOf mark) ms) (fit-rows dim (λ m. mark) ms j)
 
   notice-fit : (old new : List Move) → Each (FitCosts (b .dimension)) old → Each (FitCosts (b .dimension)) new → Each Told (noticeOf old new)
   unfolding noticeOf

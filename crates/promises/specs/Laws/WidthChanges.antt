@@ -38,6 +38,11 @@ FitChange d (enter n costs) = RowCosts d costs
 FitChange d (withdraw n) = Unit {0}
 FitChange d (recost n costs) = RowCosts d costs
 
+-- Rows of moves, marked in whatever way.
+pub fit-rows : (d : ℕ) (mark : Move → ℕ) (ms : List Move) → Each (FitCosts d) ms → Each (λ r. RowCosts d (r .costs)) (map (λ m. rowOf (mark m) m) ms)
+unfolding rowOf
+fit-rows d mark ms h = each-map (λ r. RowCosts d (r .costs)) (λ m. rowOf (mark m) m) ms h
+
 pub fit-skyline : (d : ℕ) (ms : List Move) → Each (FitCosts d) ms → Each (FitCosts d) (skyline d ms)
 unfolding skyline
 fit-skyline d ms h = each-select _ (FitCosts d) ms h
@@ -78,10 +83,6 @@ module _ (d : ℕ) (g : List ℕ → List ℕ) (G : KeepsFirst d g) (l : d ≤ r
           (mem-each _ ss (λ s n. ap (λ (b : Bool). eqb (r .number) (s .number) && b)
           (equal-with (r .costs) (s .costs) (each-mem (λ r. RowCosts d (r .costs)) h m) (each-mem (λ r. RowCosts d (r .costs)) k n))))
 
-  fit-rows : (mark : ℕ) (ms : List Move) → Each (FitCosts d) ms → Each (λ r. RowCosts d (r .costs)) (map (rowOf mark) ms)
-  unfolding rowOf
-  fit-rows mark ms h = each-map (λ r. RowCosts d (r .costs)) (rowOf mark) ms h
-
   notice-with : (old new : List Move) → Each (FitCosts d) old → Each (FitCosts d) new
       → noticeOf (map (moveWith g) old) (map (moveWith g) new) ≡ map (rowWith g) (noticeOf old new)
   unfolding noticeOf
@@ -93,7 +94,7 @@ module _ (d : ℕ) (g : List ℕ → List ℕ) (G : KeepsFirst d g) (l : d ≤ r
           → missing (map (rowOf mark) (map (moveWith g) ms)) (map (rowOf mark) (map (moveWith g) ns)) ≡ map (rowWith g) (missing (map (rowOf mark) ms) (map (rowOf mark) ns))
       part mark ms ns h k =
           ap₂ missing (rows-with g mark ms) (rows-with g mark ns)
-          ∙ missing-with (map (rowOf mark) ms) (map (rowOf mark) ns) (fit-rows mark ms h) (fit-rows mark ns k)
+          ∙ missing-with (map (rowOf mark) ms) (map (rowOf mark) ns) (fit-rows d (λ m. mark) ms h) (fit-rows d (λ m. mark) ns k)
 
   -- ---- boards and trees
 

@@ -21,7 +21,7 @@ pub value-lt : (a : Words) → a .upper < 2 ^ wordBits → a .lower < 2 ^ wordBi
 unfolding value
 value-lt a word also = digits-lt word also
 
--- "Two words are the address."
+-- Two words are the number, and the number is the two words.
 pub value-words : (n : ℕ) → value (wordsOf n) ≡ n
 unfolding value wordsOf
 value-words n = split n wordBits
