@@ -9,6 +9,7 @@ pub mod Turns
 pub mod Levels
 pub mod Head
 pub mod Marks
+pub mod Ordered
 pub mod Decide
 pub mod Used
 pub mod Front

@@ -1,9 +1,12 @@
 -- What the functions over the lent memory ask of it.
 use Prim.Native.Nat.{ℕ, _+_, _*_, _≤_, _<_}
+use mathlib.Core.Bool.{true}
 use mathlib.Core.List.{List}
+use mathlib.Core.Path.{_≡_}
 use lib.ListN.{length}
 use Rattle.zorder.specs.Address.{rowCosts}
-use Rattle.promises.specs.Layout.{numberIn}
+use Rattle.model.specs.Moves.{moveBefore}
+use Rattle.promises.specs.Layout.{numberIn, moveIn}
 use Rattle.memory.specs.declared.sound.Head.{Head}
 
 -- The memory is long enough for a board of size c, and c is small enough for offsets not to wrap.
@@ -23,3 +26,10 @@ pub record ReadableRows (c d n : ℕ) (m : List ℕ) : Type 0 where
 
 abbrev pub Readable : Head → List ℕ → Type 0
 Readable h = ReadableRows (h .size) (h .dimension) (h .count)
+
+-- The first n moves stand in Z-order.
+abbrev pub Ordered : ℕ → ℕ → ℕ → List ℕ → Type 0
+Ordered c d n m = (i j : ℕ) → i < j → j < n → moveBefore d (moveIn c d m i) (moveIn c d m j) ≡ true
+
+abbrev pub InOrder : Head → List ℕ → Type 0
+InOrder h = Ordered (h .size) (h .dimension) (h .count)

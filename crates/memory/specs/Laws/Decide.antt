@@ -26,7 +26,7 @@ use Rattle.promises.specs.Laws.Stands.{costs-row, stands-dimension, stands-move
 use Rattle.memory.specs.Room.{Numbers}
 use Rattle.memory.specs.Tests.{headRight, numbersRight, orderRight, isListed, hiddenBefore, marksRight, Decides}
 use Rattle.memory.specs.Laws.Lines.{movesIn-line, heightsIn-line, numbers-each, each-numbers}
-use Rattle.memory.specs.Laws.Places.{rising-tab}
+use Rattle.memory.specs.Laws.Ordered.{order-right}
 use Rattle.memory.specs.Laws.Turns.{numbers-right, right-numbers}
 use Rattle.memory.specs.Laws.Head.{HeadRight, head-right, right-head}
 use Rattle.memory.specs.Laws.Marks.{marks-kept, kept-marks}
@@ -34,17 +34,13 @@ use Rattle.memory.specs.Laws.Marks.{marks-kept, kept-marks}
 -- ---- the moves of the line
 
 module _ (c d n : ℕ) (m : List ℕ) where
-  order-right : ordered d (movesIn (lineFrom c d n m)) ≡ orderRight c d n m
-  unfolding ordered orderRight
-  order-right = ap (ordered d) (movesIn-line c d n m) ∙ rising-tab (moveIn c d m) (moveBefore d) n
-
   module _ (b : Bytes m) (l : d ≤ rowCosts) (h : Numbers c n m) (r : orderRight c d n m ≡ true) where
     moves-fit : Each (Fit c d) (tab (moveIn c d m) n)
     unfolding moveIn
     moves-fit = each-tab (moveIn c d m) (Fit c d) n (λ i k. record { number = h i k; costs = costs-row m b c d (numberIn c m i) l })
 
     in-order : ordered d (tab (moveIn c d m) n) ≡ true
-    in-order = ap (ordered d) (sym (movesIn-line c d n m)) ∙ order-right ∙ r
+    in-order = ap (ordered d) (sym (movesIn-line c d n m)) ∙ order-right c d n m ∙ r
 
     listed : Move → Bool
     listed x = eqb (markIn c m (x .number)) 1

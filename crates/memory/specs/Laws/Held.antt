@@ -23,12 +23,13 @@ use Rattle.promises.specs.Layout.{sizeIn, dimensionIn, countIn, numberIn, markI
 use Rattle.promises.specs.Sound.{Stands, Sound}
 use Rattle.promises.specs.Run.{Bytes}
 use Rattle.promises.specs.Laws.Stands.{stands-dimension, stands-moves, stands-order, stands-fit, stands-once}
-use Rattle.memory.specs.Room.{Room, Numbers, ReadableRows}
+use Rattle.memory.specs.Room.{Room, Numbers, ReadableRows, Ordered}
 use Rattle.memory.specs.Held.{SoundAt, HeldIn}
 use Rattle.memory.specs.Tests.{isListed}
 use Rattle.promises.specs.Laws.Tab.{length-tab, getD-tab, map-tab}
 use Rattle.memory.specs.Laws.Places.{tab-each}
 use Rattle.memory.specs.Laws.Lines.{movesIn-line, lineIn-line}
+use Rattle.memory.specs.Laws.Ordered.{line-ordered}
 use Rattle.memory.specs.declared.sound.Head.{Head}
 use Rattle.memory.specs.declared.sound.Held.{Held}
 use Rattle.memory.specs.declared.sound.Held.the-variants as held
@@ -82,6 +83,9 @@ module _ (c d n : ℕ) (m : List ℕ) (s : SoundAt c d n m) where
   pub held-order : ordered d (movesIn (lineFrom c d n m)) ≡ true
   unfolding boardIn lineIn
   held-order = own (λ c d n. ordered d (movesIn (lineFrom c d n m)) ≡ true) (stands-order m (s .sound .tree) stands)
+
+  pub held-ordered : Ordered c d n m
+  held-ordered = line-ordered c d n m held-order
 
   pub held-kept : keptFrom c m (movesIn (lineFrom c d n m)) ≡ skyline d (movesIn (lineFrom c d n m))
   unfolding boardIn lineIn keptIn

@@ -63,6 +63,14 @@ module _ (d : ℕ) where
       earlier =
           and-drop-left (samePlace d q p) (ltb m n) (Between.same-sym d p q same) (or-false-right (before d q p) (samePlace d q p && ltb m n) k)
 
+pub before-irrefl : (d : ℕ) (x : Move) → moveBefore d x x ≡ false
+unfolding moveBefore
+before-irrefl d x = z-irrefl d (x .number) (x .costs)
+
+pub before-trans : (d : ℕ) (x y z : Move) → moveBefore d x y ≡ true → moveBefore d y z ≡ true → moveBefore d x z ≡ true
+unfolding moveBefore
+before-trans d x y z = z-trans d (x .number) (x .costs) (y .number) (y .costs) (z .number) (z .costs)
+
 pub move-path : (m n : Move) → (m .number ≡ n .number) × (m .costs ≡ n .costs) → m ≡ n
 move-path m n e = λ i. record { number = e .0 i; costs = e .1 i }
 
@@ -70,8 +78,8 @@ pub move-order : (d c : ℕ) → d ≤ rowCosts → StrictOrder (Fit c d) (moveB
 unfolding moveBefore
 move-order d c l =
     record {
-      irrefl = λ m f. z-irrefl d (m .number) (m .costs);
-      trans = λ m n k f g h. z-trans d (m .number) (m .costs) (n .number) (n .costs) (k .number) (k .costs);
+      irrefl = λ m f. before-irrefl d m;
+      trans = λ m n k f g h. before-trans d m n k;
       total = λ m n f g h k. move-path m n (z-total d l (m .number) (m .costs) (n .number) (n .costs) (f .costs) (g .costs) h k);
     }
 
