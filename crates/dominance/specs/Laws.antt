@@ -1,2 +1,3 @@
--- What holds of the sums.
+-- What holds of the sums, and of rows place by place.
 pub mod Sums
+pub mod Lanes

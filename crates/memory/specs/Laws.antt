@@ -2,6 +2,7 @@
 pub mod Frames
 pub mod Written
 pub mod Fields
+pub mod Costs
 pub mod Stored
 pub mod Lines
 pub mod Places
@@ -10,6 +11,8 @@ pub mod Levels
 pub mod Head
 pub mod Marks
 pub mod Ordered
+pub mod Search
+pub mod Hiders
 pub mod Decide
 pub mod Used
 pub mod Front

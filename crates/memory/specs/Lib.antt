@@ -4,4 +4,5 @@ pub mod Held
 pub mod Stores
 pub mod Frame
 pub mod Tests
+pub mod Search
 pub mod Laws

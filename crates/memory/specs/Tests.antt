@@ -44,8 +44,11 @@ isListed c m i = isMarked c m (numberIn c m i)
 unfoldable pub hiddenBefore : ℕ → ℕ → List ℕ → ℕ → Move → Bool
 hiddenBefore c d m i x = anyTo (λ j. isListed c m j && hides d (moveIn c d m j) x) i
 
+abbrev pub hiddenAt : ℕ → ℕ → List ℕ → ℕ → Bool
+hiddenAt c d m i = hiddenBefore c d m i (moveIn c d m i)
+
 unfoldable pub marksRight : ℕ → ℕ → ℕ → List ℕ → Bool
-marksRight c d n m = allTo (λ i. Bool·beq (isListed c m i) (not (hiddenBefore c d m i (moveIn c d m i)))) n
+marksRight c d n m = allTo (λ i. Bool·beq (isListed c m i) (not (hiddenAt c d m i))) n
 
 -- The answer says whether the memory is sound.
 pub record Decides (r : Bool) (m : List ℕ) : Type 0 where

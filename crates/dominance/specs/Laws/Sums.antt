@@ -57,7 +57,7 @@ not-or true b c e = refl
 not-or false b c e = e
 
 -- Nowhere greater: the other is nowhere less.
-nowhere-somewhere : (p q : List ℕ) → nowhereGreater p q ≡ not (somewhereLess q p)
+pub nowhere-somewhere : (p q : List ℕ) → nowhereGreater p q ≡ not (somewhereLess q p)
 unfolding nowhereGreater somewhereLess
 nowhere-somewhere [] [] = refl
 nowhere-somewhere [] (b ∷ q) = refl

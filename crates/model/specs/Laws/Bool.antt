@@ -84,6 +84,10 @@ pub and-false-right : (a b : Bool) → b ≡ false → (a && b) ≡ false
 and-false-right true b e = e
 and-false-right false b e = refl
 
+pub and-given : (a b : Bool) → (a ≡ true → b ≡ true) → (a && b) ≡ a
+and-given true b f = f refl
+and-given false b f = refl
+
 pub and-drop-left : (a b : Bool) → a ≡ true → (a && b) ≡ false → b ≡ false
 and-drop-left true b e f = f
 and-drop-left false b e f = absurd (false≢true e)

@@ -12,14 +12,15 @@ use lib.Seq.{getD-take}
 use borrow.Author.Tests.{ltb-true, ltb-false, lt-ltb, le-ltb, eq-eqb}
 use Rattle.zorder.specs.Address.{address, padded}
 use Rattle.zorder.specs.Between.{RowCosts, rowCosts, before, samePlace}
-use Rattle.zorder.specs.Laws.Between.{row-padded}
+use Rattle.zorder.specs.Laws.Between.{row-padded, before-irrefl}
+use Rattle.zorder.specs.Laws.FirstCosts.{before-alike}
 use Rattle.model.specs.Basics.{equal}
 use Rattle.model.specs.Moves.{Move, moveBefore, zBefore}
 use Rattle.model.specs.Dominance.{less, nowhereGreater, somewhereLess, better, dominates, equalCosts, lowerTwin, hides}
 use Rattle.model.specs.Sound.{Fit}
-use Rattle.model.specs.Laws.Bool.{and-left, and-right, and-both, not-back, or-cases, or-left, or-right, or-false-left, or-false-right, or-false-both, and-false-right}
+use Rattle.model.specs.Laws.Bool.{byCases, both-ways, and-left, and-right, and-both, and-given, not-back, or-cases, or-left, or-right, or-false-left, or-false-right, or-false-both, and-false-right}
 use Rattle.model.specs.Laws.Basics.{equal-refl, equal-true}
-use Rattle.model.specs.Laws.Dominance.{places-nowhere-greater, dominates-places, dominates-irrefl, dominates-trans, row-lengths, dominates-before}
+use Rattle.model.specs.Laws.Dominance.{places-nowhere-greater, dominates-places, dominates-irrefl, dominates-trans, row-lengths, dominates-before, take-same-length}
 
 -- ---- equal costs
 
@@ -159,6 +160,33 @@ hides-before d m n l h k e =
     (and-both (samePlace d (m .costs) (n .costs)) (ltb (m .number) (n .number))
     (equal-place d (m .costs) (n .costs) l h k (twin-costs d m n t)) (lt-ltb (m .number) (n .number) (twin-number d m n t))))
     (hides-cases d m n e)
+
+-- Of two moves the earlier one hides the other exactly if it is nowhere greater: of equal costs the lower number stands first.
+module _ (d : ℕ) (m n : Move) (b : moveBefore d m n ≡ true) where
+  same-lower : take d (m .costs) ≡ take d (n .costs) → ltb (m .number) (n .number) ≡ true
+  unfolding moveBefore zBefore
+  same-lower e =
+      or-cases (before d (m .costs) (n .costs)) (samePlace d (m .costs) (n .costs) && ltb (m .number) (n .number)) b
+      (λ h. both-ways h (before-alike d (m .costs) (n .costs) (n .costs) (n .costs) e refl ∙ before-irrefl d (n .costs)))
+      (and-right (samePlace d (m .costs) (n .costs)) (ltb (m .number) (n .number)))
+
+  pub earlier-hides : length (m .costs) ≡ length (n .costs) → hides d m n ≡ nowhereGreater (take d (m .costs)) (take d (n .costs))
+  unfolding hides lowerTwin dominates equalCosts
+  earlier-hides k = sym (better-or-equal p q lower (take-same-length d (m .costs) (n .costs) k)) ∙ and-given (nowhereGreater p q) (somewhereLess p q || lower) either
+    where
+      p : List ℕ
+      p = take d (m .costs)
+
+      q : List ℕ
+      q = take d (n .costs)
+
+      lower : Bool
+      lower = ltb (m .number) (n .number)
+
+      either : nowhereGreater p q ≡ true → (somewhereLess p q || lower) ≡ true
+      either h =
+          byCases (somewhereLess p q) (or-left (somewhereLess p q) lower)
+          (λ g. or-right (somewhereLess p q) lower (same-lower (equal-true p q (neither-equal p q (take-same-length d (m .costs) (n .costs) k) h g))))
 
 pub move-hiding : (d c : ℕ) → d ≤ rowCosts → Hiding (Fit c d) (moveBefore d) (hides d)
 move-hiding d c l =

@@ -2,58 +2,35 @@
 use Rattle.zorder.specs.Address.{rowCosts, padded}
 use Prim.Native.Nat.{ℕ, _+_, _-_, _*_, _^_, _≤_, _<_}
 use mathlib.Core.Bool.{cond}
-use mathlib.Core.List.{List, _++_, append-nil}
+use mathlib.Core.List.{List, append-nil}
 use mathlib.Core.Path.{_≡_, sym, ap, ap₂, _∙_}
 use native.Mathlib.Nat.{zero-mul, one-mul}
 use native.Mathlib.Omega.{arith}
 use borrow.Author.Tests.{ltb-true, ltb-false}
 use lib.Dec.{ltb}
-use lib.ListN.{length, getD, set, replicate, length-append, length-replicate, getD-replicate, List·getD-append}
-use lib.Seq.{getD-append-add}
+use lib.ListN.{length, getD, set}
 use Rattle.zorder.proofs.Fill.{filled, filled-none, filled-more, filled-all}
 use Rattle.model.specs.Laws.Bool.{testCases}
 use Rattle.dominance.specs.Laws.Sums.{times-lt, firstOf}
-use Rattle.promises.specs.Layout.{costPlace, costIn, tab, costsIn}
-use Rattle.promises.specs.Laws.Tab.{length-tab, getD-tab}
+use Rattle.promises.specs.Layout.{costPlace, costIn, costsIn}
+use Rattle.memory.specs.Laws.Costs.{row-length, row-cost, row-past}
 use Rattle.memory.proofs.fields.costs_of.Statement.{statement}
 use Rattle.memory.proofs.fields.costs_of.Tie as tie
 
 -- ---- the row that is read
 
 module _ (c d : ℕ) (m : List ℕ) (number : ℕ) (few : d ≤ rowCosts) where
-  row-length : length (costsIn c d m number) ≡ rowCosts
-  unfolding costsIn padded
-  row-length =
-      let cost = tab (costIn c m number) d in
-      omega (arith, length-append cost (replicate (rowCosts - d) 0), length-tab (costIn c m number) d, length-replicate {A = ℕ} (rowCosts - d) 0)
-
-  row-cost : (j : ℕ) → j < d → getD (costsIn c d m number) j 0 ≡ costIn c m number j
-  unfolding costsIn padded
-  row-cost j h =
-      let cost = costIn c m number in
-      List·getD-append (tab cost d) (replicate (rowCosts - d) 0) 0 j (omega (arith, length-tab cost d)) ∙ getD-tab cost 0 d j h
-
-  row-past : (j : ℕ) → d ≤ j → j < rowCosts → getD (costsIn c d m number) j 0 ≡ 0
-  unfolding costsIn padded
-  row-past j h l =
-      let cost = tab (costIn c m number) d in
-      let zeros : List ℕ = replicate (rowCosts - d) 0 in
-      let from : j ≡ length cost + (j - d) = omega (arith, length-tab (costIn c m number) d) in
-      ap (λ (k : ℕ). getD (cost ++ zeros) k 0) from
-      ∙ getD-append-add cost zeros (j - d) 0
-      ∙ getD-replicate (rowCosts - d) (j - d) 0 0 (omega arith)
-
   -- a word times 1 if its cost is one of the first d, else times 0
   row-times : (j k w : ℕ) → j < rowCosts → k ≡ firstOf d j → w ≡ costIn c m number j → k * w ≡ getD (costsIn c d m number) j 0
   row-times j k w l f e =
       ap (λ (n : ℕ). n * w) f
       ∙ testCases (λ t. cond t 1 0 * w ≡ getD (costsIn c d m number) j 0) (ltb j d)
-      (λ t. one-mul w ∙ e ∙ sym (row-cost j (ltb-true j d t)))
-      (λ t. zero-mul w ∙ sym (row-past j (ltb-false j d t) l))
+      (λ t. one-mul w ∙ e ∙ sym (row-cost c d m number few j (ltb-true j d t)))
+      (λ t. zero-mul w ∙ sym (row-past c d m number few j (ltb-false j d t) l))
 
   row-whole : filled (costsIn c d m number) rowCosts ≡ costsIn c d m number
   unfolding padded
-  row-whole = filled-all (costsIn c d m number) rowCosts row-length ∙ append-nil (costsIn c d m number)
+  row-whole = filled-all (costsIn c d m number) rowCosts (row-length c d m number few) ∙ append-nil (costsIn c d m number)
 
 abbrev Inv-loop : tie.InvT-loop
 Inv-loop m c d number at costs₀ j₀ costs j = (j ≤ rowCosts) × (costs ≡ filled (costsIn c d m number) j)

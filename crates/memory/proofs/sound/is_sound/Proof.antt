@@ -8,6 +8,7 @@ use Rattle.promises.specs.Run.{Bytes}
 use Rattle.memory.specs.Tests.{headRight}
 use Rattle.memory.specs.Laws.Turns.{numbers-right}
 use Rattle.memory.specs.Laws.Head.{head-numbers}
+use Rattle.memory.specs.Laws.Ordered.{right-ordered}
 use Rattle.memory.specs.Laws.Decide.{head-decides, numbers-decides, order-decides, heights-decides, marks-decides}
 use Rattle.memory.proofs.sound.is_sound.Statement.{statement}
 use Rattle.memory.proofs.sound.is_sound.Tie as tie
@@ -100,7 +101,10 @@ marks-right-requires c κs =
     let count = c .before .before .before .before .before .before .count in
     let numbers = c .before .before .before .before .before .numbers-right in
     let j = sym (numbers .ensures) ∙ not-false (numbers .result) (c .before .before .before .before .if2 .left) in
-    record { room = omega arith; rows = omega arith; numbers = numbers-right (size .result) m (count .result) j; dimension = omega arith }
+    let order = c .before .before .before .order-right in (
+      record { room = omega arith; rows = omega arith; numbers = numbers-right (size .result) m (count .result) j; dimension = omega arith },
+      right-ordered (size .result) (dimension .result) (count .result) m (sym (order .ensures) ∙ not-false (order .result) (c .before .before .if3 .left)),
+    )
 
 returns-5 : tie.Need-returns-5
 unfolding Bytes

@@ -1,0 +1,25 @@
+-- `search::seen` meets its contract. Assumes nothing.
+use mathlib.Core.List.{List}
+use mathlib.Core.Path.{sym, ap, _∙_}
+use borrow.Author.Needs.{needs}
+use Rattle.memory.specs.Search.{seen}
+use Rattle.memory.specs.Laws.Search.{lanes-tab}
+use Rattle.memory.specs.declared.search.Among.{Among}
+use Rattle.memory.proofs.search.seen.Statement.{statement}
+use Rattle.memory.proofs.search.seen.Tie as tie
+
+returns : tie.Need-returns
+unfolding seen
+returns c = sym (ap (λ (l : Among). seen l (c .before .before .args .costs)) (c .enum-told .given .1))
+
+returns-2 : tie.Need-returns-2
+unfolding seen
+returns-2 c = sym (ap (λ (l : Among). seen l (c .before .before .args .costs)) (c .enum-told2 .given .1))
+
+returns-3 : tie.Need-returns-3
+unfolding seen
+returns-3 c = lanes-tab (c .from-above .ensures) ∙ sym (ap (λ (l : Among). seen l (c .before .before .before .args .costs)) (c .before .enum-told3 .given .1))
+
+pub seen-spec : {M : Type 1} → statement M
+seen-spec =
+    tie.close (tie.spec (λ c. search needs) (λ c. search needs) (λ c. search needs) (λ c κs. search needs) returns returns-2 returns-3)

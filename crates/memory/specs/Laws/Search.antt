@@ -1,0 +1,159 @@
+-- The search over places: what a turn of each loop keeps, and that a corner somewhere greater than what is looked for passes its
+-- run by.
+use Prim.Native.Nat.{ℕ, zero, suc, _+_, _-_, _*_, _/_, _≤_, _<_}
+use mathlib.Core.Bool.{Bool, true, false, not, _&&_}
+use mathlib.Core.List.{List, []}
+use mathlib.Core.Path.{_≡_, refl, sym, ap, ap₂, _∙_, subst}
+use native.Mathlib.Decide.{ℕ-discrete, decLt}
+use native.Mathlib.Omega.{arith}
+use borrow.Author.Tests.{lt-ltb, le-ltb}
+use lib.Dec.{eqb, ltb}
+use lib.ListN.{length, getD, set, take, length-set, List·getD-eq-default}
+use lib.Seq.{getD-set-same, getD-set-other, getD-take, take-all}
+use Rattle.zorder.specs.Address.{rowCosts, padded}
+use Rattle.model.specs.Dominance.{nowhereGreater, somewhereLess}
+use Rattle.model.specs.Laws.Bool.{byCases, both-ways, and-left, and-right, and-both, and-false-right}
+use Rattle.model.specs.Laws.Dominance.{nowhere-greater-places, somewhere-less-place}
+use Rattle.dominance.specs.Lanes.{Lanes, lesser}
+use Rattle.dominance.specs.Laws.Lanes.{lesser-below}
+use Rattle.dominance.specs.Laws.Sums.{nowhere-somewhere}
+use Rattle.promises.specs.Layout.{numberIn, costsIn, costIn, tab}
+use Rattle.promises.specs.Laws.Tab.{length-tab, tab-of}
+use Rattle.memory.specs.Laws.Costs.{row-length}
+use Rattle.memory.specs.Search.{looks, looksAt, seen, seenAt, fits, None, First, Some, Below, Corners, CornerWith}
+use Rattle.memory.specs.declared.search.Among.{Among}
+use Rattle.memory.specs.declared.search.Among.the-variants.{All, Listed, Hidden}
+
+-- ---- rows
+
+pub lanes-tab : {f : ℕ → ℕ} {row : List ℕ} → Lanes f row → row ≡ tab f rowCosts
+lanes-tab {f} {row} h = tab-of f 0 rowCosts row (h .wide) (h .holds)
+
+pub length-seen : (a : Among) (costs : List ℕ) → length costs ≡ rowCosts → length (seen a costs) ≡ rowCosts
+unfolding seen
+length-seen All costs e = e
+length-seen Listed costs e = e
+length-seen Hidden costs e = length-tab (λ i. 65535 - getD costs i 0) rowCosts
+
+pub length-seen-at : (a : Among) (c : ℕ) (m : List ℕ) (i : ℕ) → length (seenAt a c m i) ≡ rowCosts
+unfolding seenAt
+length-seen-at a c m i = length-seen a (costsIn c rowCosts m (numberIn c m i)) (row-length c rowCosts m (numberIn c m i) (omega arith))
+
+-- "Somewhere greater" as the code asks it.
+pub whole-row : (p q : List ℕ) → length p ≡ rowCosts → length q ≡ rowCosts → not (somewhereLess (take rowCosts q) (take rowCosts p)) ≡ nowhereGreater p q
+whole-row p q e f =
+    ap₂ (λ (x y : List ℕ). not (somewhereLess x y)) (take-all rowCosts q (omega arith)) (take-all rowCosts p (omega arith)) ∙ sym (nowhere-somewhere p q)
+
+-- What a corner exceeds, every row that it lies below exceeds.
+pub corner-exceeds : (low p q : List ℕ) → length p ≡ rowCosts → length q ≡ rowCosts → Below low p
+    → somewhereLess (take rowCosts q) (take rowCosts low) ≡ true → nowhereGreater p q ≡ false
+corner-exceeds low p q e f below h = byCases (nowhereGreater p q) (λ g. absurd (against g)) (λ g. g)
+  where
+    at : (i : ℕ) × (i < length (take rowCosts q)) × (getD (take rowCosts q) i 0 < getD (take rowCosts low) i 0)
+    at = somewhere-less-place (take rowCosts q) (take rowCosts low) h
+
+    i : ℕ
+    i = at .0
+
+    q-all : getD (take rowCosts q) i 0 ≡ getD q i 0
+    q-all = ap (λ (x : List ℕ). getD x i 0) (take-all rowCosts q (omega arith))
+
+    few : i < rowCosts
+    few = omega (arith, at .1, ap length (take-all rowCosts q (omega arith)))
+
+    against : nowhereGreater p q ≡ true → ⊥
+    against g = omega (arith, nowhere-greater-places p q (e ∙ sym f) g i, at .2, q-all, getD-take rowCosts low i 0 few, below i)
+
+-- ---- no place, the first, some place
+
+pub none-empty : (test : ℕ → Bool) (i : ℕ) → None test i i
+none-empty test i k l g = absurd (omega arith)
+
+pub none-more : (test : ℕ → Bool) (i j : ℕ) → None test i j → test j ≡ false → None test i (j + 1)
+none-more test i j h e k l g = go (ℕ-discrete k j)
+  where
+    go : Dec (k ≡ j) → test k ≡ false
+    go (yes same) = ap test same ∙ e
+    go (no other) = h k l (omega arith)
+
+pub none-join : (test : ℕ → Bool) (i j n : ℕ) → None test i j → None test j n → None test i n
+none-join test i j n h g k l r = go (decLt k j)
+  where
+    go : Dec (k < j) → test k ≡ false
+    go (yes before) = h k l before
+    go (no after) = g k (omega arith) r
+
+pub first-some : {test : ℕ → Bool} {n r : ℕ} → First test 0 n r → Some test n r
+first-some f = record { to = f .to; found = f .found; none = λ l k a g. f .passed k a (omega arith) }
+
+-- ---- what fits
+
+module _ (a : Among) (c : ℕ) (m q : List ℕ) (i : ℕ) where
+  pub fits-unlooked : looksAt a c m i ≡ false → fits a c m q i ≡ false
+  unfolding fits
+  fits-unlooked e = ap (λ (b : Bool). b && nowhereGreater (seenAt a c m i) q) e
+
+  pub fits-looked : looksAt a c m i ≡ true → fits a c m q i ≡ nowhereGreater (seenAt a c m i) q
+  unfolding fits
+  fits-looked e = ap (λ (b : Bool). b && nowhereGreater (seenAt a c m i) q) e
+
+  pub fits-exceeding : nowhereGreater (seenAt a c m i) q ≡ false → fits a c m q i ≡ false
+  unfolding fits
+  fits-exceeding = and-false-right (looksAt a c m i) (nowhereGreater (seenAt a c m i) q)
+
+-- ---- corners
+
+module _ {a : Among} {c : ℕ} {m : List ℕ} where
+  pub corners-none : (corners : List (List ℕ)) → length corners ≡ 64 → Corners a c m 0 corners
+  corners-none corners e = record { runs = e; below = λ i l. absurd (omega arith) }
+
+  -- Corners of more places serve a search among fewer.
+  pub corners-fewer : {n i : ℕ} {corners : List (List ℕ)} → i ≤ n → Corners a c m n corners → Corners a c m i corners
+  corners-fewer few h = record { runs = h .runs; below = λ k l. h .below k (omega arith) }
+
+  -- The corner of i's run becomes r: a turn of every loop that keeps corners.
+  pub corners-more : (i : ℕ) (corners : List (List ℕ)) (r : List ℕ) → i / 64 < 64 → Corners a c m i corners
+      → CornerWith a c m i (getD corners (i / 64) []) r → Corners a c m (i + 1) (set corners (i / 64) r)
+  corners-more i corners r small h w = record {
+    runs = length-set corners (i / 64) r ∙ h .runs;
+    below = λ k l t. go k l t (ℕ-discrete k i) (ℕ-discrete (k / 64) (i / 64));
+  }
+    where
+      here : (n : ℕ) → n ≡ i / 64 → getD (set corners (i / 64) r) n [] ≡ r
+      here n e = ap (λ (j : ℕ). getD (set corners (i / 64) r) j []) e ∙ getD-set-same corners (i / 64) r [] (omega (arith, h .runs))
+
+      go : (k : ℕ) → k < i + 1 → looksAt a c m k ≡ true → Dec (k ≡ i) → Dec (k / 64 ≡ i / 64) → Below (getD (set corners (i / 64) r) (k / 64) []) (seenAt a c m k)
+      go k l t (yes same) e =
+          subst (λ (y : List ℕ). Below y (seenAt a c m k)) (sym (here (k / 64) (ap (λ (n : ℕ). n / 64) same)))
+          (subst (λ (n : ℕ). Below r (seenAt a c m n)) (sym same) (w .new (ap (looksAt a c m) (sym same) ∙ t)))
+      go k l t (no other) (yes run) =
+          subst (λ (y : List ℕ). Below y (seenAt a c m k)) (sym (here (k / 64) run))
+          (λ j. omega (arith, w .old j, subst (λ (n : ℕ). Below (getD corners n []) (seenAt a c m k)) run (h .below k (omega arith) t) j))
+      go k l t (no other) (no run) =
+          subst (λ (y : List ℕ). Below y (seenAt a c m k)) (sym (getD-set-other corners (i / 64) (k / 64) r [] run)) (h .below k (omega arith) t)
+
+module _ (a : Among) (c : ℕ) (m : List ℕ) (i : ℕ) (low : List ℕ) where
+  pub corner-same : looksAt a c m i ≡ false → CornerWith a c m i low low
+  corner-same e = record { old = λ k. omega arith; new = λ t. both-ways t e }
+
+  pub corner-least : (r : List ℕ) → Lanes (lesser low (seenAt a c m i)) r → CornerWith a c m i low r
+  corner-least r h = record { old = λ k. at k (decLt k rowCosts) .0; new = λ t k. at k (decLt k rowCosts) .1 }
+    where
+      at : (k : ℕ) → Dec (k < rowCosts) → (getD r k 0 ≤ getD low k 0) × (getD r k 0 ≤ getD (seenAt a c m i) k 0)
+      at k (yes l) = (omega (arith, h .holds k l, lesser-below low (seenAt a c m i) k), omega (arith, h .holds k l, lesser-below low (seenAt a c m i) k))
+      at k (no l) =
+          let past : getD r k 0 ≡ 0 = List·getD-eq-default r 0 {n = k} (omega (arith, h .wide)) in
+          (omega arith, omega arith)
+
+-- A run whose corner exceeds q has nothing that fits.
+pub run-passed : (a : Among) (c : ℕ) (m q : List ℕ) (n f e : ℕ) (corners : List (List ℕ)) → Corners a c m n corners → length q ≡ rowCosts
+    → e ≤ 64 * (f / 64) + 64 → e ≤ n
+    → somewhereLess (take rowCosts q) (take rowCosts (getD corners (f / 64) [])) ≡ true → None (fits a c m q) f e
+run-passed a c m q n f e corners h wide end room over k l g =
+    byCases (looksAt a c m k)
+    (λ t. fits-exceeding a c m q k (corner-exceeds (getD corners (f / 64) []) (seenAt a c m k) q (length-seen-at a c m k) wide
+    (subst (λ (r : ℕ). Below (getD corners r []) (seenAt a c m k)) same (h .below k (omega arith) t)) over))
+    (fits-unlooked a c m q k)
+  where
+    same : k / 64 ≡ f / 64
+    same = omega arith

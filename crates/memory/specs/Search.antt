@@ -1,0 +1,69 @@
+-- What the search over places finds.
+use Prim.Native.Nat.{ℕ, _-_, _/_, _≤_, _<_}
+use mathlib.Core.Bool.{Bool, true, false, not, _&&_}
+use mathlib.Core.List.{List, []}
+use mathlib.Core.Path.{_≡_}
+use lib.ListN.{length, getD}
+use Rattle.zorder.specs.Address.{rowCosts}
+use Rattle.model.specs.Dominance.{nowhereGreater}
+use Rattle.promises.specs.Layout.{numberIn, costsIn, tab}
+use Rattle.memory.specs.Tests.{isMarked}
+use Rattle.memory.specs.declared.search.Among.{Among}
+use Rattle.memory.specs.declared.search.Among.the-variants.{All, Listed, Hidden}
+use Rattle.memory.specs.declared.sound.Head.{Head}
+
+-- Whether a search looks at the move of a number, and at the one at place i.
+unfoldable pub looks : Among → ℕ → List ℕ → ℕ → Bool
+looks All c m k = true
+looks Listed c m k = isMarked c m k
+looks Hidden c m k = not (isMarked c m k)
+
+unfoldable pub looksAt : Among → ℕ → List ℕ → ℕ → Bool
+looksAt a c m i = looks a c m (numberIn c m i)
+
+-- Costs as a search sees them, and those at place i.
+unfoldable pub seen : Among → List ℕ → List ℕ
+seen All costs = costs
+seen Listed costs = costs
+seen Hidden costs = tab (λ i. 65535 - getD costs i 0) rowCosts
+
+unfoldable pub seenAt : Among → ℕ → List ℕ → ℕ → List ℕ
+seenAt a c m i = seen a (costsIn c rowCosts m (numberIn c m i))
+
+-- What it looks for: a move that is nowhere greater than q.
+unfoldable pub fits : Among → ℕ → List ℕ → List ℕ → ℕ → Bool
+fits a c m q i = looksAt a c m i && nowhereGreater (seenAt a c m i) q
+
+-- No place from i up to j passes.
+abbrev pub None : (ℕ → Bool) → ℕ → ℕ → Type 0
+None test i j = (k : ℕ) → i ≤ k → k < j → test k ≡ false
+
+-- The first place from i up to n that passes, or n.
+pub record First (test : ℕ → Bool) (i n r : ℕ) : Type 0 where
+  pub from : i ≤ r
+  pub to : r ≤ n
+  pub passed : None test i r
+  pub found : r < n → test r ≡ true
+
+-- A place below n that passes, or n where none does.
+pub record Some (test : ℕ → Bool) (n r : ℕ) : Type 0 where
+  pub to : r ≤ n
+  pub found : r < n → test r ≡ true
+  pub none : n ≤ r → None test 0 n
+
+-- p is nowhere greater than q, place by place.
+abbrev pub Below : List ℕ → List ℕ → Type 0
+Below p q = (k : ℕ) → getD p k 0 ≤ getD q k 0
+
+-- The corner of each run is nowhere greater than the moves of the run that are looked at, of the first n.
+pub record Corners (a : Among) (c : ℕ) (m : List ℕ) (n : ℕ) (corners : List (List ℕ)) : Type 0 where
+  pub runs : length corners ≡ 64
+  pub below : (i : ℕ) → i < n → looksAt a c m i ≡ true → Below (getD corners (i / 64) []) (seenAt a c m i)
+
+abbrev pub ListedCorners : Head → List ℕ → ℕ → List (List ℕ) → Type 0
+ListedCorners h = Corners Listed (h .size)
+
+-- A corner with the move at place i.
+pub record CornerWith (a : Among) (c : ℕ) (m : List ℕ) (i : ℕ) (low r : List ℕ) : Type 0 where
+  pub old : Below r low
+  pub new : looksAt a c m i ≡ true → Below r (seenAt a c m i)
