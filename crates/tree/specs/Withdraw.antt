@@ -13,7 +13,6 @@ use Rattle.line.specs.Places.{heightAt}
 use Rattle.line.specs.Withdraw as line
 use Rattle.promises.specs.Layout.{numberIn, heightIn, costsIn, workIn, heightsFrom, lineFrom, tab}
 use Rattle.memory.specs.Room.{Room}
-use Rattle.memory.specs.Stores.{setNumber, setHeight}
 use Rattle.memory.specs.Frame.{RowsOnly, WorkOnly}
 use Rattle.tree.specs.Hold.{RowsHold, RowsTree, Enterable}
 use Rattle.tree.specs.declared.withdraw.Range.{Range}
@@ -50,14 +49,6 @@ pub record Saved (c from to number : ℕ) (m m' : List ℕ) (r : ℕ) : Type 0 w
   pub few : r ≤ to - from
   pub numbers : tab (workIn c m') r ≡ others c from to number m
   pub frame : WorkOnly c m m'
-
-pub record CopyAsked (c i j : ℕ) (m : List ℕ) : Type 0 where
-  pub room : Room c m
-  pub source : i < c
-  pub target : j < c
-
-unfoldable pub copied : ℕ → ℕ → ℕ → List ℕ → List ℕ
-copied c i j m = setHeight c j (heightIn c m i) (setNumber c j (numberIn c m i) m)
 
 pub record GapAsked (c n from to : ℕ) (m : List ℕ) : Type 0 where
   pub room : Room c m

@@ -13,8 +13,8 @@ use memory::set_height;
 use memory::set_number;
 use memory::set_work;
 use memory::work_at;
-ghost use mathlib.Core.Path.{_≡_};
-ghost use Prim.Native.Nat.{_<_};
+ghost use Prim.Native.Nat.{_+_, _-_};
+ghost use Rattle.tree.specs.Rows.{NumbersMoved, HeightsMoved};
 ghost use Rattle.tree.specs.Withdraw as withdraw;
 
 // Rows from a place up to another.
@@ -78,15 +78,30 @@ fn save(m: &mut [u8], c: usize, from: usize, to: usize, number: u16) -> usize
     k
 }
 
-// The row at place i stands at place j too.
-fn copy_row(m: &mut [u8], c: usize, i: usize, j: usize)
-    requires { ⌜ withdraw.CopyAsked c i j (now m) ⌝ }
-    ensures { λ _. ⌜ now (m .exit) ≡ withdraw.copied c i j (now (m .entry)) ⌝ }
+// The numbers from place `to` on moved down to `from`. One field a loop, as in `insert`.
+fn lower_numbers(m: &mut [u8], c: usize, n: usize, from: usize, to: usize)
+    requires { ⌜ withdraw.GapAsked c n from to (now m) ⌝ }
+    ensures { λ _. ⌜ NumbersMoved c (λ i. i + (to - from)) from (n - (to - from)) (now (m .entry)) (now (m .exit)) ⌝ }
 {
-    let number = number_at(m, c, i);
-    let height = height_at(m, c, i);
-    set_number(m, c, j, number);
-    set_height(m, c, j, height);
+    let mut i = to;
+    while i < n {
+        let number = number_at(m, c, i);
+        set_number(m, c, from + (i - to), number);
+        i += 1;
+    }
+}
+
+// The heights likewise.
+fn lower_heights(m: &mut [u8], c: usize, n: usize, from: usize, to: usize)
+    requires { ⌜ withdraw.GapAsked c n from to (now m) ⌝ }
+    ensures { λ _. ⌜ HeightsMoved c (λ i. i + (to - from)) from (n - (to - from)) (now (m .entry)) (now (m .exit)) ⌝ }
+{
+    let mut i = to;
+    while i < n {
+        let height = height_at(m, c, i);
+        set_height(m, c, from + (i - to), height);
+        i += 1;
+    }
 }
 
 // The rows from `to` on moved down to `from`.
@@ -94,11 +109,8 @@ fn close_gap(m: &mut [u8], c: usize, n: usize, from: usize, to: usize)
     requires { ⌜ withdraw.GapAsked c n from to (now m) ⌝ }
     ensures { λ _. ⌜ withdraw.Closed c n from to (now (m .entry)) (now (m .exit)) ⌝ }
 {
-    let mut i = to;
-    while i < n {
-        copy_row(m, c, i, from + (i - to));
-        i += 1;
-    }
+    lower_numbers(m, c, n, from, to);
+    lower_heights(m, c, n, from, to);
 }
 
 // The range taken out; the row after it starts at least what the range started.

@@ -6,14 +6,14 @@ use native.Mathlib.Numerals.{add-one}
 use native.Mathlib.Omega.{arith}
 use lib.ListN.{length}
 use Rattle.model.specs.Basics.{Each}
-use Rattle.model.specs.Moves.{Move, noMove, moveBefore, insert}
+use Rattle.model.specs.Moves.{Move, noMove, moveBefore, ordered, insert}
 use Rattle.model.specs.Tree.{Tree, movesOf}
 use Rattle.model.specs.Entering.{enterTree}
 use Rattle.model.specs.Sound.{Fit}
 use Rattle.model.specs.Laws.Basics.{each-at}
 use Rattle.model.specs.Laws.Sorting.{StrictOrder, each-insert}
 use Rattle.model.specs.Laws.Order.{move-order, off-board}
-use Rattle.model.specs.Laws.Tree.{ruled-filled}
+use Rattle.model.specs.Laws.Tree.{ruled-filled, ruled-ordered}
 use Rattle.model.specs.Laws.Entering.{enter-moves, enter-ruled}
 use Rattle.line.specs.Line.{Placed, none, lineOf, movesIn}
 use Rattle.line.specs.Places.{heightAt, insertAt}
@@ -22,11 +22,12 @@ use Rattle.line.specs.Laws.Line.{moves-line}
 use Rattle.line.specs.Laws.Heights.{heights-right, heights-small}
 use Rattle.line.specs.Laws.Enter.{enter-cons, flat-enter-ruled}
 use Rattle.promises.specs.Layout.{heightIn, moveIn, placedIn, tab, lineFrom}
-use Rattle.memory.specs.Room.{Numbers}
+use Rattle.memory.specs.Room.{Numbers, Ordered}
 use Rattle.memory.specs.Frame.{RowsOnly}
 use Rattle.promises.specs.Laws.Tab.{length-tab, getD-tab}
 use Rattle.memory.specs.Laws.Frames.{frame-refl, frame-trans, room-over}
 use Rattle.memory.specs.Laws.Lines.{length-line, getD-line, heightAt-line, movesIn-line}
+use Rattle.memory.specs.Laws.Ordered.{line-ordered}
 use Rattle.tree.specs.Rows.{Inserted}
 use Rattle.tree.specs.Split.{CascadeAsked, Cascaded}
 use Rattle.tree.specs.Hold.{RowsHold, Enterable}
@@ -52,6 +53,10 @@ holds-low {c} {d} {n} {m} {t} h some =
     let low = heights-small (lineOf t) (heights-right t (ruled-filled d t (h .rules))) (omega (arith, ap length (h .line), h .readable .rows, h .readable .room)) in
     subst (λ (r : Placed). r .height ≤ 7) (getD-line c d n m 0 some)
     (each-at (λ r. r .height ≤ 7) (lineFrom c d n m) 0 none (omega arith) (subst (Each (λ r. r .height ≤ 7)) (sym (h .line)) low))
+
+pub holds-ordered : {c d n : ℕ} {m : List ℕ} {t : Tree} → RowsHold c d n m t → Ordered c d n m
+holds-ordered {c} {d} {n} {m} {t} h =
+    line-ordered c d n m (ap (λ (rs : List Placed). ordered d (movesIn rs)) (h .line) ∙ ap (ordered d) (moves-line t) ∙ ruled-ordered d t (h .rules))
 
 module _ {c d n : ℕ} {x : Move} {m m' : List ℕ} {t : Tree} (h : RowsHold c d n m t) (e : Enterable c d x m t) where
   holds-entered : n < c → RowsOnly c m m' → lineFrom c d (suc n) m' ≡ flatEnter d x (lineFrom c d n m) → RowsHold c d (suc n) m' (enterTree d x t)

@@ -1,9 +1,7 @@
 -- Rows moved down, and a range cut out.
 use Prim.Native.Nat.{ℕ, _+_, _-_, max, _≤_, _<_}
 use mathlib.Core.List.{List, [], _∷_, _++_}
-use mathlib.Core.Logic.{_≢_}
-use mathlib.Core.Path.{_≡_, refl, sym, ap, ap₂, _∙_, subst₂}
-use native.Mathlib.Decide.{decLt}
+use mathlib.Core.Path.{_≡_, refl, sym, ap, ap₂, _∙_}
 use native.Mathlib.Nat.{max-eq-left, max-eq-right}
 use native.Mathlib.Omega.{arith}
 use lib.ListN.{length, take, drop, length-drop}
@@ -13,104 +11,35 @@ use Rattle.line.specs.Places as places
 use Rattle.line.specs.Places.{moveAt, heightAt}
 use Rattle.line.specs.Withdraw as line
 use Rattle.line.specs.Laws.Places.{height-seam}
-use Rattle.promises.specs.Layout.{numberIn, heightIn, placedIn, lineFrom, tab}
-use Rattle.memory.specs.Room.{Room}
+use Rattle.promises.specs.Layout.{heightIn, placedIn, lineFrom, tab}
 use Rattle.memory.specs.Stores.{setHeight}
-use Rattle.memory.specs.Frame.{RowsOnly}
 use Rattle.promises.specs.Laws.Tab.{tab-cut}
-use Rattle.memory.specs.Laws.Frames.{frame-refl, frame-trans, room-over}
+use Rattle.memory.specs.Laws.Frames.{frame-trans, room-over}
 use Rattle.memory.specs.Laws.Stored.{setHeight-rows}
 use Rattle.memory.specs.Laws.Lines.{length-line, heightAt-line, line-setHeight}
-use Rattle.tree.specs.Withdraw.{copied, GapAsked, Closed, CutOut}
-use Rattle.tree.specs.Laws.Rows.{SameRow, setRow-rows, number-setRow, height-setRow, setRow-other, same-trans, same-placed}
+use Rattle.tree.specs.Rows.{NumbersMoved, HeightsMoved}
+use Rattle.tree.specs.Withdraw.{GapAsked, Closed, CutOut}
+use Rattle.tree.specs.Laws.Rows.{same-placed}
+use Rattle.tree.specs.Laws.Moving.{rows-frame, rows-moved, rows-kept}
 
 -- ---- rows moved down
 
-module _ (c i j : ℕ) (m : List ℕ) (low : j < c) where
-  copied-rows : RowsOnly c m (copied c i j m)
-  unfolding copied
-  copied-rows = setRow-rows c j (numberIn c m i) (heightIn c m i) m low
-
-  copied-at : Room c m → SameRow c m i (copied c i j m) j
-  unfolding copied
-  copied-at room =
-      record {
-        number = number-setRow c j (numberIn c m i) (heightIn c m i) m low room;
-        height = height-setRow c j (numberIn c m i) (heightIn c m i) m low room;
-      }
-
-  copied-other : (k : ℕ) → k < c → k ≢ j → SameRow c m k (copied c i j m) k
-  unfolding copied
-  copied-other = setRow-other c j (numberIn c m i) (heightIn c m i) m low
-
-same-still : (c i : ℕ) (m : List ℕ) → SameRow c m i m i
-same-still c i m = record { number = refl; height = refl }
-
--- The rows from place `to` up to place i are moved down to `from`.
-pub record Closing (c n from to i : ℕ) (m₀ m : List ℕ) : Type 0 where
-  pub after : to ≤ i
-  pub within : i ≤ n
-  pub frame : RowsOnly c m₀ m
-  pub kept : (j : ℕ) → j < from → SameRow c m₀ j m j
-  pub moved : (j : ℕ) → to + j < i → SameRow c m₀ (to + j) m (from + j)
-  pub ahead : (j : ℕ) → i ≤ j → j < n → SameRow c m₀ j m j
-
-module _ (c n from to : ℕ) (order : from < to) (rows : n ≤ c) (m₀ : List ℕ) where
-  pub closing-none : to ≤ n → Closing c n from to to m₀ m₀
-  closing-none h =
-      record {
-        after = omega arith;
-        within = h;
-        frame = frame-refl m₀;
-        kept = λ j l. same-still c j m₀;
-        moved = λ j l. absurd (omega arith);
-        ahead = λ j l k. same-still c j m₀;
-      }
-
-  module _ (i : ℕ) (m : List ℕ) (s : Closing c n from to i m₀ m) (room : Room c m) (h : i < n) where
-    abbrev target : ℕ
-    target = from + (i - to)
-
-    low : target < c
-    low = omega (arith, s .after)
-
-    other : (k j : ℕ) → SameRow c m₀ k m j → j < c → j ≢ target → SameRow c m₀ k (copied c i target m) j
-    other k j t l ne = same-trans (copied-other c i target m low j l ne) t
-
-    moved-more : (j : ℕ) → to + j < i + 1 → SameRow c m₀ (to + j) (copied c i target m) (from + j)
-    moved-more j l = go (decLt (to + j) i)
-      where
-        go : Dec (to + j < i) → SameRow c m₀ (to + j) (copied c i target m) (from + j)
-        go (yes k) = other (to + j) (from + j) (s .moved j k) (omega arith) (λ e. omega arith)
-        go (no k) =
-            let source : i ≡ to + j = omega arith in
-            let at : target ≡ from + j = omega arith in
-            subst₂ (λ (x y : ℕ). SameRow c m₀ x (copied c i target m) y) source at (same-trans (copied-at c i target m low room) (s .ahead i (omega arith) h))
-
-    pub closing-more : Closing c n from to (i + 1) m₀ (copied c i target m)
-    closing-more =
-        let lower : target < i = omega (arith, s .after) in
-        record {
-          after = omega (arith, s .after);
-          within = omega arith;
-          frame = frame-trans (s .frame) (copied-rows c i target m low);
-          kept = λ j l. other j j (s .kept j l) (omega arith) (λ e. omega arith);
-          moved = moved-more;
-          ahead = λ j l k. other j j (s .ahead j (omega arith) k) (omega arith) (λ e. omega arith);
-        }
-
-  pub closing-all : (m : List ℕ) → Closing c n from to n m₀ m → Closed c n from to m₀ m
+module _ {c n from to : ℕ} {m m₁ m₂ : List ℕ} (asked : GapAsked c n from to m)
+    (numbers : NumbersMoved c (λ i. i + (to - from)) from (n - (to - from)) m m₁) (heights : HeightsMoved c (λ i. i + (to - from)) from (n - (to - from)) m₁ m₂) where
+  pub closed : Closed c n from to m m₂
   unfolding lineFrom
-  closing-all m s =
-      let left : n - (to - from) ≡ from + (n - to) = omega (arith, s .after) in
+  closed =
+      let left : n - (to - from) ≡ from + (n - to) = omega (arith, asked .order, asked .within) in
+      let frame = rows-frame c numbers heights in
       record {
         line =
             λ d.
-            ap (λ (k : ℕ). tab (placedIn c d m) k) left
-            ∙ tab-cut (placedIn c d m₀) (placedIn c d m) n from to (omega arith) (s .after)
-            (λ i l. same-placed c d (s .frame) i i (s .kept i l))
-            (λ i l. same-placed c d (s .frame) (to + i) (from + i) (s .moved i l));
-        frame = s .frame;
+            ap (λ (k : ℕ). tab (placedIn c d m₂) k) left
+            ∙ tab-cut (placedIn c d m) (placedIn c d m₂) n from to (omega (arith, asked .order)) (asked .within)
+            (λ i l. same-placed c d frame i i (rows-kept c numbers heights i (omega (arith, asked .order, asked .within, asked .rows)) l))
+            (λ i l. same-placed c d frame (to + i) (from + i)
+            (rows-moved c numbers heights (to + i) (from + i) (omega (arith, asked .order)) (omega (arith, asked .order, asked .rows)) (omega arith) (omega (arith, asked .order))));
+        frame = frame;
       }
 
 -- ---- a range cut out

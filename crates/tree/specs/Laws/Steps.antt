@@ -1,4 +1,4 @@
--- A step of each loop over the places of a line, or its heights: what is left from a place, from what is left after it.
+-- A step of each loop over the heights by place: what is left from a place, from what is left after it.
 use Prim.Native.Nat.{ℕ, zero, suc, _+_, _-_, _≤_, _<_}
 use mathlib.Core.Bool.{Bool, true, false, cond}
 use mathlib.Core.List.{List, [], _∷_}
@@ -12,10 +12,7 @@ use lib.ListN.{length, take, drop, getD}
 use lib.Seq.{drop-cons, drop-length}
 use Rattle.model.specs.Basics.{select, count}
 use Rattle.model.specs.Laws.Basics.{count-cons}
-use Rattle.model.specs.Moves.{Move, moveBefore}
-use Rattle.line.specs.Line.{Placed, none}
-use Rattle.line.specs.Places.{lowerAmong, startAmong, endAmong, entriesAmong, entryAmong, moveAt}
-use Rattle.line.specs.Enter.{placeFor}
+use Rattle.line.specs.Places.{lowerAmong, startAmong, endAmong, entriesAmong, entryAmong}
 
 -- ---- counted until one that ends the count
 
@@ -99,21 +96,3 @@ pub entry-turn : (l s k q r : ℕ) (ks : List ℕ) → q ≡ entryAmong l s k ks
 unfolding entryAmong
 entry-turn l s k q r ks here next =
     next ∙ ap (λ (i : ℕ). endAmong l i ks) here ∙ ap (λ (i : ℕ). entryAmong l s i ks) (sym (add-one k))
-
--- ---- where a new move goes
-
-module _ (d : ℕ) (x : Move) (p : ℕ) (rs : List Placed) (h : p < length rs) where
-  place-step : (b : Bool) → moveBefore d (moveAt rs p) x ≡ b → placeFor d x (drop p rs) ≡ cond b (suc (placeFor d x (drop (suc p) rs))) 0
-  unfolding placeFor moveAt
-  place-step b test =
-      ap (placeFor d x) (drop-cons rs p none h) ∙ ap (λ (t : Bool). cond t (suc (placeFor d x (drop (suc p) rs))) 0) test
-
-  pub place-here : moveBefore d (moveAt rs p) x ≡ false → p + placeFor d x (drop p rs) ≡ p
-  place-here test = count-here (placeFor d x) p rs (place-step false test)
-
-  pub place-later : moveBefore d (moveAt rs p) x ≡ true → p + 1 + placeFor d x (drop (p + 1) rs) ≡ p + placeFor d x (drop p rs)
-  place-later test = count-later (placeFor d x) p rs (place-step true test)
-
-pub place-last : (d : ℕ) (x : Move) (p : ℕ) (rs : List Placed) → p ≡ length rs → p + placeFor d x (drop p rs) ≡ p
-unfolding placeFor
-place-last d x p rs h = count-last (placeFor d x) p rs refl h

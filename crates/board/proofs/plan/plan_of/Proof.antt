@@ -3,7 +3,7 @@ use mathlib.Core.Path.{sym, _∙_}
 use native.Mathlib.Omega.{arith}
 use borrow.Author.Needs.{needs}
 use Rattle.promises.specs.Run.{Bytes}
-use Rattle.memory.specs.Laws.Held.{held-readable}
+use Rattle.memory.specs.Laws.Held.{held-readable, held-ordered}
 use Rattle.board.specs.Laws.Notice.{upkeep-counted}
 use Rattle.board.specs.Laws.Plan.{plan-refused, plan-idle, plan-few, plan-full}
 use Rattle.board.proofs.Keys.{key-refuses, key-number}
@@ -55,7 +55,9 @@ returns-3 c =
     (up .upkeep-of .ensures) (need .needed .ensures) (c .before .if2 .taken) (c .nothing3 .ensures)
 
 coming-place-requires : tie.Need-coming-place-requires
-coming-place-requires c κs = held-readable (c .before .before .before .before .before .before .before .before .pre .sound)
+coming-place-requires c κs =
+    let sound = c .before .before .before .before .before .before .before .before .pre .sound in
+    (held-readable sound, held-ordered _ _ _ _ sound)
 
 returns-4 : tie.Need-returns-4
 unfolding Bytes

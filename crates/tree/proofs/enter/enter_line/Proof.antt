@@ -4,12 +4,17 @@ use native.Mathlib.Omega.{arith}
 use borrow.Author.Needs.{needs}
 use Rattle.memory.specs.declared.sound.Head.{Head}
 use Rattle.tree.specs.Split.{CascadeAsked, Cascaded}
-use Rattle.tree.specs.Laws.Entered.{entered-first, put-asked, cascade-asked, entered-more}
+use Rattle.tree.specs.Laws.Entered.{holds-ordered, entered-first, put-asked, cascade-asked, entered-more}
 use Rattle.tree.proofs.enter.enter_line.Statement.{statement}
 use Rattle.tree.proofs.enter.enter_line.Tie as tie
 
 returns : tie.Need-returns
 returns c = entered-first (c .before .before .before .before .before .before .pre) (c .before .before .before .before .if1 .taken) (c .before .before .insert-row .ensures)
+
+place-for-requires : tie.Need-place-for-requires
+place-for-requires c κs =
+    let holds = c .before .before .before .pre .tree .holds in
+    (holds .readable, holds-ordered holds)
 
 put-row-requires : tie.Need-put-row-requires
 put-row-requires c κs = put-asked (c .before .before .before .before .before .pre) (omega (arith, c .before .before .before .if1 .left)) (c .before .place-for .ensures .1)
@@ -41,7 +46,7 @@ enter-line-spec =
     (λ c κs. search needs)
     (λ c. search needs)
     returns
-    (λ c κs. search needs)
+    place-for-requires
     put-row-requires
     (λ c. search needs)
     (λ c κs. search needs)
