@@ -1,18 +1,24 @@
 -- One mark stored: the marks of the other places stay, and tests that look at those only stay with them.
-use Prim.Native.Nat.{ℕ, zero, suc, _+_, _≤_, _<_}
+use Prim.Native.Nat.{ℕ, zero, suc, _+_, _/_, _≤_, _<_}
 use mathlib.Core.Bool.{Bool, true, false, not, _&&_, Bool·beq}
-use mathlib.Core.List.{List}
-use mathlib.Core.Path.{_≡_, refl, sym, ap, ap₂, _∙_}
+use mathlib.Core.List.{List, []}
+use mathlib.Core.Path.{_≡_, refl, sym, ap, ap₂, _∙_, subst}
 use native.Mathlib.Omega.{arith}
-use lib.Dec.{eqb}
-use Rattle.model.specs.Moves.{Move}
+use lib.Dec.{eqb, ltb}
+use lib.ListN.{getD, set}
+use Rattle.zorder.specs.Address.{rowCosts}
+use Rattle.model.specs.Moves.{Move, moveBefore}
 use Rattle.model.specs.Dominance.{hides}
-use Rattle.promises.specs.Layout.{numberIn, markIn, moveIn}
-use Rattle.memory.specs.Room.{Room, Numbers}
+use Rattle.promises.specs.Layout.{numberIn, markIn, costsIn, moveIn}
+use Rattle.memory.specs.Room.{Room, Numbers, ReadableRows, Readable, Ordered}
+use Rattle.memory.specs.Search.{looks, looksAt, seen, seenAt, Below, Corners, ListedCorners, CornerWith}
 use Rattle.memory.specs.Stores.{setListed}
 use Rattle.memory.specs.Frame.{MarksOnly}
-use Rattle.memory.specs.Tests.{allTo, anyTo, isListed, hiddenBefore, marksRight}
-use Rattle.memory.specs.Laws.Frames.{frame-refl, frame-trans}
+use Rattle.memory.specs.Tests.{allTo, anyTo, isListed, hiddenBefore, hiddenAt, marksRight}
+use Rattle.memory.specs.Laws.Frames.{room-over, frame-refl, frame-trans}
+use Rattle.memory.specs.Laws.Search.{corners-more}
+use Rattle.memory.specs.declared.search.Among.the-variants.{Listed}
+use Rattle.memory.specs.declared.sound.Head.{Head}
 use Rattle.memory.specs.Laws.Fields.{number-over-marks, costs-over-marks}
 use Rattle.memory.specs.Laws.Stored.{setListed-marks, listed-setListed, mark-setListed-other}
 use Rattle.memory.specs.Laws.Lines.{move-ext}
@@ -90,6 +96,69 @@ module _ (c n : ℕ) (m₀ m : List ℕ) (f : MarksOnly c m₀ m) (few : n ≤ c
 
   pub once-kept : Once c n m₀ → Once c n m
   once-kept h i j k l e = h i j k l (sym (number-over-marks c f i (omega arith)) ∙ e ∙ number-over-marks c f j (omega arith))
+
+  pub readable-kept : (d : ℕ) → ReadableRows c d n m₀ → ReadableRows c d n m
+  readable-kept d h = record { room = room-over c f (h .room); rows = h .rows; numbers = numbers-kept (h .numbers); dimension = h .dimension }
+
+  move-kept : (d i : ℕ) → i < n → moveIn c d m i ≡ moveIn c d m₀ i
+  move-kept d i l = move-ext c d m₀ m i i (number-over-marks c f i (omega arith)) (costs-over-marks c f d (numberIn c m₀ i))
+
+  pub ordered-kept : (d : ℕ) → Ordered c d n m₀ → Ordered c d n m
+  ordered-kept d h i j k l = ap₂ (moveBefore d) (move-kept d i (omega arith)) (move-kept d j l) ∙ h i j k l
+
+-- The move of number k is marked: the corners of listed moves at other places stay.
+pub corners-kept : (c i k : ℕ) (m : List ℕ) (b : Bool) (corners : List (List ℕ)) → i ≤ c → k < c → ((j : ℕ) → j < i → numberIn c m j ≡ k → ⊥)
+    → Corners Listed c m i corners → Corners Listed c (setListed c k b m) i corners
+unfolding looksAt looks seenAt seen
+corners-kept c i k m b corners few below others h = record {
+  runs = h .runs;
+  below = λ j l t.
+      subst (Below (getD corners (j / 64) []))
+      (sym (ap (costsIn c rowCosts (setListed c k b m)) (number j l) ∙ costs-over-marks c frame rowCosts (numberIn c m j)))
+      (h .below j l
+      (ap (λ (v : ℕ). eqb v 1) (sym (mark-setListed-other c k m (numberIn c m j) (others j l) b))
+      ∙ ap (λ (v : ℕ). eqb (markIn c (setListed c k b m) v) 1) (sym (number j l))
+      ∙ t));
+}
+  where
+    frame : MarksOnly c m (setListed c k b m)
+    frame = setListed-marks c k m below b
+
+    number : (j : ℕ) → j < i → numberIn c (setListed c k b m) j ≡ numberIn c m j
+    number j l = number-over-marks c frame j (omega arith)
+
+-- Between two turns: the marks before place i are right, and the corners are those of the listed moves before it.
+pub record Marking (h : Head) (m₀ m : List ℕ) (i : ℕ) (lows : List (List ℕ)) : Type 0 where
+  pub marked : Marked (h .size) (h .dimension) i m₀ m
+  pub corners : ListedCorners h m i lows
+
+module _ (h : Head) (m₀ m : List ℕ) (i : ℕ) (corners : List (List ℕ)) (readable : Readable h m₀) (once : Once (h .size) (h .count) m₀)
+    (more : i < h .count) (w : Marking h m₀ m i corners) where
+  others : (j : ℕ) → j < i → numberIn (h .size) m j ≡ numberIn (h .size) m i → ⊥
+  others j l e =
+      let g = once-kept (h .size) (h .count) m₀ m (w .marked .frame) (readable .rows) once j i (omega arith) more e in
+      omega arith
+
+  module _ (k hider : ℕ) (m' : List ℕ) (number : k ≡ numberIn (h .size) m i) (hidden : hiddenAt (h .size) (h .dimension) m i ≡ ltb hider i)
+      (stored : m' ≡ setListed (h .size) k (not (ltb hider i)) m) where
+    below : numberIn (h .size) m i < h .size
+    below = numbers-kept (h .size) (h .count) m₀ m (w .marked .frame) (readable .rows) (readable .numbers) i more
+
+    pub stored-frame : MarksOnly (h .size) m₀ m'
+    stored-frame =
+        frame-trans (w .marked .frame) (subst (MarksOnly (h .size) m) (sym stored) (setListed-marks (h .size) k m (omega (arith, below)) (not (ltb hider i))))
+
+    pub marking-more : (r : List ℕ) → CornerWith Listed (h .size) m' i (getD corners (i / 64) []) r → Marking h m₀ m' (i + 1) (set corners (i / 64) r)
+    marking-more r corner = record {
+      marked =
+          subst (Marked (h .size) (h .dimension) (i + 1) m₀) (sym stored)
+          (marked-more (h .size) (h .dimension) i m₀ m (room-over (h .size) (w .marked .frame) (readable .room)) (omega (arith, readable .rows)) below others (w .marked) k (ltb hider i) number (sym hidden));
+      corners =
+          corners-more i corners r (omega (arith, readable .rows, readable .room))
+          (subst (λ (l : List ℕ). ListedCorners h l i corners) (sym stored)
+          (corners-kept (h .size) i k m (not (ltb hider i)) corners (omega (arith, readable .rows)) (omega (arith, below)) (λ j l e. others j l (e ∙ number)) (w .corners)))
+          corner;
+    }
 
 pub marked-none : (c d : ℕ) (m : List ℕ) → Marked c d 0 m m
 marked-none c d m = record { right = marks-none c d m; frame = frame-refl m }
