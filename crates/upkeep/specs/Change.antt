@@ -5,17 +5,22 @@ use mathlib.Core.Bool.{Bool, true, false, cond, not, _&&_, _||_}
 use mathlib.Core.Path.{_≡_}
 use mathlib.Core.List.{List, _++_}
 use lib.Dec.{eqb, ltb}
-use lib.ListN.{take, drop}
+use lib.ListN.{length, take, drop}
+use Rattle.zorder.specs.Address.{rowCosts}
 use Rattle.model.specs.Basics.{count, numbersFrom}
-use Rattle.model.specs.Moves.{Move, insert}
+use Rattle.model.specs.Moves.{Move, moveBefore, insert}
 use Rattle.model.specs.Dominance.{hides}
 use Rattle.model.specs.Lists.{hidden}
 use Rattle.model.specs.Calls.{onBoard}
 use Rattle.model.specs.Sound.{Fit}
 use Rattle.line.specs.Line.{movesIn}
+use Rattle.line.specs.Enter.{placeFor}
 use Rattle.promises.specs.Layout.{numberIn, moveIn, lineFrom}
 use Rattle.memory.specs.Tests.{anyTo, isListed}
 use Rattle.memory.specs.Held.{SoundAt}
+use Rattle.memory.specs.Search.{Corners}
+use Rattle.memory.specs.declared.search.Among.the-variants.{All}
+use Rattle.memory.specs.declared.sound.Head.{Head}
 use Rattle.dominance.specs.Move.{asMove}
 use Rattle.numbers.specs.Set.{inSet}
 use Rattle.upkeep.specs.declared.change.Change.{Change}
@@ -33,11 +38,20 @@ unfoldable pub stays : ℕ → ℕ → ℕ → Change → List ℕ → ℕ → B
 stays c d n k m i =
     not (eqb i (k .goes)) && not (hidden d (movesAfter d k (movesIn (lineFrom c d n m))) (moveIn c d m i))
 
+-- Whether a coming move is in the list afterwards.
+abbrev pub comingListed : ℕ → ℕ → ℕ → Change → List ℕ → Bool
+comingListed c d n k m = k .comes && not (hidden d (movesAfter d k (movesIn (lineFrom c d n m))) (asMove (k .coming)))
+
 pub record ChangeAsked (c d n : ℕ) (k : Change) (m : List ℕ) : Type 0 where
   pub sound : SoundAt c d n m
   pub goes : k .goes ≤ n
   pub fit : k .comes ≡ true → Fit c d (asMove (k .coming))
   pub new : k .comes ≡ true → onBoard (k .coming .number) (dropAt (k .goes) (movesIn (lineFrom c d n m))) ≡ false
+
+-- The place that a coming move gets among the moves before the change; any where none comes.
+pub record ComingPlace (c d n : ℕ) (k : Change) (m : List ℕ) (r : ℕ) : Type 0 where
+  pub within : r ≤ n
+  pub is : k .comes ≡ true → r ≡ placeFor d (asMove (k .coming)) (lineFrom c d n m)
 
 -- Who leaves the list and who enters it, by the list of the moves afterwards.
 pub record Upkept (c d n : ℕ) (k : Change) (m : List ℕ) (u : Upkeep) : Type 0 where
@@ -45,9 +59,12 @@ pub record Upkept (c d n : ℕ) (k : Change) (m : List ℕ) (u : Upkeep) : Type 
   pub entering : (i : ℕ) → i < n → inSet (u .entering) (numberIn c m i) ≡ (not (isListed c m i) && stays c d n k m i)
   pub left : u .left ≡ count (λ i. isListed c m i && not (stays c d n k m i)) (numbersFrom 0 n)
   pub entered : u .entered ≡ count (λ i. not (isListed c m i) && stays c d n k m i) (numbersFrom 0 n)
-  pub listed : u .listed ≡ (k .comes && not (hidden d (movesAfter d k (movesIn (lineFrom c d n m))) (asMove (k .coming))))
+  pub listed : u .listed ≡ comingListed c d n k m
 
--- What the steps compute.
+-- What the steps compute. A move goes, and it is listed.
+unfoldable pub goesListed : ℕ → ℕ → ℕ → List ℕ → Bool
+goesListed c n goes m = ltb goes n && isListed c m goes
+
 unfoldable pub hiddenByOthers : ℕ → ℕ → ℕ → ℕ → Move → List ℕ → Bool
 hiddenByOthers c d n goes x m = anyTo (λ j. not (eqb j goes) && hides d (moveIn c d m j) x) n
 
@@ -56,8 +73,7 @@ hiddenByComing d k x = k .comes && hides d (asMove (k .coming)) x
 
 unfoldable pub comesUp : ℕ → ℕ → ℕ → Change → Move → List ℕ → Bool
 comesUp c d n k x m =
-    ltb (k .goes) n
-    && isListed c m (k .goes)
+    goesListed c n (k .goes) m
     && hides d (moveIn c d m (k .goes)) x
     && not (hiddenByComing d k x)
     && not (hiddenByOthers c d n (k .goes) x m)
@@ -76,8 +92,17 @@ pub record Passing (c : ℕ) (m : List ℕ) (test : ℕ → Bool) (e : ℕ) (ws 
   pub numbers : (j : ℕ) → inSet ws j ≡ anyTo (λ i. test i && eqb j (numberIn c m i)) e
   pub counts : k ≡ count test (numbersFrom 0 e)
 
--- The moves looked at, the coming one apart.
-pub record Looked (c d n : ℕ) (k : Change) (m : List ℕ) (r : Upkeep) : Type 0 where
-  pub leaving : Passing c m (leavesAt c d k m) n (r .leaving) (r .left)
-  pub entering : Passing c m (entersAt c d n k m) n (r .entering) (r .entered)
-  pub listed : r .listed ≡ false
+-- What the steps ask: a move goes, and it is listed.
+pub record GoesListed (h : Head) (k : Change) (m : List ℕ) : Type 0 where
+  pub sound : SoundAt (h .size) (h .dimension) (h .count) m
+  pub goes : goesListed (h .size) (h .count) (k .goes) m ≡ true
+
+abbrev pub AllCorners : Head → List ℕ → List (List ℕ) → Type 0
+AllCorners h m = Corners All (h .size) m (h .count)
+
+-- Place i parts the moves by x: those before it stand before x, and none of the others hides it.
+pub record Parted (c d n i : ℕ) (x : Move) (m : List ℕ) : Type 0 where
+  pub within : i ≤ n
+  pub before : (j : ℕ) → j < i → moveBefore d (moveIn c d m j) x ≡ true
+  pub after : (j : ℕ) → i ≤ j → j < n → hides d (moveIn c d m j) x ≡ false
+  pub wide : length (x .costs) ≡ rowCosts

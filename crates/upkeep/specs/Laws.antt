@@ -4,6 +4,7 @@ pub mod Passing
 pub mod Change
 pub mod Marks
 pub mod Place
+pub mod Others
 pub mod Notified
 pub mod Told
 pub mod Telling

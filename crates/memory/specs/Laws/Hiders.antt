@@ -2,7 +2,7 @@
 use Prim.Native.Nat.{ℕ, _+_, _≤_, _<_}
 use mathlib.Core.Bool.{Bool, true, false, not, _&&_}
 use mathlib.Core.List.{List}
-use mathlib.Core.Path.{_≡_, sym, ap, ap₂, _∙_}
+use mathlib.Core.Path.{_≡_, sym, ap, _∙_}
 use native.Mathlib.Decide.{decLt}
 use native.Mathlib.Omega.{arith}
 use borrow.Author.Tests.{lt-ltb, le-ltb}
@@ -42,12 +42,12 @@ some-ext e s = record { to = s .to; found = λ l. sym (e _ l) ∙ s .found l; no
 -- ---- what is nowhere greater on the first d costs
 
 module _ (c d : ℕ) (m : List ℕ) (few : d ≤ rowCosts) (b : Bytes m) where
-  -- The words of two rows, one of them with limits past d.
-  pub words-within : (j k : ℕ) (q : List ℕ) → Lanes (limit (isFirst d) (costsIn c rowCosts m k)) q
-      → nowhereGreater (costsIn c rowCosts m j) q ≡ nowhereGreater (take d (costsIn c d m j)) (take d (costsIn c d m k))
-  words-within j k q h =
-      limits-first d (costsIn c rowCosts m j) (costsIn c rowCosts m k) q few h (row-length c rowCosts m j (omega arith)) (row-length c rowCosts m k (omega arith)) (words-small c m j b)
-      ∙ ap₂ nowhereGreater (words-first c m j d few) (words-first c m k d few)
+  -- All words of a row against the limits of another.
+  pub row-within : (j : ℕ) (x q : List ℕ) → length x ≡ rowCosts → Lanes (limit (isFirst d) x) q
+      → nowhereGreater (costsIn c rowCosts m j) q ≡ nowhereGreater (take d (costsIn c d m j)) (take d x)
+  row-within j x q wide h =
+      limits-first d (costsIn c rowCosts m j) x q few h (row-length c rowCosts m j (omega arith)) wide (words-small c m j b)
+      ∙ ap (λ (p : List ℕ). nowhereGreater p (take d x)) (words-first c m j d few)
 
   -- The places before i that the search finds.
   pub hider-fits : (n i j : ℕ) (q : List ℕ) → Ordered c d n m → i < n → j < i → Lanes (limit (isFirst d) (costsIn c rowCosts m (numberIn c m i))) q
@@ -55,7 +55,8 @@ module _ (c d : ℕ) (m : List ℕ) (few : d ≤ rowCosts) (b : Bytes m) where
   unfolding fits looksAt looks seenAt seen isListed moveIn
   hider-fits n i j q o l k h =
       ap (λ (t : Bool). isListed c m j && t)
-      (words-within (numberIn c m j) (numberIn c m i) q h
+      (row-within (numberIn c m j) (costsIn c rowCosts m (numberIn c m i)) q (row-length c rowCosts m (numberIn c m i) (omega arith)) h
+      ∙ ap (nowhereGreater (take d (costsIn c d m (numberIn c m j)))) (words-first c m (numberIn c m i) d few)
       ∙ sym (earlier-hides d (moveIn c d m j) (moveIn c d m i) (o j i k l) (row-length c d m (numberIn c m j) few ∙ sym (row-length c d m (numberIn c m i) few))))
 
   pub hider-hidden : (n i r : ℕ) (q : List ℕ) → Ordered c d n m → i < n → Lanes (limit (isFirst d) (costsIn c rowCosts m (numberIn c m i))) q

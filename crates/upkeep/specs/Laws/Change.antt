@@ -12,7 +12,7 @@ use Rattle.model.specs.Moves.{Move, moveBefore, insert}
 use Rattle.model.specs.Dominance.{hides}
 use Rattle.model.specs.Lists.{hidden, skyline}
 use Rattle.model.specs.Sound.{Fit}
-use Rattle.model.specs.Laws.Bool.{testCases, both-ways, and-both, and-right}
+use Rattle.model.specs.Laws.Bool.{testCases, both-ways, and-both, and-right, and-false-right}
 use Rattle.model.specs.Laws.Basics.{each-mem, any-map, any-select, any-mem, any-mono, count-ext}
 use Rattle.model.specs.Laws.Range.{each-place}
 use Rattle.model.specs.Laws.Skyline.{HiderIn, skyline-mem, enter-hidden, skyline-hider, enter-hidden-self}
@@ -25,7 +25,7 @@ use Rattle.memory.specs.Tests.{isListed}
 use Rattle.memory.specs.Laws.Lines.{movesIn-line}
 use Rattle.memory.specs.Laws.Held.{held-dimension, held-order, held-listed, held-fit, held-fit-at, held-once}
 use Rattle.numbers.specs.Set.{inSet}
-use Rattle.upkeep.specs.Change.{dropAt, movesAfter, stays, hiddenByOthers, hiddenByComing, comesUp, leaves, leavesAt, entersAt, Passing, Looked, Upkept}
+use Rattle.upkeep.specs.Change.{dropAt, movesAfter, stays, comingListed, goesListed, hiddenByOthers, hiddenByComing, comesUp, leaves, leavesAt, entersAt, Passing, Upkept}
 use Rattle.upkeep.specs.Laws.Places.{tab-places, anyTo-places, drop-places}
 use Rattle.upkeep.specs.Laws.Passing.{passing-at}
 use Rattle.upkeep.specs.declared.change.Change.{Change}
@@ -93,6 +93,16 @@ changed-hidden d k ms x =
     (λ _. enter-hidden d y rest x)
     (λ _. sym (or-false (hidden d rest x)))
 
+-- No listed move goes: none enters.
+pub enters-none : (c d n : ℕ) (k : Change) (m : List ℕ) (i : ℕ) → goesListed c n (k .goes) m ≡ false → entersAt c d n k m i ≡ false
+unfolding entersAt comesUp
+enters-none c d n k m i e =
+    ap (λ (t : Bool). not (isListed c m i) && (not (eqb i (k .goes)) && (t && hides d (moveIn c d m (k .goes)) x && not (hiddenByComing d k x) && not (hiddenByOthers c d n (k .goes) x m)))) e
+    ∙ and-false-right (not (isListed c m i)) (not (eqb i (k .goes)) && false) (and-false-right (not (eqb i (k .goes))) false refl)
+  where
+    x : Move
+    x = moveIn c d m i
+
 module _ (c d n : ℕ) (k : Change) (m : List ℕ) (s : SoundAt c d n m) (b : Bytes m) where
   abbrev before : List Move
   before = movesIn (lineFrom c d n m)
@@ -114,7 +124,8 @@ module _ (c d n : ℕ) (k : Change) (m : List ℕ) (s : SoundAt c d n m) (b : By
 
   -- What no move left hides was hidden by the going one, and that one was listed.
   went : (i : ℕ) → i < n → isListed c m i ≡ false → hidden d rest (moveIn c d m i) ≡ false
-      → (ltb (k .goes) n && isListed c m (k .goes) && hides d (moveIn c d m (k .goes)) (moveIn c d m i)) ≡ true
+      → (goesListed c n (k .goes) m && hides d (moveIn c d m (k .goes)) (moveIn c d m i)) ≡ true
+  unfolding goesListed
   went i h unlisted shown = by-place (eqb j (k .goes)) refl
     where
       x : Move
@@ -159,23 +170,19 @@ module _ (c d n : ℕ) (k : Change) (m : List ℕ) (s : SoundAt c d n m) (b : By
   unfolding entersAt comesUp
   enters-law i h =
       let x = moveIn c d m i in
-      let hid = ltb (k .goes) n && isListed c m (k .goes) && hides d (moveIn c d m (k .goes)) x in
+      let hid = goesListed c n (k .goes) m && hides d (moveIn c d m (k .goes)) x in
       ap (λ (t : Bool). not (isListed c m i) && (not (eqb i (k .goes)) && (hid && not (hiddenByComing d k x) && not t))) (others-hide c d n m (k .goes) x)
       ∙ enter-test (isListed c m i) (eqb i (k .goes)) hid (hiddenByComing d k x) (hidden d rest x) (went i h)
       ∙ ap (λ (t : Bool). not (isListed c m i) && t) (sym (stays-rest i))
 
-  -- The coming move's test, whether one comes or not.
-  abbrev comingListed : Bool
-  comingListed = k .comes && not (hidden d (movesAfter d k before) (asMove (k .coming)))
-
-  pub listed-law : k .comes ≡ true → Fit c d (asMove (k .coming)) → not (hiddenByOthers c d n (k .goes) (asMove (k .coming)) m) ≡ comingListed
+  pub listed-law : k .comes ≡ true → Fit c d (asMove (k .coming)) → not (hiddenByOthers c d n (k .goes) (asMove (k .coming)) m) ≡ comingListed c d n k m
   unfolding movesAfter
   listed-law e fit =
       let y = asMove (k .coming) in
       ap not (others-hide c d n m (k .goes) y ∙ sym (enter-hidden-self d c (held-dimension c d n m s) y rest fit))
       ∙ ap (λ (t : Bool). t && not (hidden d (cond t (insert d y rest) rest) y)) (sym e)
 
-  pub unlisted-law : k .comes ≡ false → false ≡ comingListed
+  pub unlisted-law : k .comes ≡ false → false ≡ comingListed c d n k m
   unlisted-law e = ap (λ (t : Bool). t && not (hidden d (movesAfter d k before) (asMove (k .coming)))) (sym e)
 
   -- ---- the sets and the counts
@@ -186,14 +193,13 @@ module _ (c d n : ℕ) (k : Change) (m : List ℕ) (s : SoundAt c d n m) (b : By
   count-at : (p q : ℕ → Bool) → ((i : ℕ) → i < n → p i ≡ q i) → count p (numbersFrom 0 n) ≡ count q (numbersFrom 0 n)
   count-at p q same = count-ext p q (numbersFrom 0 n) (each-place (λ i. p i ≡ q i) n same)
 
-  pub upkept : (u : Upkeep) → Looked c d n k m u → (listed : Bool)
-      → listed ≡ comingListed
-      → Upkept c d n k m (record { leaving = u .leaving; entering = u .entering; left = u .left; entered = u .entered; listed = listed })
-  upkept u looked listed e =
+  pub upkept : (u : Upkeep) → Passing c m (leavesAt c d k m) n (u .leaving) (u .left) → Passing c m (entersAt c d n k m) n (u .entering) (u .entered)
+      → u .listed ≡ comingListed c d n k m → Upkept c d n k m u
+  upkept u out up e =
       record {
-        leaving = λ i h. set-at (leavesAt c d k m) (looked .leaving) i h ∙ leaves-law i h;
-        entering = λ i h. set-at (entersAt c d n k m) (looked .entering) i h ∙ enters-law i h;
-        left = looked .leaving .counts ∙ count-at (leavesAt c d k m) (λ i. isListed c m i && not (stays c d n k m i)) leaves-law;
-        entered = looked .entering .counts ∙ count-at (entersAt c d n k m) (λ i. not (isListed c m i) && stays c d n k m i) enters-law;
+        leaving = λ i h. set-at (leavesAt c d k m) out i h ∙ leaves-law i h;
+        entering = λ i h. set-at (entersAt c d n k m) up i h ∙ enters-law i h;
+        left = out .counts ∙ count-at (leavesAt c d k m) (λ i. isListed c m i && not (stays c d n k m i)) leaves-law;
+        entered = up .counts ∙ count-at (entersAt c d n k m) (λ i. not (isListed c m i) && stays c d n k m i) enters-law;
         listed = e;
       }

@@ -2,102 +2,100 @@
 use Prim.Native.Nat.{ℕ, _<_}
 use mathlib.Core.Bool.{Bool, not, _&&_}
 use mathlib.Core.List.{List}
-use mathlib.Core.Path.{_≡_, refl, sym, ap, _∙_}
+use mathlib.Core.Path.{_≡_, refl, sym, ap, ap₂, _∙_, subst}
 use native.Mathlib.Omega.{arith}
-use borrow.Author.Tests.{le-ltb, lt-ltb, not-true, not-false}
-use borrow.Author.Needs.{needs}
+use borrow.Author.Tests.{not-true, not-false, ltb-true}
 use lib.Dec.{ltb}
 use Rattle.model.specs.Moves.{Move}
 use Rattle.model.specs.Dominance.{hides}
+use Rattle.model.specs.Laws.Bool.{and-left}
 use Rattle.promises.specs.Layout.{moveIn}
+use Rattle.promises.specs.Run.{Bytes}
 use Rattle.dominance.specs.Move.{asMove}
 use Rattle.memory.specs.Tests.{isListed}
-use Rattle.upkeep.specs.Change.{hiddenByOthers, hiddenByComing, comesUp}
+use Rattle.memory.specs.Laws.Held.{held-readable}
+use Rattle.memory.specs.declared.sound.Head.{Head}
+use Rattle.upkeep.specs.Change.{goesListed, hiddenByOthers, hiddenByComing, comesUp, GoesListed, Parted}
+use Rattle.upkeep.specs.Laws.Others.{own-place}
 use Rattle.upkeep.specs.declared.change.Change.{Change}
-use Rattle.memory.specs.Laws.Turns.{number-of, listed-move}
 use Rattle.upkeep.proofs.change.comes_up.Statement.{statement}
 use Rattle.upkeep.proofs.change.comes_up.Tie as tie
 
-by-tests : (c d n : ℕ) (k : Change) (x : Move) (m : List ℕ) {past listed hid coming others : Bool}
-    → ltb (k .goes) n ≡ past
-    → isListed c m (k .goes) ≡ listed
+-- The going move is on the board.
+goes-within : (h : Head) (k : Change) (m : List ℕ) → GoesListed h k m → k .goes < h .count
+unfolding goesListed
+goes-within h k m g = ltb-true (k .goes) (h .count) (and-left (ltb (k .goes) (h .count)) (isListed (h .size) m (k .goes)) (g .goes))
+
+by-tests : (c d n : ℕ) (k : Change) (x : Move) (m : List ℕ) {gone hid coming others : Bool}
+    → goesListed c n (k .goes) m ≡ gone
     → hides d (moveIn c d m (k .goes)) x ≡ hid
     → hiddenByComing d k x ≡ coming
     → hiddenByOthers c d n (k .goes) x m ≡ others
-    → (past && listed && hid && not coming && not others) ≡ comesUp c d n k x m
+    → (gone && hid && not coming && not others) ≡ comesUp c d n k x m
 unfolding comesUp
-by-tests c d n k x m p q r s t = sym (λ i. p i && q i && r i && not (s i) && not (t i))
-
-returns : tie.Need-returns
-returns c =
-    let a = c .before .before .before .args in
-    by-tests (a .h .size) (a .h .dimension) (a .h .count) (a .k) (asMove (a .x)) (a .m .now) (le-ltb (a .k .goes) (a .h .count) (c .if1 .taken)) refl refl refl refl
+by-tests c d n k x m p q r s = sym (λ i. p i && q i && not (r i) && not (s i))
 
 move-at-requires : tie.Need-move-at-requires
 move-at-requires c κs =
-    let a = c .before .before .before .args in
-    let pre = c .before .before .before .pre in
-    let on-board : a .k .goes < a .h .count = omega arith in
-    (pre .room, omega arith, pre .numbers (a .k .goes) on-board, pre .dimension)
+    let pre = c .before .pre in
+    let rows = held-readable (pre .0 .sound) in
+    (rows .room, omega (arith, rows .rows, pre .2), rows .numbers (c .before .args .i) (pre .2), rows .dimension)
 
-is-listed-requires : tie.Need-is-listed-requires
-is-listed-requires c κs =
-    let a = c .before .before .before .before .args in
-    let pre = c .before .before .before .before .pre in
-    let on-board : a .k .goes < a .h .count = omega arith in
-    (pre .room, omega (arith, pre .numbers (a .k .goes) on-board, number-of (a .h .size) (a .h .dimension) (a .m .now) (a .k .goes) _ (c .move-at .ensures)))
+move-at-requires-2 : tie.Need-move-at-requires-2
+move-at-requires-2 c κs =
+    let start = c .before .before in
+    let pre = start .pre in
+    let rows = held-readable (pre .0 .sound) in
+    let on = goes-within (start .args .h) (start .args .k) (start .args .m .now) (pre .0) in
+    (rows .room, omega (arith, rows .rows, on), rows .numbers (start .args .k .goes) on, rows .dimension)
+
+returns : tie.Need-returns
+returns c =
+    let start = c .before .before .before .before .before in
+    let a = start .args in
+    let x = c .before .before .before .move-at .ensures in
+    by-tests (a .h .size) (a .h .dimension) (a .h .count) (a .k) (moveIn (a .h .size) (a .h .dimension) (a .m .now) (a .i)) (a .m .now) (start .pre .0 .goes)
+    (ap₂ (hides (a .h .dimension)) (sym (c .before .before .move-at2 .ensures)) (sym x) ∙ sym (c .before .hides .ensures) ∙ not-true _ (c .if1 .taken)) refl refl
 
 returns-2 : tie.Need-returns-2
 returns-2 c =
-    let a = c .before .before .before .before .before .before .args in
-    by-tests (a .h .size) (a .h .dimension) (a .h .count) (a .k) (asMove (a .x)) (a .m .now)
-    (lt-ltb (a .k .goes) (a .h .count) (omega arith))
-    (listed-move (a .h .size) (a .h .dimension) (a .m .now) (a .k .goes) (c .before .before .move-at .ensures) ∙ sym (c .before .is-listed .ensures) ∙ not-true _ (c .if2 .taken))
-    refl refl refl
+    let start = c .before .before .before .before .before .before .before in
+    let a = start .args in
+    let x = c .before .before .before .before .before .move-at .ensures in
+    by-tests (a .h .size) (a .h .dimension) (a .h .count) (a .k) (moveIn (a .h .size) (a .h .dimension) (a .m .now) (a .i)) (a .m .now) (start .pre .0 .goes)
+    (ap₂ (hides (a .h .dimension)) (sym (c .before .before .before .before .move-at2 .ensures)) (sym x) ∙ sym (c .before .before .before .hides .ensures) ∙ not-false _ (c .before .before .if1 .left))
+    (ap (hiddenByComing (a .h .dimension) (a .k)) (sym x) ∙ sym (c .before .hidden-by-coming .ensures) ∙ c .if2 .taken) refl
+
+hidden-by-others-requires : tie.Need-hidden-by-others-requires
+unfolding Bytes
+hidden-by-others-requires c κs =
+    let start = c .before .before .before .before .before .before .before in
+    let a = start .args in
+    let bytes : Bytes (a .m .now) = λ i. omega (arith, c .before .before .before .before .before .before .shared-slice-known .given i) in (
+      (held-readable (start .pre .0 .sound), start .pre .1),
+      subst (λ (x : Move). Parted (a .h .size) (a .h .dimension) (a .h .count) (a .i) x (a .m .now)) (sym (c .before .before .before .before .before .move-at .ensures))
+          (own-place (a .h .size) (a .h .dimension) (a .h .count) (a .m .now) (start .pre .0 .sound) bytes (a .i) (start .pre .2)),
+    )
 
 returns-3 : tie.Need-returns-3
 returns-3 c =
-    let a = c .before .before .before .before .before .before .before .before .args in
-    let same = c .before .before .before .before .move-at .ensures in
-    by-tests (a .h .size) (a .h .dimension) (a .h .count) (a .k) (asMove (a .x)) (a .m .now)
-    (lt-ltb (a .k .goes) (a .h .count) (omega arith))
-    (listed-move (a .h .size) (a .h .dimension) (a .m .now) (a .k .goes) same ∙ sym (c .before .before .before .is-listed .ensures) ∙ not-false _ (c .before .before .if2 .left))
-    (ap (λ (y : Move). hides (a .h .dimension) y (asMove (a .x))) (sym same) ∙ sym (c .before .hides .ensures) ∙ not-true _ (c .if3 .taken))
-    refl refl
-
-returns-4 : tie.Need-returns-4
-returns-4 c =
-    let a = c .before .before .before .before .before .before .before .before .before .before .args in
-    let same = c .before .before .before .before .before .before .move-at .ensures in
-    by-tests (a .h .size) (a .h .dimension) (a .h .count) (a .k) (asMove (a .x)) (a .m .now)
-    (lt-ltb (a .k .goes) (a .h .count) (omega arith))
-    (listed-move (a .h .size) (a .h .dimension) (a .m .now) (a .k .goes) same ∙ sym (c .before .before .before .before .before .is-listed .ensures) ∙ not-false _ (c .before .before .before .before .if2 .left))
-    (ap (λ (y : Move). hides (a .h .dimension) y (asMove (a .x))) (sym same) ∙ sym (c .before .before .before .hides .ensures) ∙ not-false _ (c .before .before .if3 .left))
-    (sym (c .before .hidden-by-coming .ensures) ∙ c .if4 .taken)
-    refl
-
-returns-5 : tie.Need-returns-5
-returns-5 c =
-    let a = c .before .before .before .before .before .before .before .before .before .before .before .args in
-    let same = c .before .before .before .before .before .before .before .move-at .ensures in
-    by-tests (a .h .size) (a .h .dimension) (a .h .count) (a .k) (asMove (a .x)) (a .m .now)
-    (lt-ltb (a .k .goes) (a .h .count) (omega arith))
-    (listed-move (a .h .size) (a .h .dimension) (a .m .now) (a .k .goes) same ∙ sym (c .before .before .before .before .before .before .is-listed .ensures) ∙ not-false _ (c .before .before .before .before .before .if2 .left))
-    (ap (λ (y : Move). hides (a .h .dimension) y (asMove (a .x))) (sym same) ∙ sym (c .before .before .before .before .hides .ensures) ∙ not-false _ (c .before .before .before .if3 .left))
-    (sym (c .before .before .hidden-by-coming .ensures) ∙ c .before .if4 .left)
-    (sym (c .hidden-by-others .ensures))
+    let start = c .before .before .before .before .before .before .before .before in
+    let a = start .args in
+    let x = c .before .before .before .before .before .before .move-at .ensures in
+    by-tests (a .h .size) (a .h .dimension) (a .h .count) (a .k) (moveIn (a .h .size) (a .h .dimension) (a .m .now) (a .i)) (a .m .now) (start .pre .0 .goes)
+    (ap₂ (hides (a .h .dimension)) (sym (c .before .before .before .before .before .move-at2 .ensures)) (sym x) ∙ sym (c .before .before .before .before .hides .ensures) ∙ not-false _ (c .before .before .before .if1 .left))
+    (ap (hiddenByComing (a .h .dimension) (a .k)) (sym x) ∙ sym (c .before .before .hidden-by-coming .ensures) ∙ c .before .if2 .left)
+    (ap (λ (y : Move). hiddenByOthers (a .h .size) (a .h .dimension) (a .h .count) (a .k .goes) y (a .m .now)) (sym x) ∙ sym (c .hidden-by-others .ensures))
 
 pub comes-up-spec : {M : Type 1} → statement M
 comes-up-spec =
     tie.close
     (tie.spec
-    returns
     move-at-requires
-    is-listed-requires
+    move-at-requires-2
+    (λ c κs. held-readable (c .before .before .before .pre .0 .sound) .dimension)
+    returns
+    (λ c κs. held-readable (c .before .before .before .before .before .pre .0 .sound) .dimension)
     returns-2
-    (λ c κs. search needs)
-    returns-3
-    (λ c κs. search needs)
-    returns-4
-    (λ c κs. search needs)
-    returns-5)
+    hidden-by-others-requires
+    returns-3)
