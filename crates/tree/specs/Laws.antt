@@ -6,6 +6,7 @@ pub mod Rows
 pub mod Moving
 pub mod Inserting
 pub mod Raising
+pub mod Corners
 pub mod Search
 pub mod Entries
 pub mod Cut

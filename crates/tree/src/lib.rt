@@ -11,7 +11,6 @@ pub use enter::enter_line;
 pub use enter::with_rows;
 pub use insert::insert_row;
 pub use insert::place_for;
-pub use nodes::corner_dominated;
 pub use nodes::nodes_opened;
 pub use places::node_end;
 pub use raise::raise_levels;

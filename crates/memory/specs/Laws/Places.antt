@@ -1,10 +1,10 @@
 -- Tests at the places below a number, and lists by places.
-use Prim.Native.Nat.{ℕ, zero, suc, _+_, _-_, _<_}
+use Prim.Native.Nat.{ℕ, zero, suc, _+_, _-_, _≤_, _<_}
 use mathlib.Core.Bool.{Bool, true, false, not, _&&_, _||_, and-true, or-false, and-assoc}
 use mathlib.Core.List.{List, [], _∷_, _++_}
 use mathlib.Core.Logic.{⊎-elim}
 use mathlib.Core.Path.{_≡_, refl, sym, ap, ap₂, _∙_, subst}
-use native.Mathlib.Nat.{le-step, lt-suc-self, eq-or-lt-of-le, le-of-suc-le-suc}
+use native.Mathlib.Nat.{add-zero, add-suc, le-step, lt-suc-self, eq-or-lt-of-le, le-of-suc-le-suc}
 use native.Mathlib.Numerals.{add-one}
 use native.Mathlib.Omega.{arith}
 use lib.Seq.{append-snoc}
@@ -57,6 +57,15 @@ module _ (p : ℕ → Bool) where
   pub anyTo-found : (n i : ℕ) → i < n → p i ≡ true → anyTo p n ≡ true
   unfolding anyTo
   anyTo-found n i l e = ap not (allTo-fails (λ i. not (p i)) n i l (ap not e))
+
+  -- If none of k places from n on passes, they need not be asked.
+  pub anyTo-past : (n k : ℕ) → ((i : ℕ) → n ≤ i → i < n + k → p i ≡ false) → anyTo p (n + k) ≡ anyTo p n
+  anyTo-past n zero f = ap (anyTo p) (add-zero n)
+  anyTo-past n (suc k) f =
+      ap (anyTo p) (add-suc n k)
+      ∙ anyTo-suc (n + k)
+      ∙ ap₂ _||_ (anyTo-past n k (λ i l h. f i l (omega arith))) (f (n + k) (omega arith) (omega arith))
+      ∙ or-false (anyTo p n)
 
 -- ---- lists by places
 

@@ -3,7 +3,7 @@ use Prim.Native.Nat.{ℕ, suc, _+_, _*_, _-_, _≤_, _<_}
 use mathlib.Core.Bool.{Bool, true, false, cond, not, _&&_}
 use mathlib.Core.List.{List}
 use mathlib.Core.Logic.{_⊎_, ⊎-elim}
-use mathlib.Core.Path.{_≡_, refl, sym, ap, ap₂, _∙_, subst}
+use mathlib.Core.Path.{_≡_, sym, ap, ap₂, _∙_, subst}
 use native.Mathlib.Decide.{decLt}
 use native.Mathlib.Nat.{add-zero, zero-add}
 use native.Mathlib.Numerals.{one-add}
@@ -13,13 +13,13 @@ use lib.Dec.{eqb}
 use lib.ListN.{length, List·getD-eq-default}
 use Rattle.zorder.specs.Between.{RowCosts, nearOf}
 use Rattle.zorder.specs.Laws.Between.{near-row}
-use Rattle.model.specs.Basics.{Each, any, within}
+use Rattle.model.specs.Basics.{Each, any}
 use Rattle.model.specs.Moves.{Move, ordered}
 use Rattle.model.specs.Dominance.{dominates}
 use Rattle.model.specs.Lists.{skyline}
 use Rattle.model.specs.Tree.{Tree}
 use Rattle.model.specs.Sound.{Fit}
-use Rattle.model.specs.Laws.Bool.{byCases, condCases, not-back, and-both, and-false-right, both-ways}
+use Rattle.model.specs.Laws.Bool.{byCases, condCases, not-back, both-ways}
 use Rattle.model.specs.Laws.Basics.{any-select}
 use Rattle.model.specs.Laws.Tree.{ruled-filled}
 use Rattle.model.specs.Laws.Nodes.{listed-enough-corner}
@@ -29,15 +29,16 @@ use Rattle.line.specs.Search.{nearAt, passedAt, openedFrom, openedPast}
 use Rattle.line.specs.Laws.Line.{WholeTree, tree-whole}
 use Rattle.line.specs.Laws.Places.{height-among, length-heights, end-high}
 use Rattle.line.specs.Laws.Opened.{first-height, opened-all, opened-end, opened-upper, opened-leaf, opened-passed}
-use Rattle.promises.specs.Layout.{dimensionIn, numberIn, markIn, costsIn, moveIn, lineFrom, keptFrom}
+use Rattle.promises.specs.Layout.{dimensionIn, markIn, moveIn, lineFrom, keptFrom}
 use Rattle.promises.specs.Sound.{Stands}
 use Rattle.promises.specs.Run.{Bytes}
-use Rattle.memory.specs.Room.{ReadableRows}
-use Rattle.memory.specs.Tests.{anyTo, allTo, isListed}
-use Rattle.memory.specs.Laws.Held.{held-readable, held-line, held-order, held-kept, held-fit}
-use Rattle.memory.specs.Laws.Places.{anyTo-more, anyTo-found, any-tab}
+use Rattle.memory.specs.Room.{ReadableRows, Ordered}
+use Rattle.memory.specs.Tests.{isListed}
+use Rattle.memory.specs.Laws.Held.{held-readable, held-line, held-order, held-ordered, held-kept, held-fit, held-fit-at}
+use Rattle.memory.specs.Laws.Places.{any-tab}
 use Rattle.memory.specs.Laws.Lines.{length-line, moveAt-line, heightAt-line, movesIn-line}
 use Rattle.tree.specs.Rows.{NodeEnd}
+use Rattle.tree.specs.Laws.Corners.{corner-before}
 use Rattle.tree.specs.Laws.Heights.{end-line}
 use Rattle.tree.specs.Search.{cornerDominated, nearCorner, LevelAt, SoundAt, Opened}
 
@@ -50,49 +51,15 @@ module _ (passed : Bool) (n : ℕ) where
   pub counted-none : not passed ≡ false → n ≡ n + cond passed 0 1
   counted-none e = sym (ap (λ (x : Bool). n + cond x 0 1) (not-false passed e) ∙ add-zero n)
 
--- ---- a corner against the listed moves
-
-module _ (c d : ℕ) (m corner : List ℕ) where
-  -- the test of the move of a number, and of the move at a place
-  by : ℕ → Bool
-  by n = eqb (markIn c m n) 1 && dominates d (costsIn c d m n) corner
-
-  at : ℕ → Bool
-  at j = isListed c m j && dominates d (moveIn c d m j .costs) corner
-
-  at-number : (j n : ℕ) → n ≡ numberIn c m j → at j ≡ by n
-  unfolding at by isListed moveIn
-  at-number j n e = ap by (sym e)
-
-  pub corner-none : cornerDominated c d 0 m corner ≡ false
-  unfolding cornerDominated anyTo allTo
-  corner-none = refl
-
-  module _ (j n : ℕ) (e : n ≡ numberIn c m j) where
-    pub corner-more : cornerDominated c d j m corner ≡ false → (eqb (markIn c m n) 1 ≡ false) ⊎ (dominates d (costsIn c d m n) corner ≡ false)
-        → cornerDominated c d (j + 1) m corner ≡ false
-    unfolding cornerDominated at by
-    corner-more h f =
-        anyTo-more at j h
-        (at-number j n e
-        ∙ ⊎-elim (λ g. ap (λ (b : Bool). b && dominates d (costsIn c d m n) corner) g) (and-false-right (eqb (markIn c m n) 1) (dominates d (costsIn c d m n) corner)) f)
-
-    pub corner-found : (k : ℕ) → j < k → eqb (markIn c m n) 1 ≡ true → dominates d (costsIn c d m n) corner ≡ true → cornerDominated c d k m corner ≡ true
-    unfolding cornerDominated at by
-    corner-found k h f g = anyTo-found at k j h (at-number j n e ∙ and-both (eqb (markIn c m n) 1) (dominates d (costsIn c d m n) corner) f g)
-
-pub near-corner : (c d : ℕ) (m : List ℕ) (i e p q : ℕ) → p ≡ numberIn c m i → q ≡ numberIn c m (e - 1)
-    → nearOf d (costsIn c d m p) (costsIn c d m q) ≡ nearCorner c d m i e
-unfolding nearCorner moveIn
-near-corner c d m i e p q f g = ap₂ (λ (x y : ℕ). nearOf d (costsIn c d m x) (costsIn c d m y)) f g
-
 -- ---- sound memory
 
 -- What the search uses of it.
 pub record Searchable (c d n : ℕ) (m : List ℕ) : Type 0 where
   pub readable : ReadableRows c d n m
   pub fits : Each (Fit c d) (movesIn (lineFrom c d n m))
+  pub fit-at : (j : ℕ) → j < n → Fit c d (moveIn c d m j)
   pub order : ordered d (movesIn (lineFrom c d n m)) ≡ true
+  pub in-order : Ordered c d n m
   pub kept : keptFrom c m (movesIn (lineFrom c d n m)) ≡ skyline d (movesIn (lineFrom c d n m))
   pub first : 0 < n → 0 < heightAt (lineFrom c d n m) 0
 
@@ -111,7 +78,9 @@ sound-searchable c d n m s b =
     record {
       readable = held-readable s;
       fits = held-fit c d n m s b;
+      fit-at = held-fit-at c d n m s b;
       order = held-order c d n m s;
+      in-order = held-ordered c d n m s;
       kept = held-kept c d n m s;
       first = first-held s;
     }
@@ -194,12 +163,14 @@ module _ {c d n : ℕ} {m : List ℕ} (s : Searchable c d n m) where
           total = omega (arith, g, ap (openedPast d rs) (end-line d f), ap (openedFrom d rs e) high);
         }
 
-    module _ (corner : List ℕ) (near : corner ≡ nearCorner c d m i e) (passed : Bool) (p : passed ≡ cornerDominated c d n m corner) where
+    module _ (corner : List ℕ) (near : corner ≡ nearCorner c d m i e) (passed : Bool) (p : passed ≡ cornerDominated c d i m corner) where
       passed-place : passed ≡ passedAt d (lineFrom c d n m) i l
       unfolding passedAt nearAt
       passed-place =
           p
-          ∙ ap (cornerDominated c d n m) (near ∙ near-place)
+          ∙ ap (cornerDominated c d i m) near
+          ∙ corner-before c d n m (s .readable .dimension) (s .fit-at) (s .in-order) i e (f .after) (f .within)
+          ∙ ap (cornerDominated c d n m) near-place
           ∙ listed-corner (nearAt d (lineFrom c d n m) i l) (near-row d _ _ (s .readable .dimension))
 
       -- A node that is passed by, or a leaf that is opened.

@@ -26,7 +26,7 @@ use Rattle.memory.specs.Search.{looks, looksAt, seen, seenAt, fits, None, First
 use Rattle.memory.specs.Tests.{allTo, anyTo}
 use Rattle.memory.specs.Laws.Places.{allTo-all, anyTo-found}
 use Rattle.memory.specs.Laws.Costs.{row-length}
-use Rattle.memory.specs.Laws.Hiders.{row-within}
+use Rattle.memory.specs.Laws.Hiders.{words-within}
 use Rattle.memory.specs.Laws.Held.{held-dimension, held-order, held-ordered, held-fit, held-fit-at}
 use Rattle.memory.specs.Laws.Lines.{length-line, moveAt-line}
 use Rattle.memory.specs.declared.search.Among.the-variants.{All}
@@ -85,7 +85,7 @@ module _ (c d n goes i : ℕ) (x : Move) (q m : List ℕ) (few : d ≤ rowCosts)
   fits-hides : (j : ℕ) → j < i → fits All c m q j ≡ hides d (moveIn c d m j) x
   unfolding fits looksAt looks seenAt seen moveIn
   fits-hides j l =
-      row-within c d m few b (numberIn c m j) (x .costs) q (parted .wide) limits
+      words-within c d m few b (numberIn c m j) (x .costs) q (parted .wide) limits
       ∙ sym (earlier-hides d (moveIn c d m j) x (parted .before j l) (row-length c d m (numberIn c m j) few ∙ sym (parted .wide)))
 
   unhidden : ((j : ℕ) → j < i → other j ≡ false) → hiddenByOthers c d n goes x m ≡ false

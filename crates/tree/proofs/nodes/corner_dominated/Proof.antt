@@ -1,60 +1,77 @@
--- `nodes::corner_dominated` meets its contract. The loop's invariant: no listed move passed dominates the corner. Assumes nothing.
-use Prim.Native.Nat.{ℕ, _-_, _≤_}
-use mathlib.Core.Bool.{false}
-use mathlib.Core.List.{List}
-use mathlib.Core.Logic.{inl, inr, ⊎-elim}
-use mathlib.Core.Path.{_≡_, sym, ap, _∙_, subst}
+-- `nodes::corner_dominated` meets its contract. The loop's invariant: no listed move passed dominates the corner, and the place
+-- found fits. Assumes nothing.
+use Prim.Native.Nat.{_-_}
+use mathlib.Core.Path.{sym}
 use native.Mathlib.Omega.{arith}
-use Rattle.model.specs.Dominance.{dominates}
-use Rattle.tree.specs.Search.{cornerDominated}
-use Rattle.tree.specs.Laws.Search.{corner-none, corner-more, corner-found}
+use Rattle.promises.specs.Run.{Bytes}
+use Rattle.tree.specs.Laws.Corners.{Sought, sought-first, sought-next, sought-found, sought-none}
 use Rattle.tree.proofs.nodes.corner_dominated.Statement.{statement}
 use Rattle.tree.proofs.nodes.corner_dominated.Tie as tie
 
 abbrev Inv-loop : tie.InvT-loop
-Inv-loop m h corner n j₀ j = (j ≤ n) × (cornerDominated (h .size) (h .dimension) j m corner ≡ false)
+Inv-loop m h i corners near q j₀ j = Sought (h .size) (h .dimension) i m near q j
 
 abbrev μ-loop : tie.MeasureT-loop
-μ-loop m h corner n j₀ j = n - j
+μ-loop m h i corners near q j₀ j = i - j
+
+next-within-requires : tie.Need-next-within-requires Inv-loop μ-loop
+next-within-requires c κs = let asked = c .before .before .pre in ((asked .0 .0, omega arith, asked .0 .1), asked .1)
 
 loop-holds : tie.Need-loop-holds Inv-loop μ-loop
-loop-holds c = let a = c .before .args in (omega arith, corner-none (a .h .size) (a .h .dimension) (a .m .now) (a .corner))
+unfolding Bytes
+loop-holds c =
+    let s = c .before .before .before in
+    let a = s .args in
+    sought-first (a .h .size) (a .h .dimension) (a .i) (a .m .now) (a .near) (c .before .limits-of .result) (s .pre .0 .0 .dimension)
+    (λ k. omega (arith, c .before .before .shared-slice-known .given k)) (omega arith) (c .before .limits-of .ensures) (c .next-within .result) (c .next-within .ensures)
 
-is-listed-requires : tie.Need-is-listed-requires Inv-loop μ-loop
-is-listed-requires c κs = omega (arith, c .before .before .before .before .pre .numbers (c .before .before .loop .j) (omega arith))
+number-at-requires : tie.Need-number-at-requires Inv-loop μ-loop
+number-at-requires c κs = let asked = c .before .before .before .before .before .pre .0 in (asked .0 .room, omega (arith, asked .0 .rows))
 
 costs-of-requires : tie.Need-costs-of-requires Inv-loop μ-loop
-costs-of-requires c κs = omega (arith, c .before .before .before .before .before .before .pre .numbers (c .before .before .before .before .loop .j) (omega arith))
+costs-of-requires c κs =
+    let asked = c .before .before .before .before .before .before .pre .0 in
+    (asked .0 .room, omega (arith, c .number-at .ensures, asked .0 .numbers (c .before .before .loop .j) (omega arith)), asked .0 .dimension)
 
 returns : tie.Need-returns Inv-loop μ-loop
+unfolding Bytes
 returns c =
-    let a = c .before .before .before .before .before .before .before .before .before .args in
-    let j = c .before .before .before .before .before .before .before .loop .j in
-    let at = c .before .before .before .before .before .number-at in
+    let s = c .before .before .before .before .before .before .before .before .before in
+    let a = s .args in
+    let own = c .before .before .before .before .before .loop in
+    let q = c .before .before .before .before .before .before .before .limits-of in
+    let number = c .before .before .before .number-at in
+    let costs = c .before .before .costs-of in
+    let less = c .before .exceeds in
     sym
-    (corner-found (a .h .size) (a .h .dimension) (a .m .now) (a .corner) j (at .result) (at .ensures) (a .h .count) (omega arith)
-    (sym (c .before .before .before .before .is-listed .ensures) ∙ c .before .before .before .if1 .taken)
-    (ap (λ (p : List ℕ). dominates (a .h .dimension) p (a .corner)) (sym (c .before .before .costs-of .ensures)) ∙ sym (c .before .dominates .ensures) ∙ c .if2 .taken))
+    (sought-found (a .h .size) (a .h .dimension) (a .i) (a .m .now) (a .near) (q .result) (s .pre .0 .0 .dimension)
+    (λ k. omega (arith, c .before .before .before .before .before .before .before .before .shared-slice-known .given k)) (omega arith) (q .ensures) (own .j) (own .inv)
+    (number .result) (number .ensures) (costs .result) (costs .ensures) (less .result) (less .ensures) (c .before .before .before .before .loop-test .taken) (c .if1 .taken))
+
+next-within-requires-2 : tie.Need-next-within-requires-2 Inv-loop μ-loop
+next-within-requires-2 c κs =
+    let asked = c .before .before .before .before .before .before .before .before .before .pre in
+    ((asked .0 .0, omega arith, asked .0 .1), asked .1)
 
 loop-again : tie.Need-loop-again Inv-loop μ-loop
+unfolding Bytes
 loop-again c =
-    let a = c .before .before .before .before .before .before .args in
-    let own = c .before .before .before .before .loop in
-    let at = c .before .before .number-at in (
-      omega arith,
-      corner-more (a .h .size) (a .h .dimension) (a .m .now) (a .corner) (own .j) (at .result) (at .ensures) (own .inv .1)
-          (⊎-elim
-          (λ w. inr (ap (λ (p : List ℕ). dominates (a .h .dimension) p (a .corner)) (sym (w .1 .ensures)) ∙ sym (w .2 .ensures) ∙ w .3 .left))
-          (λ w. inl (sym (c .before .is-listed .ensures) ∙ w .left))
-          (c .if1 .came)),
-    )
+    let s = c .before .before .before .before .before .before .before .before .before .before in
+    let a = s .args in
+    let own = c .before .before .before .before .before .before .loop in
+    let q = c .before .before .before .before .before .before .before .before .limits-of in
+    let number = c .before .before .before .before .number-at in
+    let costs = c .before .before .before .costs-of in
+    let less = c .before .before .exceeds in
+    sought-next (a .h .size) (a .h .dimension) (a .i) (a .m .now) (a .near) (q .result) (s .pre .0 .0 .dimension)
+    (λ k. omega (arith, c .before .before .before .before .before .before .before .before .before .shared-slice-known .given k)) (omega (arith, s .good)) (q .ensures) (own .j) (own .inv)
+    (number .result) (number .ensures) (costs .result) (costs .ensures) (less .result) (less .ensures) (c .before .if1 .left) (c .next-within2 .result) (c .next-within2 .ensures)
 
 returns-2 : tie.Need-returns-2 Inv-loop μ-loop
 returns-2 c =
-    let a = c .before .before .before .args in
+    let a = c .before .before .before .before .before .args in
     let own = c .before .loop in
-    let all : own .j ≡ a .h .count = omega arith in
-    sym (subst (λ (k : ℕ). cornerDominated (a .h .size) (a .h .dimension) k (a .m .now) (a .corner) ≡ false) all (own .inv .1))
+    sym (sought-none (a .h .size) (a .h .dimension) (a .i) (a .m .now) (a .near) (c .before .before .before .limits-of .result) (own .j) (own .inv) (omega arith))
 
 pub corner-dominated-spec : {M : Type 1} → statement M
 corner-dominated-spec =
@@ -62,13 +79,15 @@ corner-dominated-spec =
     (tie.spec
     Inv-loop
     μ-loop
+    (λ c κs. c .before .pre .0 .0 .dimension)
+    next-within-requires
     loop-holds
-    (λ c κs. omega arith)
-    is-listed-requires
+    number-at-requires
     costs-of-requires
-    (λ c κs. omega arith)
+    (λ c κs. c .before .before .before .before .before .before .before .pre .0 .0 .dimension)
     returns
     (λ c. omega arith)
-    (λ c. omega arith)
+    next-within-requires-2
+    (λ c. omega (arith, c .next-within2 .ensures .from))
     loop-again
     returns-2)

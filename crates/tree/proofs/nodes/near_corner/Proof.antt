@@ -3,7 +3,7 @@ use Prim.Native.Nat.{_-_}
 use mathlib.Core.Path.{ap₂, _∙_}
 use native.Mathlib.Omega.{arith}
 use Rattle.zorder.specs.Between.{nearOf}
-use Rattle.tree.specs.Laws.Search.{near-corner}
+use Rattle.tree.specs.Laws.Corners.{near-corner}
 use Rattle.tree.proofs.nodes.near_corner.Statement.{statement}
 use Rattle.tree.proofs.nodes.near_corner.Tie as tie
 
