@@ -5,6 +5,7 @@ pub mod Counting
 pub mod Put
 pub mod Plan
 pub mod Calls
+pub mod Dominated
 pub mod Insert
 pub mod Ranked
 pub mod Rank
