@@ -37,10 +37,6 @@ pub record Counted (u : Upkeep) : Type 0 where
   pub left : u .left ≤ 4096
   pub entered : u .entered ≤ 4096
 
-pub record ComingPlace (c d n : ℕ) (k : Change) (m : List ℕ) (r : ℕ) : Type 0 where
-  pub within : r ≤ n
-  pub is : k .comes ≡ true → r ≡ placeFor d (asMove (k .coming)) (lineFrom c d n m)
-
 -- A move that comes for one that goes has other costs.
 pub record Other (c d n : ℕ) (k : Change) (m : List ℕ) : Type 0 where
   pub costs : k .comes ≡ true → k .goes < n → costsIn c d m (numberIn c m (k .goes)) ≡ k .coming .costs → ⊥

@@ -22,12 +22,12 @@ pub fn plan_of(m: &[u8], h: Head, v: Verdict, k: Change, lent: usize) -> Plan
     if alike(m, h, k) {
         return nothing(Verdict::Accepted);
     }
-    let upkeep = upkeep_of(m, h, k);
+    let place = coming_place(m, h, k);
+    let upkeep = upkeep_of(m, h, k, place);
     let need = needed(upkeep);
     if lent < need {
         return nothing(Verdict::FewRows(need));
     }
-    let place = coming_place(m, h, k);
     let coming = k.coming;
     Plan {
         verdict: Verdict::Accepted,

@@ -22,14 +22,14 @@ use Rattle.promises.specs.declared.Verdict.{Verdict}
 use Rattle.promises.specs.declared.Verdict.the-variants.{Accepted, Unsound, FewRows}
 use Rattle.dominance.specs.Move.{asMove}
 use Rattle.memory.specs.Laws.Held.{held-readable}
-use Rattle.upkeep.specs.Change.{Upkept}
+use Rattle.upkeep.specs.Change.{Upkept, ComingPlace}
 use Rattle.upkeep.specs.Notice.{noticeRows}
 use Rattle.upkeep.specs.Telling.{toldRows}
 use Rattle.upkeep.specs.Planned.{Nothing, VerdictFor, Plans}
 use Rattle.upkeep.specs.Laws.Planned.{answered-unsound, answered-refused, answered-few, answered-all, nothing-plans}
 use Rattle.upkeep.specs.declared.change.Change.{Change}
 use Rattle.upkeep.specs.declared.change.Upkeep.{Upkeep}
-use Rattle.board.specs.Change.{Judges, Other, ComingPlace, neededRows, Made}
+use Rattle.board.specs.Change.{Judges, Other, neededRows, Made}
 use Rattle.board.specs.Plan.{callOf, alike, Ready, Planned, PlanAsked, PlanOf}
 use Rattle.board.specs.Laws.Judge.{board-moves}
 use Rattle.board.specs.Laws.Recost.{costs-board}

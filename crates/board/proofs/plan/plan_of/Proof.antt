@@ -30,15 +30,20 @@ returns-2 c =
     plan-idle (start .pre) bytes (key-number (start .args .v) (found .match .keys1)) (sym (like .alike .ensures) ∙ c .before .if1 .taken)
     (c .nothing2 .ensures)
 
+coming-place-requires : tie.Need-coming-place-requires
+coming-place-requires c κs =
+    let sound = c .before .before .before .before .before .pre .sound in
+    (held-readable sound, held-ordered _ _ _ _ sound)
+
 upkeep-of-requires : tie.Need-upkeep-of-requires
 upkeep-of-requires c κs =
-    let found = c .before .before .before in
+    let found = c .before .before .before .before in
     let start = found .before .before in
-    start .pre .ready (key-number (start .args .v) (found .match .keys1)) .asked
+    (start .pre .ready (key-number (start .args .v) (found .match .keys1)) .asked, c .coming-place .ensures)
 
 needed-requires : tie.Need-needed-requires
 needed-requires c κs =
-    let found = c .before .before .before .before in
+    let found = c .before .before .before .before .before in
     let start = found .before .before in
     upkeep-counted (start .pre .ready (key-number (start .args .v) (found .match .keys1)) .asked) (c .upkeep-of .ensures)
 
@@ -47,29 +52,26 @@ unfolding Bytes
 returns-3 c =
     let need = c .before .before in
     let up = need .before in
-    let like = up .before .before in
+    let place = up .before in
+    let like = place .before .before in
     let found = like .before .before in
     let start = found .before .before in
     let bytes : Bytes (start .args .m .now) = λ i. omega (arith, found .before .shared-slice-known .given i) in
-    plan-few (start .pre) bytes (key-number (start .args .v) (found .match .keys1)) (sym (like .alike .ensures) ∙ up .before .if1 .left)
+    plan-few (start .pre) bytes (key-number (start .args .v) (found .match .keys1)) (sym (like .alike .ensures) ∙ place .before .if1 .left)
     (up .upkeep-of .ensures) (need .needed .ensures) (c .before .if2 .taken) (c .nothing3 .ensures)
-
-coming-place-requires : tie.Need-coming-place-requires
-coming-place-requires c κs =
-    let sound = c .before .before .before .before .before .before .before .before .pre .sound in
-    (held-readable sound, held-ordered _ _ _ _ sound)
 
 returns-4 : tie.Need-returns-4
 unfolding Bytes
 returns-4 c =
-    let need = c .before .before .before in
+    let need = c .before .before in
     let up = need .before in
-    let like = up .before .before in
+    let place = up .before in
+    let like = place .before .before in
     let found = like .before .before in
     let start = found .before .before in
     let bytes : Bytes (start .args .m .now) = λ i. omega (arith, found .before .shared-slice-known .given i) in
-    plan-full (start .pre) bytes (key-number (start .args .v) (found .match .keys1)) (sym (like .alike .ensures) ∙ up .before .if1 .left)
-    (up .upkeep-of .ensures) (need .needed .ensures) (c .before .before .if2 .left) (c .before .coming-place .ensures)
+    plan-full (start .pre) bytes (key-number (start .args .v) (found .match .keys1)) (sym (like .alike .ensures) ∙ place .before .if1 .left)
+    (up .upkeep-of .ensures) (need .needed .ensures) (c .before .if2 .left) (place .coming-place .ensures)
 
 pub plan-of-spec : {M : Type 1} → statement M
 plan-of-spec =
@@ -81,9 +83,9 @@ plan-of-spec =
     alike-requires
     (λ c κs. search needs)
     returns-2
+    coming-place-requires
     upkeep-of-requires
     needed-requires
     (λ c κs. search needs)
     returns-3
-    coming-place-requires
     returns-4)
