@@ -167,5 +167,6 @@ fn greatest_boards() {
 fn plain_boards() {
     let mut all = runs(16, 5, 800);
     all.extend(runs(100, 90, 200));
+    all.extend(runs(400, 380, 60));
     assert_each_refusal(play_all(plain::ask, &all));
 }

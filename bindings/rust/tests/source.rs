@@ -118,8 +118,8 @@ fn calls_are_found() {
 /// The name is called as before, but means another function.
 #[test]
 fn imports_are_found() {
-    let found = edited("query", "use dominance::exceeds;", "dominance::", "crate::kept::");
-    assert!(found.contains(&"query::dominates_on: which `exceeds` is meant?".to_string()), "{found:?}");
+    let found = edited("query", "use dominance::exceeds_in;", "dominance::", "crate::kept::");
+    assert!(found.contains(&"query::dominates_at: which `exceeds_in` is meant?".to_string()), "{found:?}");
 }
 
 /// Words of comments and contracts are no branches, shifts no signs.

@@ -3,13 +3,13 @@
 use crate::{Costs, Move};
 
 /// Whether p is somewhere greater.
-fn exceeds(p: &Costs, q: &Costs) -> bool {
+pub fn exceeds(p: &Costs, q: &Costs) -> bool {
     p.iter().zip(q).fold(false, |exceeds, (a, b)| exceeds | (a > b))
 }
 
-/// Definition 1.
-pub fn dominates(p: &Costs, q: &Costs) -> bool {
-    !exceeds(p, q) && exceeds(q, p)
+/// The lesser of each two costs.
+pub fn least(p: &Costs, q: &Costs) -> Costs {
+    std::array::from_fn(|i| p[i].min(q[i]))
 }
 
 /// Whether p keeps q out of the list.
@@ -26,5 +26,6 @@ pub fn dominates_on(d: usize, k: usize, p: &Costs, q: &Costs) -> bool {
 /// Definition 7, the set given by bits of the costs.
 pub fn dominates_at(set: &Costs, p: &Costs, q: &Costs) -> bool {
     let chosen = |costs: &Costs| std::array::from_fn(|i| costs[i] & set[i]);
-    dominates(&chosen(p), &chosen(q))
+    let (p, q) = (chosen(p), chosen(q));
+    !exceeds(&p, &q) && exceeds(&q, &p)
 }

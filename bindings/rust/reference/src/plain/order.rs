@@ -6,14 +6,17 @@ fn open_groups(p: &Costs, q: &Costs) -> u32 {
     16 - differing.leading_zeros()
 }
 
-fn group(costs: &Costs, j: u32) -> u16 {
-    (0..COSTS).fold(0, |group, i| group | (costs[i] >> j & 1) << (COSTS - 1 - i))
+/// The bits of a group, the first cost's highest.
+fn group(costs: &[u16], j: u32) -> u16 {
+    costs.iter().fold(0, |group, cost| group << 1 | cost >> j & 1)
 }
 
-pub fn stands_before(p: &Move, q: &Move) -> bool {
+/// Of moves with d costs.
+#[inline]
+pub fn stands_before(d: usize, p: &Move, q: &Move) -> bool {
     match open_groups(&p.costs, &q.costs) {
         0 => p.number < q.number,
-        open => group(&p.costs, open - 1) < group(&q.costs, open - 1),
+        open => group(&p.costs[..d], open - 1) < group(&q.costs[..d], open - 1),
     }
 }
 

@@ -5,17 +5,18 @@ use super::order::side;
 impl Head {
     /// Where the node at a level that holds the place ends.
     pub fn node_end(self, m: &[u8], level: u8, place: usize) -> usize {
-        (place + 1..self.n).find(|&e| self.height(m, e) >= level).unwrap_or(self.n)
+        let after = &self.heights(m)[place + 1..];
+        after.iter().position(|&height| height >= level).map_or(self.n, |ahead| place + 1 + ahead)
     }
 
     /// Where it starts.
     pub fn node_start(self, m: &[u8], level: u8, place: usize) -> usize {
-        (1..=place).rev().find(|&s| self.height(m, s) >= level).unwrap_or(0)
+        self.heights(m)[..=place].iter().rposition(|&height| height >= level).unwrap_or(0)
     }
 
     /// How many entries of a level start from s up to e.
     pub fn entries(self, m: &[u8], level: u8, s: usize, e: usize) -> usize {
-        (s..e).filter(|&i| self.height(m, i) >= level).count()
+        self.heights(m)[s..e].iter().filter(|&&height| height >= level).count()
     }
 
     pub fn side_between(self, m: &[u8], i: usize, j: usize) -> u32 {
@@ -23,6 +24,6 @@ impl Head {
     }
 
     pub fn place_of(self, m: &[u8], number: u16) -> Option<usize> {
-        (0..self.n).find(|&i| self.number(m, i) == number)
+        self.numbers(m, 0..self.n).position(|other| other == number)
     }
 }

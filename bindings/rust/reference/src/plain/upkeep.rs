@@ -1,13 +1,14 @@
 //! What a change does to the list, found without writing.
-use super::beats::hides;
-use super::bytes::Head;
+use super::beats::{exceeds, hides};
+use super::bytes::{limits, Head};
+use super::search::{All, Search};
 use super::set::Set;
-use crate::Move;
+use crate::{Costs, Move};
 
-/// The place of the move that goes, and the move that comes.
+/// The place of the move that goes; the move that comes and its place among those before the change.
 pub struct Change {
     pub goes: Option<usize>,
-    pub comes: Option<Move>,
+    pub comes: Option<(usize, Move)>,
 }
 
 /// Who leaves the list and who enters it, the coming move apart; whether that one is listed; the rows needed.
@@ -18,44 +19,42 @@ pub struct Upkeep {
     pub need: usize,
 }
 
-fn hidden_by_others(m: &[u8], head: Head, goes: Option<usize>, x: &Move) -> bool {
-    (0..head.n).any(|j| Some(j) != goes && hides(&head.move_at(m, j), x))
-}
+impl Change {
+    fn coming_hides(&self, x: &Move) -> bool {
+        self.comes.is_some_and(|(_, coming)| hides(&coming, x))
+    }
 
-fn hidden_by_coming(change: &Change, x: &Move) -> bool {
-    change.comes.is_some_and(|coming| hides(&coming, x))
-}
+    /// Whether a move at a place before, other than the going one, is nowhere greater.
+    fn hidden_by_others(&self, m: &[u8], head: Head, all: &Search<All>, place: usize, costs: &Costs) -> bool {
+        all.each(m, head, 0..place, limits(&head.used, costs)).any(|j| Some(j) != self.goes)
+    }
 
-/// Whether a move that is not listed comes up: that can be only where the going move is listed and hides it.
-fn comes_up(m: &[u8], head: Head, change: &Change, x: &Move) -> bool {
-    let Some(goes) = change.goes else {
-        return false;
-    };
-    let going = head.move_at(m, goes);
-    head.listed(m, going.number)
-        && hides(&going, x)
-        && !hidden_by_coming(change, x)
-        && !hidden_by_others(m, head, change.goes, x)
+    fn leaving(&self, m: &[u8], head: Head) -> Set {
+        let listed = (0..head.n).filter(|&i| head.listed(m, head.number(m, i)));
+        let leave = listed.filter(|&i| Some(i) == self.goes || self.coming_hides(&head.move_at(m, i)));
+        leave.map(|i| head.number(m, i)).collect()
+    }
+
+    /// The hidden moves that come up: only those that the going move hides can, if it is listed.
+    fn entering(&self, m: &[u8], head: Head, all: &Search<All>) -> Set {
+        let Some(goes) = self.goes.filter(|&goes| head.listed(m, head.number(m, goes))) else {
+            return Set::empty();
+        };
+        let going = head.costs_at(m, goes);
+        let hidden = (goes + 1..head.n).filter(|&i| !head.listed(m, head.number(m, i)));
+        let enter = hidden.filter(|&i| {
+            let x = head.move_at(m, i);
+            !exceeds(&going, &x.costs) && !self.coming_hides(&x) && !self.hidden_by_others(m, head, all, i, &x.costs)
+        });
+        enter.map(|i| head.number(m, i)).collect()
+    }
 }
 
 pub fn upkeep_of(m: &[u8], head: Head, change: &Change) -> Upkeep {
-    let mut upkeep = Upkeep { leaving: Set::empty(), entering: Set::empty(), listed: false, need: 0 };
-    for i in 0..head.n {
-        let x = head.move_at(m, i);
-        let goes = change.goes == Some(i);
-        if head.listed(m, x.number) {
-            if goes || hidden_by_coming(change, &x) {
-                upkeep.leaving.put(x.number);
-                upkeep.need += 1;
-            }
-        } else if !goes && comes_up(m, head, change, &x) {
-            upkeep.entering.put(x.number);
-            upkeep.need += 1;
-        }
-    }
-    if let Some(x) = change.comes {
-        upkeep.listed = !hidden_by_others(m, head, change.goes, &x);
-        upkeep.need += usize::from(upkeep.listed);
-    }
-    upkeep
+    let all = Search::over(m, head);
+    let leaving = change.leaving(m, head);
+    let entering = change.entering(m, head, &all);
+    let listed = change.comes.is_some_and(|(place, x)| !change.hidden_by_others(m, head, &all, place, &x.costs));
+    let need = leaving.len() + entering.len() + usize::from(listed);
+    Upkeep { leaving, entering, listed, need }
 }

@@ -34,10 +34,7 @@ fn save(m: &mut [u8], head: Head, rows: &Range<usize>, number: u16) -> usize {
 /// The row after the removed ones starts at least what they started.
 fn cut_out(m: &mut [u8], head: Head, rows: &Range<usize>) {
     let level = head.height(m, rows.start);
-    for i in rows.end..head.n {
-        let (number, height) = (head.number(m, i), head.height(m, i));
-        head.set_row(m, i - rows.len(), number, height);
-    }
+    head.move_rows(m, rows.end..head.n, rows.start);
     if rows.end < head.n {
         let height = head.height(m, rows.start).max(level);
         head.set_height(m, rows.start, height);

@@ -1,4 +1,5 @@
 //! The three programs that are timed, each with a board of its own.
+use crate::rounds::refusal;
 use reference::against::Ask;
 use reference::board::{foresee_load, PlainBoard};
 use reference::plain;
@@ -19,7 +20,7 @@ struct OnMemory {
 impl Program for OnMemory {
     fn ask(&mut self, call: &Call) -> usize {
         let answer = (self.ask)(&mut self.memory, call, &mut self.rows);
-        assert_eq!(answer.refusal, 0, "{call:?}");
+        assert_eq!(answer.refusal, refusal(call), "{call:?}");
         answer.count
     }
 }
@@ -35,7 +36,7 @@ impl Program for AllPairs {
             Call::Load { c, d, ref rows } => foresee_load(usize::MAX, c, d, rows),
             _ => self.board.foresee(call),
         };
-        assert_eq!(foreseen.answer.refusal, 0, "{call:?}");
+        assert_eq!(foreseen.answer.refusal, refusal(call), "{call:?}");
         if let Some(after) = foreseen.after {
             self.board = after;
         }
@@ -43,11 +44,13 @@ impl Program for AllPairs {
     }
 }
 
+pub const LIBRARY: usize = 0;
+pub const PLAIN: usize = 1;
+pub const ALL_PAIRS: usize = 2;
 pub const PROGRAMS: usize = 3;
 
-/// The library first.
 pub fn programs(c: usize, d: usize) -> [Box<dyn Program>; PROGRAMS] {
     let on_memory = |ask: Ask| OnMemory { ask, memory: vec![0; 64 * c + 1024], rows: vec![Row::default(); c + 1] };
     let all_pairs = AllPairs { board: PlainBoard::new(c, d, Vec::new()) };
-    [Box::new(on_memory(library::ask)), Box::new(all_pairs), Box::new(on_memory(plain::ask))]
+    [Box::new(on_memory(library::ask)), Box::new(on_memory(plain::ask)), Box::new(all_pairs)]
 }

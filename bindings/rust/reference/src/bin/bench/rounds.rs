@@ -1,43 +1,65 @@
-//! What is asked of a board: a round has each call once and leaves the board full again.
-use reference::random::{costs, moves, Random, Shape};
+//! What is asked of a board: a round loads it and has each call once.
+use crate::boards::{Board, TOP, UNDER};
+use reference::random::Random;
 use reference::{Call, Costs};
 
 pub struct Rounds {
     random: Random,
-    pub shape: Shape,
-    pub c: usize,
-    pub d: usize,
+    board: Board,
+    c: usize,
+    d: usize,
 }
 
-const SPAN: usize = 65536;
+/// As the tables have them.
+pub const CALLS: [&str; 10] =
+    ["sound", "load", "enter", "withdraw", "re-cost", "list", "band", "rank", "on k", "chosen"];
+
+/// What a call of the rounds is answered. Whether the memory is sound is asked by a rank of no rows, which is judged like any
+/// other and then turned down.
+pub fn refusal(call: &Call) -> usize {
+    match call {
+        Call::Rank(0) => 7,
+        _ => 0,
+    }
+}
 
 impl Rounds {
-    pub fn new(shape: Shape, c: usize, d: usize) -> Self {
-        Rounds { random: Random::new(1), shape, c, d }
-    }
-
-    pub fn load(&mut self) -> Call {
-        let rows = moves(&mut self.random, self.shape, self.d, SPAN, self.c, self.c);
-        Call::Load { c: self.c, d: self.d, rows }
+    pub fn new(board: Board, c: usize, d: usize) -> Self {
+        Rounds { random: Random::new(1), board, c, d }
     }
 
     fn costs(&mut self, number: u16) -> Costs {
-        costs(&mut self.random, self.shape, self.d, SPAN, usize::from(number), self.c)
+        self.board.costs(&mut self.random, self.d, number, self.c)
     }
 
-    /// The calls by name. Withdraw and enter take one move away and put it back with other costs.
+    /// A move is taken away and put back, with other costs where its number leaves a choice; another gets costs as a third
+    /// number has them. Of a crown it is the move on top each time.
+    fn changes(&mut self) -> [Call; 3] {
+        let [mut number, mut other, third] = [(); 3].map(|()| self.random.below(self.c) as u16);
+        let mut new = self.costs(third);
+        if self.board == Board::Crown {
+            [number, other] = [TOP; 2];
+            new = UNDER.costs(&mut self.random, self.d, TOP, self.c);
+        }
+        let costs = self.costs(number);
+        [Call::Withdraw { number }, Call::Enter { number, costs }, Call::Recost { number: other, costs: new }]
+    }
+
+    /// The calls by name.
     pub fn round(&mut self) -> Vec<(&'static str, Call)> {
-        let [number, other] = [(); 2].map(|()| self.random.below(self.c) as u16);
+        let rows = self.board.moves(&mut self.random, self.d, self.c);
+        let [withdraw, enter, recost] = self.changes();
         vec![
-            ("load", self.load()),
-            ("withdraw", Call::Withdraw { number }),
-            ("enter", Call::Enter { number, costs: self.costs(number) }),
-            ("recost", Call::Recost { number: other, costs: self.costs(other) }),
+            ("load", Call::Load { c: self.c, d: self.d, rows }),
+            ("sound", Call::Rank(0)),
             ("list", Call::List),
             ("band", Call::Band(2)),
             ("rank", Call::Rank(10)),
-            ("on_k", Call::OnK(self.d - 1)),
+            ("on k", Call::OnK(self.d - 1)),
             ("chosen", Call::Chosen((1 << (self.d - 1)) - 1)),
+            ("withdraw", withdraw),
+            ("enter", enter),
+            ("re-cost", recost),
         ]
     }
 }

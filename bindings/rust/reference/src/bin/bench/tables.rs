@@ -1,0 +1,66 @@
+//! Tables in Markdown: a row for each call and board, in a cell a number for each d.
+use crate::boards::Board;
+use crate::measure::Times;
+use crate::programs::{ALL_PAIRS, PLAIN};
+use crate::rounds::CALLS;
+
+/// The times of a board of a size, for each d.
+pub struct Measured {
+    pub board: Board,
+    pub times: Vec<Times>,
+}
+
+fn micros(time: f64) -> String {
+    match time {
+        ..100.0 => format!("{time:.1}"),
+        _ => format!("{time:.0}"),
+    }
+}
+
+fn ratio(ratio: f64) -> String {
+    match ratio {
+        ..0.1 => format!("{ratio:.3}"),
+        ..10.0 => format!("{ratio:.2}"),
+        _ => format!("{ratio:.0}"),
+    }
+}
+
+fn cell(numbers: impl Iterator<Item = Option<f64>>, text: fn(f64) -> String) -> String {
+    let texts: Vec<String> = numbers.map(|number| number.map_or("–".to_string(), text)).collect();
+    if texts.iter().all(|text| text == "–") {
+        return "–".to_string();
+    }
+    texts.join(" / ")
+}
+
+/// The cells of a call: microseconds, the ratio to all pairs if asked for, the ratio to the plain board.
+fn cells(measured: &Measured, call: usize, all_pairs: bool) -> String {
+    let times = || measured.times.iter();
+    let mut cells = format!(" {} |", cell(times().map(|t| t.micros(call)), micros));
+    if all_pairs {
+        cells += &format!(" {} |", cell(times().map(|t| t.ratio(call, ALL_PAIRS)), ratio));
+    }
+    cells + &format!(" {} |", cell(times().map(|t| t.ratio(call, PLAIN)), ratio))
+}
+
+fn heading(sizes: &[usize], all_pairs: bool) -> String {
+    let mut names = "| call | board |".to_string();
+    for c in sizes {
+        let to_a = if all_pairs { " to (a) |" } else { "" };
+        names += &format!(" µs at {c} |{to_a} to (b) |");
+    }
+    let columns = names.matches('|').count() - 1;
+    names + "\n|" + &"---|".repeat(columns)
+}
+
+pub fn print(boards: &[Board], sizes: &[usize], all: &[Measured], all_pairs: bool) {
+    println!("{}", heading(sizes, all_pairs));
+    for (call, name) in CALLS.iter().enumerate() {
+        for (place, board) in boards.iter().enumerate() {
+            let first = if place == 0 { name } else { "" };
+            let of_board = all.iter().filter(|measured| measured.board == *board);
+            let row: String = of_board.map(|measured| cells(measured, call, all_pairs)).collect();
+            println!("| {first} | {} |{row}", board.name());
+        }
+    }
+}

@@ -1,0 +1,43 @@
+//! The marks, from the first place on: a move is hidden if a listed one before it is nowhere greater.
+use super::bytes::{limits, Head};
+use super::search::{Listed, Search};
+
+struct Marking {
+    search: Search<Listed>,
+    /// The place of the last hider found, which is tried first.
+    last: usize,
+}
+
+impl Marking {
+    fn new() -> Marking {
+        Marking { search: Search::empty(), last: 0 }
+    }
+
+    fn is_hidden(&mut self, m: &[u8], head: Head, place: usize) -> bool {
+        let q = limits(&head.used, &head.costs_at(m, place));
+        if self.last < place && Search::<Listed>::fits(m, head, head.number(m, self.last), &q) {
+            return true;
+        }
+        let hider = self.search.first(m, head, 0..place, &q);
+        self.last = hider.unwrap_or(self.last);
+        hider.is_some()
+    }
+}
+
+pub fn marks_right(m: &[u8], head: Head) -> bool {
+    let mut marking = Marking::new();
+    (0..head.n).all(|i| {
+        let hidden = marking.is_hidden(m, head, i);
+        marking.search.add(m, head, i);
+        head.listed(m, head.number(m, i)) != hidden
+    })
+}
+
+pub fn mark_all(m: &mut [u8], head: Head) {
+    let mut marking = Marking::new();
+    for i in 0..head.n {
+        let hidden = marking.is_hidden(m, head, i);
+        head.set_listed(m, head.number(m, i), !hidden);
+        marking.search.add(m, head, i);
+    }
+}
