@@ -37,6 +37,8 @@ const ANY: &str = "0 < greater";
 const DOMINATES: &str = "!exceeds(d, p, q) & exceeds(d, q, p)";
 const CHOSEN: &str = "!exceeds_in(s, p, q) & exceeds_in(s, q, p)";
 const ON_K: &str = "(k <= d - greater) & exceeds(d, q, p)";
+const CHOOSE: &str = "factor * a + (1 - factor) * b";
+const LEAST: &str = "row[i] = choose(less(q[i], p[i]) as u16, q[i], p[i]);";
 const LOWER: &str = "less(p.number, q.number)";
 
 #[test]
@@ -64,6 +66,10 @@ fn branches_are_found() {
         ("dominance::count_greater", LOOP, "while i < COSTS {\n    while i < COSTS {", "`while`"),
         ("dominance::dominates", DOMINATES, "!exceeds(d, p, q) && exceeds(d, q, p)", "`&&`"),
         ("dominance::hides", "lower | exceeds(d, b, a)", "lower || exceeds(d, b, a)", "`||`"),
+        ("dominance::choose", CHOOSE, "if factor == 1 { a } else { b }", "`else`"),
+        ("dominance::limits_of", "i += 1;", "i += if i < d { 1 } else { COSTS };", "`if`"),
+        ("dominance::least", LEAST, "if less(q[i], p[i]) == 1 { row[i] = q[i]; }", "`if`"),
+        ("memory::from_above", LOOP, "while i < COSTS && costs[i] < 65535 {", "`&&`"),
         ("query::dominates_on", ON_K, "(k <= d - greater) && exceeds(d, q, p)", "`&&`"),
         ("query::dominates_at", CHOSEN, "!exceeds_in(s, p, q) && exceeds_in(s, q, p)", "`&&`"),
     ] {
@@ -87,6 +93,9 @@ fn signs_are_found() {
         ("dominance::dominates", DOMINATES, "exceeds(d, p, q) < exceeds(d, q, p)", "`<`"),
         ("dominance::hides", LOWER, "less(p.costs[0], q.costs[0])", "`<`"),
         ("dominance::hides", "(lower |", "(p.number < q.number) & (lower |", "`<`"),
+        ("dominance::limits_in", LOOP, "while (i < COSTS) & (q[i] < 65535) {", "`<`"),
+        ("dominance::least", LEAST, "row[i] = choose((q[i] < p[i]) as u16, q[i], p[i]);", "`<`"),
+        ("memory::lack", "{\n    65535 - cost", "{\n    (cost <= 65535) as u16 * (65535 - cost)", "`<=`"),
         ("query::dominates_on", ON_K, "(k <= d - greater) & (p[0] < q[0])", "`<`"),
         ("query::dominates_at", CHOSEN, "exceeds_in(s, p, q) == exceeds_in(s, q, p)", "`==`"),
     ] {
@@ -107,6 +116,7 @@ fn calls_are_found() {
             r#"calls ["exceeds", "exceeds", "exceeds", "less"]"#,
         ),
         ("dominance::hides", "!exceeds(d, a, b)", "!dominates(d, b, a)", r#"calls ["dominates", "exceeds", "less"]"#),
+        ("dominance::least", "less(", "below(", r#"calls ["below", "choose"]"#),
         ("query::dominates_on", "count_greater(", "fit(", r#"calls ["exceeds", "fit"]"#),
         ("dominance::hides", "fn hides(", "fn conceals(", "found 0 times"),
         ("query::dominates_on", "fn dominates_on(", "fn dominates_some(", "found 0 times"),

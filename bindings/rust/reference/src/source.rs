@@ -28,16 +28,22 @@ const ON_K: &str = "(k <= d - greater) & exceeds(d, q, p)";
 const LOWER: &str = "let lower = 0 < less(p.number, q.number);";
 
 /// Whatever one of these calls is one of them, so that no branch hides in a callee.
-const FUNCTIONS: [Function; 11] = [
+const FUNCTIONS: [Function; 17] = [
     function("dominance", "wide", &[], &[]),
     function("dominance", "less", &["wide", "wide"], &[]),
     function("dominance", "first_factor", &[], &[]),
+    function("dominance", "choose", &[], &[]),
     function("dominance", "less_times", &["less"], &[]),
     function("dominance", "exceeds", &["first_factor", "less_times"], &[LOOP, ANY]),
     function("dominance", "exceeds_in", &["less_times"], &[LOOP, ANY]),
     function("dominance", "count_greater", &["first_factor", "less_times"], &[LOOP]),
     function("dominance", "dominates", &["exceeds", "exceeds"], &[]),
     function("dominance", "hides", &["exceeds", "exceeds", "less"], &[LOWER]),
+    function("dominance", "limits_of", &["choose", "first_factor"], &[LOOP]),
+    function("dominance", "limits_in", &["choose"], &[LOOP]),
+    function("dominance", "least", &["choose", "less"], &[LOOP]),
+    function("memory", "lack", &[], &[]),
+    function("memory", "from_above", &["lack"], &[LOOP]),
     function("query", "dominates_on", &["count_greater", "exceeds"], &[ON_K]),
     function("query", "dominates_at", &["exceeds_in", "exceeds_in"], &[]),
 ];
