@@ -12,14 +12,12 @@ use Rattle.model.specs.Calls as calls
 use Rattle.model.specs.Calls.{changeRefusal, refusedWith, changed}
 use Rattle.model.specs.Changing.{changeTree}
 use Rattle.line.specs.Line.{movesIn}
-use Rattle.line.specs.Enter.{placeFor}
 use Rattle.promises.specs.Layout.{sizeIn, dimensionIn, numberIn, costsIn, boardIn, lineFrom}
 use Rattle.promises.specs.Sound.{Stands}
 use Rattle.promises.specs.Answers.{answerOf}
 use Rattle.promises.specs.Written.{changeWrites}
 use Rattle.promises.specs.Promise.{Kept}
 use Rattle.promises.specs.declared.Verdict.{Verdict}
-use Rattle.dominance.specs.Move.{asMove}
 use Rattle.dominance.specs.declared.Move.{Move}
 use Rattle.upkeep.specs.Change.{ChangeAsked, Upkept, movesAfter}
 use Rattle.upkeep.specs.declared.change.Change.{Change}

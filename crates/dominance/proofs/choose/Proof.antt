@@ -1,5 +1,5 @@
 -- `choose` meets its contract. Assumes nothing.
-use Prim.Native.Nat.{ℕ, _-_, _^_}
+use Prim.Native.Nat.{_-_, _^_}
 use native.Mathlib.Omega.{arith}
 use borrow.Author.Needs.{needs}
 use Rattle.dominance.specs.Laws.Sums.{times-lt}

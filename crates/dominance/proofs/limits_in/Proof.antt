@@ -1,5 +1,5 @@
 -- `limits_in` meets its contract, as `limits_of` does. Assumes nothing.
-use Prim.Native.Nat.{ℕ, _-_, _≤_}
+use Prim.Native.Nat.{_-_, _≤_}
 use native.Mathlib.Omega.{arith}
 use Rattle.zorder.specs.Address.{rowCosts}
 use Rattle.dominance.specs.Lanes.{limit, isChosen}

@@ -2,21 +2,20 @@
 -- their test are.
 use Prim.Native.Nat.{ℕ, zero, suc, _+_, _-_, _*_, _≤_, _<_}
 use mathlib.Core.Bool.{Bool, true, false, cond}
-use mathlib.Core.List.{List, [], _∷_, List·Memᴰ}
-use mathlib.Core.Path.{_≡_, refl, sym, ap, ap₂, _∙_, subst}
+use mathlib.Core.List.{List}
+use mathlib.Core.Path.{_≡_, refl, sym, ap, _∙_, subst}
 use native.Mathlib.Decide.{ℕ-discrete, decLt}
 use native.Mathlib.Nat.{zero-mul, one-mul}
 use native.Mathlib.Omega.{arith}
-use borrow.Author.Tests.{ltb-true, ltb-false, lt-ltb, le-ltb}
+use borrow.Author.Tests.{ltb-true, ltb-false, lt-ltb}
 use lib.Dec.{eqb, ltb}
 use lib.ListN.{length, getD, set, take, length-set, List·getD-eq-default}
 use lib.Seq.{getD-set-same, getD-set-other, getD-take, length-take-le}
 use Rattle.zorder.specs.Address.{rowCosts}
-use Rattle.model.specs.Dominance.{less, nowhereGreater, somewhereLess, at}
-use Rattle.model.specs.Lists.{chosenCosts}
-use Rattle.model.specs.Laws.Bool.{testCases, same-test, both-ways, byCases}
+use Rattle.model.specs.Dominance.{less, nowhereGreater, at}
+use Rattle.model.specs.Laws.Bool.{testCases, same-test}
 use Rattle.model.specs.Laws.Dominance.{nowhere-greater-places, places-nowhere-greater, take-same-length}
-use Rattle.dominance.specs.Lanes.{Lanes, limit, isFirst, isChosen, lesser}
+use Rattle.dominance.specs.Lanes.{Lanes, limit, isFirst, lesser}
 
 -- ---- a choice by a factor
 

@@ -6,7 +6,7 @@ use mathlib.Core.Path.{_≡_, sym, ap, _∙_, subst}
 use lib.Dec.{eqb}
 use Rattle.zorder.specs.Between.{rowCosts}
 use Rattle.model.specs.Basics.{Each, select}
-use Rattle.model.specs.Moves.{Move, moveBefore, ordered}
+use Rattle.model.specs.Moves.{Move, ordered}
 use Rattle.model.specs.Lists.{skyline}
 use Rattle.model.specs.Tree.{Tree, movesOf}
 use Rattle.model.specs.Sound.{Fit}

@@ -1,17 +1,17 @@
 -- Moves in Z-order, by any two places: what the tests and the definitions say of neighbours.
-use Prim.Native.Nat.{ℕ, zero, suc, _+_, _-_, _≤_, _<_}
-use mathlib.Core.Bool.{Bool, true, false}
+use Prim.Native.Nat.{ℕ, zero, suc, _-_, _≤_, _<_}
+use mathlib.Core.Bool.{true}
 use mathlib.Core.List.{List}
 use mathlib.Core.Logic.{⊎-elim}
 use mathlib.Core.Path.{_≡_, sym, ap, _∙_, subst}
 use native.Mathlib.Decide.{decLt}
 use native.Mathlib.Nat.{eq-or-lt-of-le, le-of-suc-le-suc}
 use native.Mathlib.Omega.{arith}
-use Rattle.model.specs.Moves.{Move, moveBefore, ordered}
+use Rattle.model.specs.Moves.{moveBefore, ordered}
 use Rattle.model.specs.Laws.Bool.{both-ways}
 use Rattle.model.specs.Laws.Order.{before-trans, before-irrefl}
 use Rattle.line.specs.Line.{movesIn}
-use Rattle.promises.specs.Layout.{moveIn, tab, lineFrom}
+use Rattle.promises.specs.Layout.{moveIn, lineFrom}
 use Rattle.memory.specs.Room.{Ordered}
 use Rattle.memory.specs.Tests.{orderRight}
 use Rattle.memory.specs.Laws.Lines.{movesIn-line}

@@ -1,26 +1,24 @@
 -- The search over places: what a turn of each loop keeps, and that a corner somewhere greater than what is looked for passes its
 -- run by.
-use Prim.Native.Nat.{ℕ, zero, suc, _+_, _-_, _*_, _/_, _≤_, _<_}
+use Prim.Native.Nat.{ℕ, _+_, _-_, _*_, _/_, _≤_, _<_}
 use mathlib.Core.Bool.{Bool, true, false, not, _&&_}
 use mathlib.Core.List.{List, []}
-use mathlib.Core.Path.{_≡_, refl, sym, ap, ap₂, _∙_, subst}
+use mathlib.Core.Path.{_≡_, sym, ap, ap₂, _∙_, subst}
 use native.Mathlib.Decide.{ℕ-discrete, decLt}
 use native.Mathlib.Omega.{arith}
-use borrow.Author.Tests.{lt-ltb, le-ltb}
-use lib.Dec.{eqb, ltb}
 use lib.ListN.{length, getD, set, take, length-set, List·getD-eq-default}
 use lib.Seq.{getD-set-same, getD-set-other, getD-take, take-all}
-use Rattle.zorder.specs.Address.{rowCosts, padded}
+use Rattle.zorder.specs.Address.{rowCosts}
 use Rattle.model.specs.Dominance.{nowhereGreater, somewhereLess}
-use Rattle.model.specs.Laws.Bool.{byCases, both-ways, and-left, and-right, and-both, and-false-right}
+use Rattle.model.specs.Laws.Bool.{byCases, both-ways, and-false-right}
 use Rattle.model.specs.Laws.Dominance.{nowhere-greater-places, somewhere-less-place}
 use Rattle.dominance.specs.Lanes.{Lanes, lesser}
 use Rattle.dominance.specs.Laws.Lanes.{lesser-below}
 use Rattle.dominance.specs.Laws.Sums.{nowhere-somewhere}
-use Rattle.promises.specs.Layout.{numberIn, costsIn, costIn, tab}
+use Rattle.promises.specs.Layout.{numberIn, costsIn, tab}
 use Rattle.promises.specs.Laws.Tab.{length-tab, tab-of}
 use Rattle.memory.specs.Laws.Costs.{row-length}
-use Rattle.memory.specs.Search.{looks, looksAt, seen, seenAt, fits, None, First, Some, Below, Corners, CornerWith}
+use Rattle.memory.specs.Search.{looksAt, seen, seenAt, fits, None, First, Some, Below, Corners, CornerWith}
 use Rattle.memory.specs.declared.search.Among.{Among}
 use Rattle.memory.specs.declared.search.Among.the-variants.{All, Listed, Hidden}
 

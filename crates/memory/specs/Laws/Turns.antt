@@ -1,19 +1,16 @@
 -- One turn of each loop that tests places.
 use Prim.Native.Nat.{ℕ, suc, _+_, _-_, _≤_, _<_}
-use mathlib.Core.Bool.{Bool, true, false, not, _&&_, Bool·beq}
+use mathlib.Core.Bool.{Bool, true, false, not, Bool·beq}
 use mathlib.Core.List.{List}
-use mathlib.Core.Logic.{_⊎_, ⊎-elim}
 use mathlib.Core.Path.{_≡_, refl, sym, ap, ap₂, _∙_}
 use native.Mathlib.Omega.{arith}
 use lib.Dec.{ltb}
 use borrow.Author.Tests.{ltb-true, lt-ltb, le-ltb}
-use Rattle.model.specs.Moves.{Move, moveBefore}
-use Rattle.model.specs.Dominance.{hides}
-use Rattle.model.specs.Laws.Bool.{and-both, and-false-right}
+use Rattle.model.specs.Moves.{moveBefore}
 use Rattle.promises.specs.Layout.{numberIn, moveIn}
 use Rattle.memory.specs.Room.{Numbers}
-use Rattle.memory.specs.Tests.{allTo, anyTo, numbersRight, orderRight, isMarked, isListed, hiddenBefore, marksRight}
-use Rattle.memory.specs.Laws.Places.{allTo-at, allTo-all, allTo-more, allTo-next, allTo-fails, anyTo-more, anyTo-found}
+use Rattle.memory.specs.Tests.{allTo, numbersRight, orderRight, isMarked, isListed, hiddenBefore, marksRight}
+use Rattle.memory.specs.Laws.Places.{allTo-at, allTo-all, allTo-more, allTo-next, allTo-fails}
 
 beq-not : (a b : Bool) → Bool·beq a (not b) ≡ not (Bool·beq a b)
 beq-not true true = refl
@@ -78,31 +75,6 @@ module _ (c d : ℕ) (m : List ℕ) where
   order-end n i e = ap (allTo (λ j. moveBefore d (moveIn c d m j) (moveIn c d m (suc j)))) e
 
   -- ---- marks
-
-  pub number-of : (i : ℕ) (x : Move) → x ≡ moveIn c d m i → x .number ≡ numberIn c m i
-  unfolding moveIn
-  number-of i x e = ap (λ (y : Move). y .number) e
-
-  pub listed-move : (i : ℕ) {x : Move} → x ≡ moveIn c d m i → isListed c m i ≡ isMarked c m (x .number)
-  listed-move i {x} e = listed-at c m i (x .number) (number-of i x e)
-
-  module _ (x : Move) where
-    hider : ℕ → Bool
-    hider j = isListed c m j && hides d (moveIn c d m j) x
-
-    pub hidden-none : hiddenBefore c d m 0 x ≡ false
-    unfolding hiddenBefore anyTo allTo
-    hidden-none = refl
-
-    pub hidden-more : (j : ℕ) → hiddenBefore c d m j x ≡ false → (isListed c m j ≡ false) ⊎ (hides d (moveIn c d m j) x ≡ false) → hiddenBefore c d m (j + 1) x ≡ false
-    unfolding hiddenBefore hider
-    hidden-more j h e =
-        anyTo-more hider j h
-        (⊎-elim (ap (λ (b : Bool). b && hides d (moveIn c d m j) x)) (and-false-right (isListed c m j) (hides d (moveIn c d m j) x)) e)
-
-    pub hidden-found : (i j : ℕ) → j < i → isListed c m j ≡ true → hides d (moveIn c d m j) x ≡ true → hiddenBefore c d m i x ≡ true
-    unfolding hiddenBefore hider
-    hidden-found i j l h e = anyTo-found hider i j l (and-both (isListed c m j) (hides d (moveIn c d m j) x) h e)
 
   markRight : ℕ → Bool
   markRight i = Bool·beq (isListed c m i) (not (hiddenBefore c d m i (moveIn c d m i)))

@@ -1,29 +1,27 @@
 -- What hides a move besides the going one, through the search over the places before it.
-use Prim.Native.Nat.{ℕ, zero, suc, _+_, _≤_, _<_}
+use Prim.Native.Nat.{ℕ, _+_, _≤_, _<_}
 use mathlib.Core.Bool.{Bool, true, false, not, _&&_}
-use mathlib.Core.List.{List, []}
-use mathlib.Core.Path.{_≡_, refl, sym, ap, ap₂, _∙_, subst}
+use mathlib.Core.List.{List}
+use mathlib.Core.Path.{_≡_, sym, ap, _∙_, subst}
 use native.Mathlib.Decide.{ℕ-discrete, decLt}
 use native.Mathlib.Omega.{arith}
 use borrow.Author.Tests.{eq-eqb, ne-eqb, lt-ltb, le-ltb}
 use lib.Dec.{eqb, ltb}
-use lib.ListN.{length, take}
 use Rattle.zorder.specs.Address.{rowCosts}
 use Rattle.model.specs.Moves.{Move, moveBefore, ordered}
-use Rattle.model.specs.Dominance.{nowhereGreater, hides}
+use Rattle.model.specs.Dominance.{hides}
 use Rattle.model.specs.Sound.{Fit}
 use Rattle.model.specs.Laws.Bool.{byCases, both-ways, and-both, and-false-right, not-flip}
 use Rattle.model.specs.Laws.Order.{move-order, before-trans, before-irrefl}
-use Rattle.model.specs.Laws.Hiding.{earlier-hides, hides-irrefl, move-hiding}
+use Rattle.model.specs.Laws.Hiding.{earlier-hides, move-hiding}
 use Rattle.dominance.specs.Lanes.{Lanes, limit, isFirst}
-use Rattle.line.specs.Line.{Placed, none}
 use Rattle.line.specs.Places.{moveAt}
 use Rattle.line.specs.Enter.{placeFor}
-use Rattle.promises.specs.Layout.{numberIn, costsIn, moveIn, lineFrom}
+use Rattle.promises.specs.Layout.{numberIn, moveIn, lineFrom}
 use Rattle.promises.specs.Run.{Bytes}
 use Rattle.memory.specs.Held.{SoundAt}
-use Rattle.memory.specs.Search.{looks, looksAt, seen, seenAt, fits, None, First}
-use Rattle.memory.specs.Tests.{allTo, anyTo}
+use Rattle.memory.specs.Search.{looks, looksAt, seen, seenAt, fits, First}
+use Rattle.memory.specs.Tests.{anyTo}
 use Rattle.memory.specs.Laws.Places.{allTo-all, anyTo-found}
 use Rattle.memory.specs.Laws.Costs.{row-length}
 use Rattle.memory.specs.Laws.Hiders.{words-within}

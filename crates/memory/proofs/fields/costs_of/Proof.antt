@@ -1,6 +1,6 @@
 -- `fields::costs_of` meets its contract. The loop's invariant: the row holds the first j costs. Assumes nothing.
 use Rattle.zorder.specs.Address.{rowCosts, padded}
-use Prim.Native.Nat.{ℕ, _+_, _-_, _*_, _^_, _≤_, _<_}
+use Prim.Native.Nat.{ℕ, _-_, _*_, _^_, _≤_, _<_}
 use mathlib.Core.Bool.{cond}
 use mathlib.Core.List.{List, append-nil}
 use mathlib.Core.Path.{_≡_, sym, ap, ap₂, _∙_}

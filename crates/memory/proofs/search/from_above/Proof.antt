@@ -1,5 +1,5 @@
 -- `search::from_above` meets its contract. The loop's invariant: the places before i are filled. Assumes nothing.
-use Prim.Native.Nat.{ℕ, _-_, _≤_}
+use Prim.Native.Nat.{_-_, _≤_}
 use native.Mathlib.Omega.{arith}
 use lib.ListN.{getD}
 use Rattle.zorder.specs.Address.{rowCosts}

@@ -1,5 +1,4 @@
 -- `search::looks_at` meets its contract. Assumes nothing.
-use Prim.Native.Nat.{ℕ}
 use mathlib.Core.Path.{ap, _∙_}
 use native.Mathlib.Omega.{arith}
 use Rattle.memory.specs.Search.{looks, looksAt}

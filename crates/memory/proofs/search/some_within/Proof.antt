@@ -2,7 +2,6 @@
 use mathlib.Core.Path.{sym, _∙_}
 use native.Mathlib.Omega.{arith}
 use borrow.Author.Needs.{needs}
-use Rattle.memory.specs.Search.{Some}
 use Rattle.memory.specs.Laws.Search.{first-some}
 use Rattle.memory.proofs.search.some_within.Statement.{statement}
 use Rattle.memory.proofs.search.some_within.Tie as tie

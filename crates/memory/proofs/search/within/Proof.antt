@@ -1,8 +1,8 @@
 -- `search::within` meets its contract. The loop's invariant: none of the places passed fits. Assumes nothing.
-use Prim.Native.Nat.{ℕ, _-_, _≤_}
+use Prim.Native.Nat.{_-_, _≤_}
 use mathlib.Core.Path.{sym, _∙_}
 use native.Mathlib.Omega.{arith}
-use Rattle.memory.specs.Search.{fits, None, First}
+use Rattle.memory.specs.Search.{fits, None}
 use Rattle.memory.specs.Laws.Search.{none-empty, none-more}
 use Rattle.memory.proofs.search.within.Statement.{statement}
 use Rattle.memory.proofs.search.within.Tie as tie

@@ -11,7 +11,6 @@ use Rattle.model.specs.Dominance.{hides}
 use Rattle.model.specs.Laws.Bool.{and-left}
 use Rattle.promises.specs.Layout.{moveIn}
 use Rattle.promises.specs.Run.{Bytes}
-use Rattle.dominance.specs.Move.{asMove}
 use Rattle.memory.specs.Tests.{isListed}
 use Rattle.memory.specs.Laws.Held.{held-readable}
 use Rattle.memory.specs.declared.sound.Head.{Head}
