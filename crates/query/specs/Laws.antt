@@ -2,6 +2,10 @@
 pub mod Rule
 pub mod Places
 pub mod Counting
+pub mod Counted
+pub mod Beats
+pub mod Band
+pub mod Unbeaten
 pub mod Put
 pub mod Plan
 pub mod Calls

@@ -54,7 +54,7 @@ from-place j zero i l h = absurd (omega arith)
 from-place j (suc n) i l h =
     ⊎-elim (λ q. List·Memᴰ·head (sym q)) (λ q. List·Memᴰ·tail (from-place (suc j) n i q (omega arith))) (eq-or-lt-of-le l)
 
-below-place : (n i : ℕ) → i < n → List·Memᴰ i (numbersFrom 0 n)
+pub below-place : (n i : ℕ) → i < n → List·Memᴰ i (numbersFrom 0 n)
 below-place n i h = from-place 0 n i (omega arith) (omega arith)
 
 -- Some of the places of a list in order are in order.

@@ -6,8 +6,9 @@ use Rattle.model.specs.Opening.{queryOpens}
 use Rattle.memory.specs.Held.{SoundAt}
 use Rattle.memory.specs.Laws.Held.{sound-held, unsound-held}
 use Rattle.upkeep.specs.Laws.Planned.{query-unsound, query-bad}
-use Rattle.query.specs.Rule.{Fair}
 use Rattle.query.specs.Laws.Calls.{band-bad, band-right, band-rows}
+use Rattle.query.specs.Laws.Plan.{kept-planned}
+use Rattle.query.specs.declared.rule.Rule.the-variants.{All}
 use Rattle.query.proofs.plan.plan_band.Statement.{statement}
 use Rattle.query.proofs.plan.plan_band.Tie as tie
 
@@ -27,16 +28,14 @@ returns-2 c =
     query-bad (bandQuery (a .b)) (a .m .now) (a .lent) (c .nothing2 .ensures) (s .sound)
     (band-bad (a .m .now) (a .b) (c .before .if1 .taken))
 
-plan-kept-requires : tie.Need-plan-kept-requires
-unfolding Fair
-plan-kept-requires c κs = (sound-at (c .before), tt)
-
 returns-3 : tie.Need-returns-3
 unfolding queryOpens
 returns-3 c =
-    let a = c .before .before .before .before .before .before .before .args in
-    c .plan-kept .ensures .plans (bandQuery (a .b))
-    (band-right (a .m .now) (a .b) (c .before .if1 .left))
+    let a = c .before .before .before .before .before .before .before .before .args in
+    let s = sound-at (c .before .before .before) in
+    kept-planned (c .before .before .before .before .h .given .0 .0) All (a .b) (a .m .now) s (c .before .find-band .result) (c .before .find-band .ensures) (c .plan-found .ensures)
+    .plans (bandQuery (a .b))
+    (band-right (a .m .now) (a .b) (c .before .before .if1 .left))
     (band-rows (a .m .now) (a .b)) (λ _. refl)
 
 pub plan-band-spec : {M : Type 1} → statement M
@@ -50,5 +49,6 @@ plan-band-spec =
     returns
     (λ c κs. search needs)
     returns-2
-    plan-kept-requires
+    (λ c κs. sound-at (c .before))
+    (λ c κs. search needs)
     returns-3)

@@ -11,6 +11,8 @@ use Rattle.memory.specs.Laws.Held.{sound-held, unsound-held}
 use Rattle.upkeep.specs.Laws.Planned.{query-unsound, query-bad}
 use Rattle.query.specs.Rule.{Fair}
 use Rattle.query.specs.Laws.Calls.{on-bad, on-right, on-rows}
+use Rattle.query.specs.Laws.Plan.{kept-planned}
+use Rattle.query.specs.declared.rule.Rule.the-variants.{OnK}
 use Rattle.query.proofs.plan.plan_on_k.Statement.{statement}
 use Rattle.query.proofs.plan.plan_on_k.Tie as tie
 
@@ -30,17 +32,18 @@ returns-2 c =
     query-bad (onKQuery (a .k)) (a .m .now) (a .lent) (c .nothing2 .ensures) (s .sound)
     (on-bad (a .m .now) (a .k) (⊎-elim (λ w. inl (w .taken)) (λ w. inr (omega (arith, s .dimension, ltb-true _ (a .k) (w .2 .taken)))) (c .before .if1 .came)))
 
-plan-kept-requires : tie.Need-plan-kept-requires
+find-unbeaten-requires : tie.Need-find-unbeaten-requires
 unfolding Fair
-plan-kept-requires c κs = (sound-at (c .before .before .before), c .before .before .if1 .left)
+find-unbeaten-requires c κs = (sound-at (c .before .before .before), c .before .before .if1 .left)
 
 returns-3 : tie.Need-returns-3
 unfolding queryOpens
 returns-3 c =
-    let a = c .before .before .before .before .before .before .before .before .before .args in
-    let s = sound-at (c .before .before .before .before) in
-    c .plan-kept .ensures .plans (onKQuery (a .k))
-    (on-right (a .m .now) (a .k) (c .before .before .before .if1 .left) (omega (arith, s .dimension, ltb-false _ (a .k) (c .before .if2 .left))))
+    let a = c .before .before .before .before .before .before .before .before .before .before .args in
+    let s = sound-at (c .before .before .before .before .before) in
+    kept-planned (c .before .before .before .before .before .before .h .given .0 .0) (OnK (a .k)) 0 (a .m .now) s (c .before .find-unbeaten .result) (c .before .find-unbeaten .ensures) (c .plan-found .ensures)
+    .plans (onKQuery (a .k))
+    (on-right (a .m .now) (a .k) (c .before .before .before .before .if1 .left) (omega (arith, s .dimension, ltb-false _ (a .k) (c .before .before .if2 .left))))
     (on-rows (a .m .now) (a .k)) (λ _. refl)
 
 pub plan-on-k-spec : {M : Type 1} → statement M
@@ -54,5 +57,6 @@ plan-on-k-spec =
     returns
     (λ c κs. search needs)
     returns-2
-    plan-kept-requires
+    find-unbeaten-requires
+    (λ c κs. search needs)
     returns-3)
