@@ -9,7 +9,7 @@ use native.Mathlib.Numerals.{add-one}
 use native.Mathlib.Omega.{arith}
 use lib.Seq.{append-snoc}
 use Rattle.model.specs.Basics.{Each, any, all, rising}
-use Rattle.model.specs.Laws.Bool.{and-left, and-right, and-both, or-false-both, both-ways, byCases}
+use Rattle.model.specs.Laws.Bool.{and-left, and-right, and-both, both-ways, byCases}
 use Rattle.model.specs.Laws.Basics.{each-left, each-right, any-append, all-append}
 use Rattle.promises.specs.Layout.{tab}
 use Rattle.memory.specs.Tests.{allTo, anyTo}
@@ -50,9 +50,6 @@ module _ (p : ℕ → Bool) where
   pub anyTo-suc : (n : ℕ) → anyTo p (suc n) ≡ (anyTo p n || p n)
   unfolding anyTo allTo
   anyTo-suc n = not-and-not (allTo (λ i. not (p i)) n) (p n)
-
-  pub anyTo-more : (n : ℕ) → anyTo p n ≡ false → p n ≡ false → anyTo p (n + 1) ≡ false
-  anyTo-more n h e = ap (anyTo p) (add-one n) ∙ anyTo-suc n ∙ or-false-both (anyTo p n) (p n) h e
 
   pub anyTo-found : (n i : ℕ) → i < n → p i ≡ true → anyTo p n ≡ true
   unfolding anyTo

@@ -6,28 +6,22 @@ use mathlib.Core.Path.{_≡_, sym, ap, _∙_}
 use native.Mathlib.Omega.{arith}
 use lib.ListN.{take}
 use Rattle.zorder.specs.Address.{rowCosts}
-use Rattle.model.specs.Basics.{any, count}
-use Rattle.model.specs.Dominance.{nowhereGreater, somewhereLess, better, dominates, hides}
-use Rattle.model.specs.Lists.{hidden}
-use Rattle.model.specs.Laws.Bool.{byCases, both-ways, not-back}
-use Rattle.model.specs.Laws.Hiding.{dominates-hides, move-hiding}
-use Rattle.line.specs.Line.{movesIn}
+use Rattle.model.specs.Basics.{count}
+use Rattle.model.specs.Dominance.{nowhereGreater, somewhereLess, better, dominates}
+use Rattle.model.specs.Laws.Bool.{byCases, both-ways}
 use Rattle.dominance.specs.Lanes.{Lanes, limit, isFirst}
 use Rattle.dominance.specs.Laws.Lanes.{limits-first}
-use Rattle.promises.specs.Layout.{numberIn, costsIn, moveIn, lineFrom}
+use Rattle.promises.specs.Layout.{numberIn, costsIn, moveIn}
 use Rattle.promises.specs.Run.{Bytes}
 use Rattle.memory.specs.Held.{SoundAt}
 use Rattle.memory.specs.Search.{looks, looksAt, seen, seenAt, fits, None, First}
 use Rattle.memory.specs.Tests.{isListed}
 use Rattle.memory.specs.Laws.Costs.{row-length, words-first, words-small}
-use Rattle.memory.specs.Laws.Held.{held-dimension, held-ordered, held-listed, held-fit-at}
-use Rattle.memory.specs.Laws.Lines.{movesIn-line}
-use Rattle.memory.specs.Laws.Ordered.{ordered-place}
-use Rattle.memory.specs.Laws.Places.{any-tab, anyTo-found}
 use Rattle.memory.specs.declared.search.Among.the-variants as among
 use Rattle.query.specs.Rule.{beats}
 use Rattle.query.specs.Kept.{movesTo, stays, beatsAt}
 use Rattle.query.specs.Laws.Counting.{count-none, count-more, stays-over, stays-within}
+use Rattle.query.specs.Laws.Dominated.{beaten-hidden, beaten-after}
 use Rattle.query.specs.Laws.Counted.{count-passed, stays-before, stays-none}
 use Rattle.query.specs.declared.rule.Rule.the-variants.{All}
 
@@ -107,25 +101,15 @@ module _ (c d : ℕ) (m : List ℕ) (few : d ≤ rowCosts) (b : Bytes m) (i : �
 module _ {c d n : ℕ} {m : List ℕ} (s : SoundAt c d n m) (b : Bytes m) (i : ℕ) (h : i < n) where
   later-dominate-not : None (beatsAt c d All m (moveIn c d m i .costs)) i n
   unfolding beats
-  later-dominate-not j a g = byCases (dominates d (moveIn c d m j .costs) (moveIn c d m i .costs)) (λ e. absurd (against e)) (λ e. e)
-    where
-      against : dominates d (moveIn c d m j .costs) (moveIn c d m i .costs) ≡ true → ⊥
-      against e =
-          let hiding = dominates-hides d (moveIn c d m j) (moveIn c d m i) e in
-          let earlier = move-hiding d c (held-dimension c d n m s) .earlier (moveIn c d m j) (moveIn c d m i) (held-fit-at c d n m s b j g) (held-fit-at c d n m s b i h) hiding in
-          omega (arith, ordered-place c d n m (held-ordered c d n m s) i j g earlier)
+  later-dominate-not j a g =
+      byCases (dominates d (moveIn c d m j .costs) (moveIn c d m i .costs)) (λ e. absurd (omega (arith, beaten-after c d n m s j g b i h e))) (λ e. e)
 
   -- So only earlier moves are counted.
   pub band-stays : (most : ℕ) → stays d All most (movesTo c d n m) (moveIn c d m i .costs) ≡ stays d All most (movesTo c d i m) (moveIn c d m i .costs)
   band-stays most = stays-before c d m All most (moveIn c d m i .costs) i n (omega arith) later-dominate-not
 
   pub listed-stays : (most : ℕ) → isListed c m i ≡ true → stays d All most (movesTo c d n m) (moveIn c d m i .costs) ≡ true
-  unfolding beats hidden
+  unfolding beats
   listed-stays most e =
       stays-none c d m All most (moveIn c d m i .costs) n
-      (λ j _ g. byCases (dominates d (moveIn c d m j .costs) (moveIn c d m i .costs))
-      (λ t. both-ways
-      (ap (any (λ p. hides d p (moveIn c d m i))) (movesIn-line c d n m) ∙ any-tab (moveIn c d m) (λ p. hides d p (moveIn c d m i)) n
-      ∙ anyTo-found (λ k. hides d (moveIn c d m k) (moveIn c d m i)) n j g (dominates-hides d (moveIn c d m j) (moveIn c d m i) t))
-      (not-back (hidden d (movesIn (lineFrom c d n m)) (moveIn c d m i)) (sym (held-listed c d n m s i h) ∙ e)))
-      (λ t. t))
+      (λ j _ g. byCases (dominates d (moveIn c d m j .costs) (moveIn c d m i .costs)) (λ t. both-ways e (beaten-hidden c d n m s j g i h t)) (λ t. t))

@@ -2,7 +2,7 @@
 use Prim.Native.Nat.{ℕ}
 use mathlib.Core.Bool.{Bool}
 use mathlib.Core.List.{List, map}
-use mathlib.Core.Path.{_≡_, refl, sym, ap, _∙_, subst}
+use mathlib.Core.Path.{_≡_, refl, sym, ap, _∙_}
 use Rattle.model.specs.Basics.{select, numbersFrom}
 use Rattle.model.specs.Moves.{Move}
 use Rattle.model.specs.Lists.{listedRows}
@@ -29,10 +29,6 @@ use Rattle.query.specs.declared.rule.Rule.{Rule}
 
 pub sound-readable : (m : List ℕ) → Sound m → Readable (headIn m) m
 sound-readable m s = held-readable (record { size = refl; dimension = refl; count = refl; sound = s })
-
-pub readable-own : (m : List ℕ) {c d n : ℕ} → c ≡ sizeIn m → d ≡ dimensionIn m → n ≡ countIn m → Readable (headIn m) m
-    → Readable (record { size = c; dimension = d; count = n }) m
-readable-own m e f g r = subst (λ (h : Head). Readable h m) (λ i. record { size = sym e i; dimension = sym f i; count = sym g i }) r
 
 pub board-moves : (m : List ℕ) → boardIn m .moves ≡ movesTo (sizeIn m) (dimensionIn m) (countIn m) m
 unfolding boardIn lineIn movesTo
