@@ -1,4 +1,5 @@
-/* The move board: the moves that no other move dominates, equal ones once, in Z-order. Link libdolzhev.a.
+/* The move board: the moves that no other move dominates, equal ones once, in Z-order. Link libdolzhev.a; where functions of
+ * dolzhev_zorder.h, which this header includes, are called, libdolzhev_zorder.a too.
  *
  * The caller lends all memory. No call allocates, blocks, or keeps a state of its own (no thread-local either): what a call
  * does depends on its arguments and the lent bytes alone, and each call ends on every content of the lent memory. Calls on
@@ -20,7 +21,13 @@
  *   count    the rows written, at the start of the lent ones. Rows past them are untouched.
  *   opened   of dolzhev_list the nodes opened; else 0.
  *   A refused call has count and opened zero and alters no lent byte.
- *   8 is given exactly if more rows are needed than lent. */
+ *   8 is given exactly if more rows are needed than lent.
+ *
+ * What it takes
+ *   stack    at most 12 KB in every call; measured, HEADERSTACK.
+ *   time     every call but dolzhev_load judges the whole memory first, and no call remembers what an earlier one saw.
+ *            HEADERTIME docs/BENCHMARK.md has the times.
+ *   linking  memcpy and memset, and no other function. The archive has no data that can be written. */
 #ifndef DOLZHEV_H
 #define DOLZHEV_H
 
