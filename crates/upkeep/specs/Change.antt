@@ -1,7 +1,7 @@
 -- What a change does to the list. `Upkept` says it by the definition: who is in the list of the moves afterwards; the
 -- definitions before it are what the steps compute.
-use Prim.Native.Nat.{ℕ, suc, _<_, _≤_}
-use mathlib.Core.Bool.{Bool, true, false, cond, not, _&&_, _||_}
+use Prim.Native.Nat.{ℕ, suc, _+_, _<_, _≤_}
+use mathlib.Core.Bool.{Bool, true, false, cond, not, _&&_, _||_, Bool·beq}
 use mathlib.Core.Path.{_≡_}
 use mathlib.Core.List.{List, _++_}
 use lib.Dec.{eqb, ltb}
@@ -53,10 +53,9 @@ pub record ComingPlace (c d n : ℕ) (k : Change) (m : List ℕ) (r : ℕ) : Typ
   pub within : r ≤ n
   pub is : k .comes ≡ true → r ≡ placeFor d (asMove (k .coming)) (lineFrom c d n m)
 
--- Who leaves the list and who enters it, by the list of the moves afterwards.
+-- Whose mark changes, and how many leave the list and enter it, by the list of the moves afterwards.
 pub record Upkept (c d n : ℕ) (k : Change) (m : List ℕ) (u : Upkeep) : Type 0 where
-  pub leaving : (i : ℕ) → i < n → inSet (u .leaving) (numberIn c m i) ≡ (isListed c m i && not (stays c d n k m i))
-  pub entering : (i : ℕ) → i < n → inSet (u .entering) (numberIn c m i) ≡ (not (isListed c m i) && stays c d n k m i)
+  pub changed : (i : ℕ) → i < n → inSet (u .changed) (numberIn c m i) ≡ not (Bool·beq (isListed c m i) (stays c d n k m i))
   pub left : u .left ≡ count (λ i. isListed c m i && not (stays c d n k m i)) (numbersFrom 0 n)
   pub entered : u .entered ≡ count (λ i. not (isListed c m i) && stays c d n k m i) (numbersFrom 0 n)
   pub listed : u .listed ≡ comingListed c d n k m
@@ -91,6 +90,12 @@ entersAt c d n k m i = not (isListed c m i) && (not (eqb i (k .goes)) && comesUp
 pub record Passing (c : ℕ) (m : List ℕ) (test : ℕ → Bool) (e : ℕ) (ws : List ℕ) (k : ℕ) : Type 0 where
   pub numbers : (j : ℕ) → inSet ws j ≡ anyTo (λ i. test i && eqb j (numberIn c m i)) e
   pub counts : k ≡ count test (numbersFrom 0 e)
+
+-- What is gathered of the places below e: the numbers of the moves that leave or enter, and how many do each.
+pub record Changing (c d n : ℕ) (k : Change) (m : List ℕ) (e : ℕ) (ws : List ℕ) (out up : ℕ) : Type 0 where
+  pub moves : Passing c m (λ i. leavesAt c d k m i || entersAt c d n k m i) e ws (out + up)
+  pub left : out ≡ count (leavesAt c d k m) (numbersFrom 0 e)
+  pub entered : up ≡ count (entersAt c d n k m) (numbersFrom 0 e)
 
 -- What the steps ask: a move goes, and it is listed.
 pub record GoesListed (h : Head) (k : Change) (m : List ℕ) : Type 0 where

@@ -1,6 +1,7 @@
 -- That the steps of a change compute what the definition says.
 pub mod Places
 pub mod Passing
+pub mod Changing
 pub mod Change
 pub mod Marks
 pub mod Place

@@ -36,8 +36,7 @@ pub record TellsNumbers (h : Head) (numbers : List ℕ) (t : Telling) : Type 0 w
   pub head : t .head ≡ h
   pub place : t .place ≡ 0
   pub mark : t .mark ≡ listed
-  pub leaving : t .upkeep .leaving ≡ numbers
-  pub entering : (k : ℕ) → inSet (t .upkeep .entering) k ≡ false
+  pub changed : t .upkeep .changed ≡ numbers
   pub alone : t .upkeep .listed ≡ false
 
 pub record TellsNothing (t : Telling) : Type 0 where

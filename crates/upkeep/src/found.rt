@@ -43,7 +43,6 @@ pub fn find_listed(m: &[u8], h: Head) -> Found
 pub fn telling_of(head: Head, numbers: [u64; WORDS]) -> Telling
     ensures { λ r. ⌜ spec.TellsNumbers head numbers r ⌝ }
 {
-    let none = empty();
     Telling {
         head,
         place: 0,
@@ -53,8 +52,7 @@ pub fn telling_of(head: Head, numbers: [u64; WORDS]) -> Telling
             costs: [0u16; COSTS],
         },
         upkeep: Upkeep {
-            leaving: numbers,
-            entering: none,
+            changed: numbers,
             left: 0,
             entered: 0,
             listed: false,

@@ -4,6 +4,7 @@ use crate::notice::ROW;
 use crate::notice::row_of;
 use dominance::Move;
 use memory::Head;
+use memory::is_listed;
 use memory::move_at;
 use memory::number_at;
 use numbers::WORDS;
@@ -13,8 +14,9 @@ ghost use Prim.Native.Nat.{_+_, _*_, _≤_, _<_};
 ghost use Rattle.memory.specs.Room.{Readable};
 ghost use Rattle.upkeep.specs.Telling as spec;
 
-// Told are the moves of `upkeep.leaving` with the mark, then those of `upkeep.entering` marked entered, each part in Z-order;
-// where `upkeep.listed`, the coming move stands among the latter, before the move at its place.
+// Told are the moves of `upkeep.changed`: first the listed ones, with the mark, then the others, marked entered, each part in
+// Z-order; a list, whose mark is 0, tells all of them first. Where `upkeep.listed`, the coming move stands among the others,
+// before the move at its place.
 pub struct Telling {
     pub head: Head,
     pub place: usize,
@@ -29,8 +31,8 @@ pub struct Step {
     pub next: usize,
 }
 
-// Positions: the places of the board, for the moves that leave; the places again, for those that enter, with the coming
-// move before its place.
+// Positions: the places of the board, for the first part; the places again, for the second, with the coming move before its
+// place.
 fn place_at(n: usize, place: usize, i: usize) -> usize
     requires { ⌜ (i ≡ n + place → ⊥) ⌝ }
     ensures { λ r. ⌜ r ≡ spec.placeOf n place i ⌝ }
@@ -42,27 +44,31 @@ fn place_at(n: usize, place: usize, i: usize) -> usize
     if k < place { k } else { k - 1 }
 }
 
-fn is_told<'a>(
+fn is_told(
     m: &[u8],
     h: Head,
     place: usize,
+    mark: u16,
     listed: bool,
-    leaving: &'a [u64; WORDS],
-    entering: &'a [u64; WORDS],
+    changed: &[u64; WORDS],
     i: usize,
 ) -> bool
     requires { ⌜ Readable h (now m) × (place ≤ h .count) × (i < 2 * h .count + 1) ⌝ }
-    ensures { λ r. ⌜ r ≡ spec.toldIn h place listed (now (leaving .entry)) (now (entering .entry)) (now (m .entry)) i ⌝ }
+    ensures { λ r. ⌜ r ≡ spec.toldBy h place mark listed (now (changed .entry)) (now (m .entry)) i ⌝ }
 {
     let n = h.count;
     if i == n + place {
         return listed;
     }
     let number = number_at(m, h.size, place_at(n, place, i));
-    if i < n {
-        return has(leaving, number);
+    if !has(changed, number) {
+        return false;
     }
-    has(entering, number)
+    let first = i < n;
+    if mark == 0 {
+        return first;
+    }
+    first == is_listed(m, h.size, number)
 }
 
 fn row_at(m: &[u8], t: Telling, i: usize) -> [u16; ROW]
@@ -91,15 +97,7 @@ pub fn told_next(m: &[u8], t: Telling, i: usize) -> Step
     let end = 2 * h.count + 1;
     let mut j = i;
     while j < end {
-        if is_told(
-            m,
-            h,
-            t.place,
-            t.upkeep.listed,
-            &t.upkeep.leaving,
-            &t.upkeep.entering,
-            j,
-        ) {
+        if is_told(m, h, t.place, t.mark, t.upkeep.listed, &t.upkeep.changed, j) {
             return Step {
                 row: row_at(m, t, j),
                 next: j + 1,

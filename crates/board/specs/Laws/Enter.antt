@@ -38,7 +38,7 @@ use Rattle.board.specs.Laws.Marks.{entering-moves, marks-come}
 use Rattle.board.specs.Laws.Steps.{listed-frame, stored-frame, stored-holds, stored-asked}
 
 module _ {c d n : ℕ} {x : Move} {u : Upkeep} {m m₁ m₂ m₃ : List ℕ} (a : ToEnter c d n x u m) (b : Bytes m)
-    (set : SetMarks c n (u .leaving) (u .entering) m m₁)
+    (set : SetMarks c n (u .changed) m m₁)
     (e₂ : m₂ ≡ setListed c (x .number) (u .listed) m₁)
     (e₃ : m₃ ≡ setCosts c (x .number) (x .costs) m₂) where
   abbrev s : SoundAt c d n m

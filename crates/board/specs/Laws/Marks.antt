@@ -1,6 +1,6 @@
 -- The marks after a change, and the moves that it leaves.
 use Prim.Native.Nat.{ℕ, suc, _<_}
-use mathlib.Core.Bool.{Bool, true, false, cond, not, _&&_}
+use mathlib.Core.Bool.{Bool, true, false, cond, not, _&&_, Bool·beq}
 use mathlib.Core.List.{List, _++_, map, append-nil}
 use mathlib.Core.Logic.{_≢_}
 use mathlib.Core.Path.{_≡_, refl, sym, ap, ap₂, _∙_, subst}
@@ -101,7 +101,7 @@ entering-moves c d n m =
 
 -- ---- the marks
 
-mark-test : (listed stays : Bool) → cond (listed && not stays) false (cond (not listed && stays) true listed) ≡ stays
+mark-test : (listed stays : Bool) → cond (not (Bool·beq listed stays)) (not listed) listed ≡ stays
 mark-test true true = refl
 mark-test true false = refl
 mark-test false true = refl
@@ -114,13 +114,12 @@ module _ {c d n : ℕ} {k : Change} {m : List ℕ} {u : Upkeep} (up : Upkept c d
   abbrev after : List Move
   after = movesAfter d k before
 
-  then-stays : (i : ℕ) → i < n → listedThen c (u .leaving) (u .entering) m i ≡ stays c d n k m i
-  unfolding listedThen isListed moveIn
+  then-stays : (i : ℕ) → i < n → listedThen c (u .changed) m i ≡ stays c d n k m i
+  unfolding listedThen
   then-stays i l =
-      ap₂ (λ (p q : Bool). cond p false (cond q true (isListed c m i))) (up .leaving i l) (up .entering i l)
-      ∙ mark-test (isListed c m i) (stays c d n k m i)
+      ap (λ (p : Bool). cond p (not (isListed c m i)) (isListed c m i)) (up .changed i l) ∙ mark-test (isListed c m i) (stays c d n k m i)
 
-  marks-stay : {m₁ : List ℕ} → SetMarks c n (u .leaving) (u .entering) m m₁ → (i : ℕ) → i < n → eqb (markIn c m₁ (numberIn c m i)) 1 ≡ stays c d n k m i
+  marks-stay : {m₁ : List ℕ} → SetMarks c n (u .changed) m m₁ → (i : ℕ) → i < n → eqb (markIn c m₁ (numberIn c m i)) 1 ≡ stays c d n k m i
   marks-stay set i l = set .marks i l ∙ then-stays i l
 
   -- Marks right at the places of the moves left, and at the coming one's number.
@@ -147,7 +146,7 @@ module _ {c d n : ℕ} {k : Change} {m : List ℕ} {u : Upkeep} (up : Upkept c d
 
 -- Of memory whose marks were set, and whatever else was written afterwards.
 module _ {c d n : ℕ} {k : Change} {m m₁ : List ℕ} {u : Upkeep} (asked : ChangeAsked c d n k m) (up : Upkept c d n k m u)
-    (set : SetMarks c n (u .leaving) (u .entering) m m₁) (m' : List ℕ) where
+    (set : SetMarks c n (u .changed) m m₁) (m' : List ℕ) where
   pub marks-gone : k .comes ≡ false → ((v : ℕ) → v < c → markIn c m' v ≡ markIn c m₁ v) → MarksRight c d m' (movesAfter d k (movesIn (lineFrom c d n m)))
   marks-gone none same =
       marks-right up m'

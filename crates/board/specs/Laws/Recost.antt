@@ -79,7 +79,7 @@ module _ (c d n p : ℕ) (m : List ℕ) (l : p < n) where
   costs-there = costs-board c d n m (numberIn c m p) on-board
 
 module _ {c d n p : ℕ} {x : Move} {u : Upkeep} {m m₁ m₂ : List ℕ} (a : ToRecost c d n p x u m) (b : Bytes m)
-    (set : SetMarks c n (u .leaving) (u .entering) m m₁)
+    (set : SetMarks c n (u .changed) m m₁)
     (e₂ : m₂ ≡ setListed c (x .number) (u .listed) m₁) where
   abbrev s : SoundAt c d n m
   s = a .asked .sound

@@ -21,7 +21,7 @@ use Rattle.board.specs.Laws.Marks.{rest-without, marks-gone}
 use Rattle.board.specs.Laws.Steps.{gone-written, gone-mark, gone-holds, gone-moves}
 
 module _ {c d n p : ℕ} {u : Upkeep} {m m₁ : List ℕ} (a : ToWithdraw c d n p u m) (b : Bytes m)
-    (set : SetMarks c n (u .leaving) (u .entering) m m₁) where
+    (set : SetMarks c n (u .changed) m m₁) where
   abbrev s : SoundAt c d n m
   s = a .asked .sound
 

@@ -2,7 +2,7 @@
 -- coming one does not hide it; a hidden one comes up exactly if no move left hides it, and then the going one was listed
 -- and hid it; the coming one is listed exactly if no move left hides it.
 use Prim.Native.Nat.{ℕ, _<_}
-use mathlib.Core.Bool.{Bool, true, false, not, cond, _&&_, _||_, or-false}
+use mathlib.Core.Bool.{Bool, true, false, not, cond, _&&_, _||_, or-false, Bool·beq}
 use mathlib.Core.List.{List, map, List·Memᴰ, Memᴰ·of-map}
 use mathlib.Core.Path.{_≡_, refl, sym, ap, _∙_, subst}
 use borrow.Author.Tests.{eqb-true, lt-ltb, not-false}
@@ -25,7 +25,7 @@ use Rattle.memory.specs.Tests.{isListed}
 use Rattle.memory.specs.Laws.Lines.{movesIn-line}
 use Rattle.memory.specs.Laws.Held.{held-dimension, held-order, held-listed, held-fit, held-fit-at, held-once}
 use Rattle.numbers.specs.Set.{inSet}
-use Rattle.upkeep.specs.Change.{dropAt, movesAfter, stays, comingListed, goesListed, hiddenByOthers, hiddenByComing, comesUp, leaves, leavesAt, entersAt, Passing, Upkept}
+use Rattle.upkeep.specs.Change.{dropAt, movesAfter, stays, comingListed, goesListed, hiddenByOthers, hiddenByComing, comesUp, leaves, leavesAt, entersAt, Passing, Changing, Upkept}
 use Rattle.upkeep.specs.Laws.Places.{tab-places, anyTo-places, drop-places}
 use Rattle.upkeep.specs.Laws.Passing.{passing-at}
 use Rattle.upkeep.specs.declared.change.Change.{Change}
@@ -51,6 +51,12 @@ enter-test false false true false true q = refl
 enter-test false false true false false q = refl
 enter-test false false false coming true q = refl
 enter-test false false false coming false q = both-ways (q refl refl) refl
+
+change-test : (listed stays : Bool) → ((listed && not stays) || (not listed && stays)) ≡ not (Bool·beq listed stays)
+change-test true true = refl
+change-test true false = refl
+change-test false true = refl
+change-test false false = refl
 
 -- ---- the moves by places
 
@@ -193,13 +199,14 @@ module _ (c d n : ℕ) (k : Change) (m : List ℕ) (s : SoundAt c d n m) (b : By
   count-at : (p q : ℕ → Bool) → ((i : ℕ) → i < n → p i ≡ q i) → count p (numbersFrom 0 n) ≡ count q (numbersFrom 0 n)
   count-at p q same = count-ext p q (numbersFrom 0 n) (each-place (λ i. p i ≡ q i) n same)
 
-  pub upkept : (u : Upkeep) → Passing c m (leavesAt c d k m) n (u .leaving) (u .left) → Passing c m (entersAt c d n k m) n (u .entering) (u .entered)
-      → u .listed ≡ comingListed c d n k m → Upkept c d n k m u
-  upkept u out up e =
+  changes-law : (i : ℕ) → i < n → (leavesAt c d k m i || entersAt c d n k m i) ≡ not (Bool·beq (isListed c m i) (stays c d n k m i))
+  changes-law i h = (λ j. leaves-law i h j || enters-law i h j) ∙ change-test (isListed c m i) (stays c d n k m i)
+
+  pub upkept : (u : Upkeep) → Changing c d n k m n (u .changed) (u .left) (u .entered) → u .listed ≡ comingListed c d n k m → Upkept c d n k m u
+  upkept u found e =
       record {
-        leaving = λ i h. set-at (leavesAt c d k m) out i h ∙ leaves-law i h;
-        entering = λ i h. set-at (entersAt c d n k m) up i h ∙ enters-law i h;
-        left = out .counts ∙ count-at (leavesAt c d k m) (λ i. isListed c m i && not (stays c d n k m i)) leaves-law;
-        entered = up .counts ∙ count-at (entersAt c d n k m) (λ i. not (isListed c m i) && stays c d n k m i) enters-law;
+        changed = λ i h. set-at (λ i. leavesAt c d k m i || entersAt c d n k m i) (found .moves) i h ∙ changes-law i h;
+        left = found .left ∙ count-at (leavesAt c d k m) (λ i. isListed c m i && not (stays c d n k m i)) leaves-law;
+        entered = found .entered ∙ count-at (entersAt c d n k m) (λ i. not (isListed c m i) && stays c d n k m i) enters-law;
         listed = e;
       }

@@ -43,10 +43,10 @@ finds-all c m test n i r e h =
 -- ---- the rows
 
 module _ {h : Head} {numbers : List ℕ} {t : Telling} (s : TellsNumbers h numbers t) where
-  numbers-told : (m : List ℕ) → toldRows t m ≡ rowsAt (h .size) (h .dimension) listed (placesIn (h .size) 0 (h .count) numbers m) m
+  numbers-told : (m : List ℕ) → toldRows t m ≡ rowsAt (h .size) (h .dimension) listed (placesIn 0 (h .count) (λ i. inSet numbers (numberIn (h .size) m i))) m
   numbers-told m =
-      told-first t m (s .entering) (s .alone)
-      ∙ (λ j. rowsAt (s .head j .size) (s .head j .dimension) (s .mark j) (placesIn (s .head j .size) 0 (s .head j .count) (s .leaving j) m) m)
+      told-first t m (s .mark) (s .alone)
+      ∙ (λ j. rowsAt (s .head j .size) (s .head j .dimension) (s .mark j) (placesIn 0 (s .head j .count) (λ i. inSet (s .changed j) (numberIn (s .head j .size) m i))) m)
 
   pub numbers-asked : {m : List ℕ} → SoundAt (h .size) (h .dimension) (h .count) m → TellingAsked t m
   numbers-asked {m} held =
@@ -95,7 +95,7 @@ module _ (h : Head) (test : ℕ → Bool) (m : List ℕ) (r : Found) (f : Finds 
   found-rows t s =
       let all : n - 0 ≡ n = omega arith in
       ap (map resultRow) (numbers-told s m)
-      ∙ row-results c d m (placesIn c 0 n (r .numbers) m)
+      ∙ row-results c d m (placesIn 0 n (λ i. inSet (r .numbers) (numberIn c m i)))
       ∙ ap (λ (k : ℕ). listedRows (map (moveIn c d m) (select (λ i. inSet (r .numbers) (numberIn c m i)) (numbersFrom 0 k)))) all
       ∙ ap (λ (is : List ℕ). listedRows (map (moveIn c d m) is))
       (select-ext (λ i. inSet (r .numbers) (numberIn c m i)) (λ i. test (numberIn c m i)) (numbersFrom 0 n)

@@ -1,8 +1,8 @@
 -- The moves that pass a test, gathered place after place.
-use Prim.Native.Nat.{ℕ, zero, suc, _+_, _≤_, _<_}
+use Prim.Native.Nat.{ℕ, _+_, _≤_, _<_}
 use mathlib.Core.Bool.{Bool, true, false, cond, _&&_, _||_, or-comm}
 use mathlib.Core.List.{List}
-use mathlib.Core.Path.{_≡_, refl, sym, ap, _∙_, subst}
+use mathlib.Core.Path.{_≡_, refl, sym, ap, _∙_}
 use native.Mathlib.Nat.{add-zero}
 use native.Mathlib.Numerals.{add-one}
 use native.Mathlib.Omega.{arith}
@@ -49,12 +49,6 @@ module _ (c : ℕ) (m : List ℕ) (test : ℕ → Bool) where
 
     pub passing-passes : test i ≡ false → ws' ≡ ws → k' ≡ k → Passing c m test (i + 1) ws' k'
     passing-passes e w f = more i h e (λ j. ap (λ (l : List ℕ). inSet l j) w) (f ∙ sym (add-zero k))
-
-  -- Where no place passes the set stays empty.
-  pub passing-idle : (n : ℕ) {ws : List ℕ} {k : ℕ} → Passing c m test 0 ws k → ((i : ℕ) → i < n → test i ≡ false) → Passing c m test n ws k
-  passing-idle zero h e = h
-  passing-idle (suc n) {ws} {k} h e =
-      subst (λ (j : ℕ). Passing c m test j ws k) (add-one n) (passing-passes n (passing-idle n h (λ i l. e i (omega arith))) (e n (omega arith)) refl refl)
 
   -- Where moves with the number of place i pass only if it does, its number is among them exactly if it passes.
   pub passing-at : {n : ℕ} {ws : List ℕ} {k : ℕ} → Passing c m test n ws k → (i : ℕ) → i < n

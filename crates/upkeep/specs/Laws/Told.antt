@@ -1,6 +1,6 @@
 -- What `tell` writes is the notice of the change, by the lists before and after it.
 use Prim.Native.Nat.{ℕ, zero, suc, _+_, _-_, _<_, _≤_}
-use mathlib.Core.Bool.{Bool, true, false, not, cond, _&&_}
+use mathlib.Core.Bool.{Bool, true, false, not, cond, _&&_, Bool·beq}
 use mathlib.Core.List.{List, [], _∷_, _++_, map, map-append, List·Memᴰ, List·Memᴰ·head, List·Memᴰ·tail, Memᴰ·map, Memᴰ·of-map}
 use mathlib.Core.Logic.{⊎-elim}
 use mathlib.Core.Path.{_≡_, refl, sym, ap, ap₂, _∙_, subst}
@@ -23,7 +23,7 @@ use Rattle.model.specs.Laws.Skyline.{skyline-mem}
 use Rattle.model.specs.Laws.Notice.{among, gone, among-mem, notice-rows}
 use Rattle.line.specs.Line.{Placed, none, movesIn}
 use Rattle.line.specs.Enter.{placeFor}
-use Rattle.promises.specs.Layout.{numberIn, moveIn, placedIn, lineFrom}
+use Rattle.promises.specs.Layout.{moveIn, placedIn, lineFrom}
 use Rattle.promises.specs.Answers.{resultRow}
 use Rattle.promises.specs.Run.{Bytes}
 use Rattle.dominance.specs.Move.{asMove}
@@ -31,20 +31,31 @@ use Rattle.memory.specs.Held.{SoundAt}
 use Rattle.memory.specs.Tests.{isListed}
 use Rattle.memory.specs.Laws.Lines.{getD-line, length-line}
 use Rattle.memory.specs.Laws.Held.{held-dimension, held-order, held-listed, held-fit, held-fit-at, held-once}
-use Rattle.numbers.specs.Set.{inSet}
 use Rattle.upkeep.specs.Change.{dropAt, movesAfter, stays, ChangeAsked, Upkept}
-use Rattle.upkeep.specs.Notice.{moveNumbers, placesIn, rowsAt, noticeRows}
+use Rattle.upkeep.specs.Notice.{moveNumbers, toldIn, placesIn, rowsAt, noticeRows}
 use Rattle.upkeep.specs.Laws.Change.{line-places, rest-places}
 use Rattle.upkeep.specs.Laws.Place.{place-low, place-high}
 use Rattle.upkeep.specs.Laws.Notified.{Places, stay, left-places, entered-after, entered-rest, entered-coming}
 use Rattle.upkeep.specs.declared.change.Change.{Change}
 use Rattle.upkeep.specs.declared.change.Upkeep.{Upkeep}
 
--- A move of the numbers 0 to n-1 is below n.
+left-test : (listed stays : Bool) → (not (Bool·beq listed stays) && Bool·beq true listed) ≡ (listed && not stays)
+left-test true true = refl
+left-test true false = refl
+left-test false true = refl
+left-test false false = refl
+
+entered-test : (listed stays : Bool) → (not (Bool·beq listed stays) && Bool·beq false listed) ≡ (not listed && stays)
+entered-test true true = refl
+entered-test true false = refl
+entered-test false true = refl
+entered-test false false = refl
+
 rising-nil : (lt : Move → Move → Bool) → rising lt [] ≡ true
 unfolding rising
 rising-nil lt = refl
 
+-- A place of the numbers 0 to n-1 is below n.
 place-below : {i : ℕ} (n : ℕ) → List·Memᴰ i (numbersFrom 0 n) → i < n
 place-below n k = each-mem (λ i. i < n) (each-place (λ i. i < n) n (λ i h. h)) k
 
@@ -234,28 +245,34 @@ module _ (c d n : ℕ) (k : Change) (m : List ℕ) (s : SoundAt c d n m) (b : By
         ∙ byCases (k .comes) coming-part plain-part
 
     module _ (u : Upkeep) (v : Upkept c d n k m u) where
-      chosen-places : (ws : List ℕ) (t : ℕ → Bool) → ((i : ℕ) → i < n → inSet ws (numberIn c m i) ≡ t i)
-          → (i j : ℕ) → i ≤ j → j ≤ n → placesIn c i j ws m ≡ select t (numbersFrom i (j - i))
-      unfolding placesIn
-      chosen-places ws t h i j l r =
-          select-ext (λ i. inSet ws (numberIn c m i)) t (numbersFrom i (j - i))
-          (each-numbers (λ i. inSet ws (numberIn c m i) ≡ t i) i (j - i) (λ q _ g. h q (omega arith)))
+      abbrev part : Bool → ℕ → Bool
+      part = toldIn c left (u .changed) m
 
-      left-chosen : placesIn c 0 n (u .leaving) m ≡ select (λ i. isListed c m i && not (stayAt i)) (numbersFrom 0 n)
-      unfolding stays stay
+      chosen-places : (p q : ℕ → Bool) → ((i : ℕ) → i < n → p i ≡ q i) → (i j : ℕ) → i ≤ j → j ≤ n → placesIn i j p ≡ select q (numbersFrom i (j - i))
+      unfolding placesIn
+      chosen-places p q h i j l r =
+          select-ext p q (numbersFrom i (j - i)) (each-numbers (λ i. p i ≡ q i) i (j - i) (λ k _ g. h k (omega arith)))
+
+      part-left : (i : ℕ) → i < n → part true i ≡ (isListed c m i && not (stayAt i))
+      unfolding toldIn stays stay
+      part-left i h = ap (λ (t : Bool). t && Bool·beq true (isListed c m i)) (v .changed i h) ∙ left-test (isListed c m i) (stays c d n k m i)
+
+      part-entered : (i : ℕ) → i < n → part false i ≡ enters i
+      unfolding toldIn stays stay
+      part-entered i h = ap (λ (t : Bool). t && Bool·beq false (isListed c m i)) (v .changed i h) ∙ entered-test (isListed c m i) (stays c d n k m i)
+
+      left-chosen : placesIn 0 n (part true) ≡ select (λ i. isListed c m i && not (stayAt i)) (numbersFrom 0 n)
       left-chosen =
-          chosen-places (u .leaving) (λ i. isListed c m i && not (stayAt i)) (v .leaving) 0 n (omega arith) (omega arith)
+          chosen-places (part true) (λ i. isListed c m i && not (stayAt i)) part-left 0 n (omega arith) (omega arith)
           ∙ ap (λ (q : ℕ). select (λ i. isListed c m i && not (stayAt i)) (numbersFrom 0 q)) (sub-zero n)
 
-      first-chosen : placesIn c 0 p (u .entering) m ≡ select enters (numbersFrom 0 p)
-      unfolding stays stay
+      first-chosen : placesIn 0 p (part false) ≡ select enters (numbersFrom 0 p)
       first-chosen =
-          chosen-places (u .entering) enters (v .entering) 0 p (omega arith) f
+          chosen-places (part false) enters part-entered 0 p (omega arith) f
           ∙ ap (λ (q : ℕ). select enters (numbersFrom 0 q)) (sub-zero p)
 
-      last-chosen : placesIn c p n (u .entering) m ≡ select enters (numbersFrom p (n - p))
-      unfolding stays stay
-      last-chosen = chosen-places (u .entering) enters (v .entering) p n f (omega arith)
+      last-chosen : placesIn p n (part false) ≡ select enters (numbersFrom p (n - p))
+      last-chosen = chosen-places (part false) enters part-entered p n f (omega arith)
 
       rows-told : (mark : ℕ) (js : List ℕ) → map resultRow (rowsAt c d mark js m) ≡ map (rowOf mark) (map (moveIn c d m) js)
       unfolding rowsAt resultRow moveNumbers rowOf
@@ -270,9 +287,9 @@ module _ (c d n : ℕ) (k : Change) (m : List ℕ) (s : SoundAt c d n m) (b : By
       pub notice-told : map resultRow (noticeRows c d n p x u m) ≡ noticeOf (skyline d before) (skyline d after)
       unfolding noticeRows
       notice-told =
-          let ls = placesIn c 0 n (u .leaving) m in
-          let es = placesIn c 0 p (u .entering) m in
-          let fs = placesIn c p n (u .entering) m in
+          let ls = placesIn 0 n (part true) in
+          let es = placesIn 0 p (part false) in
+          let fs = placesIn p n (part false) in
           let own : List (List ℕ) = cond (u .listed) (moveNumbers entered x ∷ []) [] in
           map-append resultRow (rowsAt c d left ls m) (rowsAt c d entered es m ++ (own ++ rowsAt c d entered fs m))
           ∙ ap₂ _++_
@@ -289,11 +306,11 @@ module _ (c d n : ℕ) (k : Change) (m : List ℕ) (s : SoundAt c d n m) (b : By
 
       -- ---- how many rows it has
 
-      left-count : u .left ≡ length (placesIn c 0 n (u .leaving) m)
+      left-count : u .left ≡ length (placesIn 0 n (part true))
       unfolding count stays stay
       left-count = v .left ∙ ap length (sym left-chosen)
 
-      entered-count : u .entered ≡ length (placesIn c 0 p (u .entering) m) + length (placesIn c p n (u .entering) m)
+      entered-count : u .entered ≡ length (placesIn 0 p (part false)) + length (placesIn p n (part false))
       unfolding count stays stay
       entered-count =
           v .entered ∙ ap (λ (js : List ℕ). length (select enters js)) (whole p f)
@@ -312,19 +329,19 @@ module _ (c d n : ℕ) (k : Change) (m : List ℕ) (s : SoundAt c d n m) (b : By
       pub notice-count : (y : Move) → length (noticeRows c d n p y u m) ≡ u .left + u .entered + cond (u .listed) 1 0
       unfolding noticeRows
       notice-count y =
-          let ls = rowsAt c d left (placesIn c 0 n (u .leaving) m) m in
-          let es = rowsAt c d entered (placesIn c 0 p (u .entering) m) m in
+          let ls = rowsAt c d left (placesIn 0 n (part true)) m in
+          let es = rowsAt c d entered (placesIn 0 p (part false)) m in
           let own : List (List ℕ) = cond (u .listed) (moveNumbers entered y ∷ []) [] in
-          let fs = rowsAt c d entered (placesIn c p n (u .entering) m) m in
+          let fs = rowsAt c d entered (placesIn p n (part false)) m in
           omega (
             arith,
             length-append ls (es ++ (own ++ fs)),
             length-append es (own ++ fs),
             length-append own fs,
             coming-count (u .listed) y,
-            rows-count left (placesIn c 0 n (u .leaving) m),
-            rows-count entered (placesIn c 0 p (u .entering) m),
-            rows-count entered (placesIn c p n (u .entering) m),
+            rows-count left (placesIn 0 n (part true)),
+            rows-count entered (placesIn 0 p (part false)),
+            rows-count entered (placesIn p n (part false)),
             left-count,
             entered-count,
           )

@@ -25,23 +25,23 @@ loop-holds : tie.Need-loop-holds Inv-loop μ-loop
 loop-holds c = (refl, refl)
 
 is-told-requires : tie.Need-is-told-requires Inv-loop μ-loop
-is-told-requires c κs = let asked = c .before .before .before .before .before .before .before .before .pre in (asked .readable, asked .place, omega arith)
+is-told-requires c κs = let asked = c .before .before .before .before .before .before .before .pre in (asked .readable, asked .place, omega arith)
 
 row-at-requires : tie.Need-row-at-requires Inv-loop μ-loop
-row-at-requires c κs = (c .before .before .before .before .before .before .before .before .before .before .pre, omega arith)
+row-at-requires c κs = (c .before .before .before .before .before .before .before .before .before .pre, omega arith)
 
 returns : tie.Need-returns Inv-loop μ-loop
 returns c =
-    let a = c .before .before .before .before .before .before .before .before .before .before .before .args in
-    let own = c .before .before .before .before .before .before .before .loop in
+    let a = c .before .before .before .before .before .before .before .before .before .before .args in
+    let own = c .before .before .before .before .before .before .loop in
     let here = sym (own .inv .1) ∙ from-told (a .t2) (a .m .now) (own .j) (omega arith) (sym (c .before .before .is-told .ensures) ∙ c .before .if1 .taken) in
     let next = next-told (a .t2) (a .m .now) (a .i) here in
     (c .row-at .ensures ∙ sym (next .0), add-one (own .j) ∙ sym (next .1))
 
 loop-again : tie.Need-loop-again Inv-loop μ-loop
 loop-again c =
-    let a = c .before .before .before .before .before .before .before .before .before .before .args in
-    let own = c .before .before .before .before .before .before .loop in (
+    let a = c .before .before .before .before .before .before .before .before .before .args in
+    let own = c .before .before .before .before .before .loop in (
       own .inv .0,
       ap (toldFrom (a .t2) (a .m .now)) (add-one (own .j))
           ∙ sym (from-other (a .t2) (a .m .now) (own .j) (omega arith) (sym (c .before .is-told .ensures) ∙ c .if1 .left))
