@@ -63,7 +63,7 @@ pub record Corners (a : Among) (c : ℕ) (m : List ℕ) (n : ℕ) (corners : Lis
 abbrev pub ListedCorners : Head → List ℕ → ℕ → List (List ℕ) → Type 0
 ListedCorners h = Corners Listed (h .size)
 
--- A corner with the move at place i.
-pub record CornerWith (a : Among) (c : ℕ) (m : List ℕ) (i : ℕ) (low r : List ℕ) : Type 0 where
+-- A corner with the moves from place i up to place e.
+pub record CornerWith (a : Among) (c : ℕ) (m : List ℕ) (i e : ℕ) (low r : List ℕ) : Type 0 where
   pub old : Below r low
-  pub new : looksAt a c m i ≡ true → Below r (seenAt a c m i)
+  pub new : (k : ℕ) → i ≤ k → k < e → looksAt a c m k ≡ true → Below r (seenAt a c m k)

@@ -81,15 +81,46 @@ fn looks_at(m: &[u8], h: Head, i: usize, among: Among) -> bool
     looks(m, h.size, number_at(m, h.size, i), among)
 }
 
-// The corner of a run with the move at place i, if the search looks at it.
+// A corner with the move at place i, if the search looks at it.
 pub fn corner_with(m: &[u8], h: Head, i: usize, among: Among, low: [u16; COSTS]) -> [u16; COSTS]
     requires { ⌜ Readable h (now m) × (i < h .count) ⌝ }
-    ensures { λ r. ⌜ spec.CornerWith among (h .size) (now (m .entry)) i low r ⌝ }
+    ensures { λ r. ⌜ spec.CornerWith among (h .size) (now (m .entry)) i (i + 1) low r ⌝ }
 {
     if looks_at(m, h, i, among) {
         return least(low, seen_at(m, h, i, among));
     }
     low
+}
+
+// A corner with the moves from place i up to `to`: kept in registers until the run is through.
+fn run_corner(
+    m: &[u8],
+    h: Head,
+    i: usize,
+    to: usize,
+    among: Among,
+    low: [u16; COSTS],
+) -> [u16; COSTS]
+    requires { ⌜ Readable h (now m) × (i ≤ to) × (to ≤ h .count) ⌝ }
+    ensures { λ r. ⌜ spec.CornerWith among (h .size) (now (m .entry)) i to low r ⌝ }
+{
+    let mut corner = low;
+    let mut j = i;
+    while j < to {
+        let lower = corner_with(m, h, j, among, corner);
+        corner = lower;
+        j += 1;
+    }
+    corner
+}
+
+// Where the run of place i ends, or `to` if that is before.
+fn run_end(i: usize, to: usize) -> usize
+    requires { ⌜ (i < to) × (to ≤ 4096) ⌝ }
+    ensures { λ r. ⌜ (i < r) × (r ≤ to) × (r ≤ 64 * (i / 64) + 64) ⌝ }
+{
+    let end = RUN * (i / RUN) + RUN;
+    if end < to { end } else { to }
 }
 
 pub fn corners_of(m: &[u8], h: Head, among: Among) -> [[u16; COSTS]; RUNS]
@@ -100,9 +131,10 @@ pub fn corners_of(m: &[u8], h: Head, among: Among) -> [[u16; COSTS]; RUNS]
     let mut corners = [[65535u16; COSTS]; RUNS];
     let mut i = 0;
     while i < n {
+        let e = run_end(i, n);
         let low = corners[i / RUN];
-        corners[i / RUN] = corner_with(m, h, i, among, low);
-        i += 1;
+        corners[i / RUN] = run_corner(m, h, i, e, among, low);
+        i = e;
     }
     corners
 }
@@ -131,15 +163,6 @@ fn within(m: &[u8], h: Head, i: usize, to: usize, among: Among, q: [u16; COSTS])
         j += 1;
     }
     j
-}
-
-// Where the run of place i ends, or `to` if that is before.
-fn run_end(i: usize, to: usize) -> usize
-    requires { ⌜ (i < to) × (to ≤ 4096) ⌝ }
-    ensures { λ r. ⌜ (i < r) × (r ≤ to) × (r ≤ 64 * (i / 64) + 64) ⌝ }
-{
-    let end = RUN * (i / RUN) + RUN;
-    if end < to { end } else { to }
 }
 
 // The same as `within`, run by run.

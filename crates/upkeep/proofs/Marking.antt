@@ -148,13 +148,13 @@ module _ (h : Head) (m₀ m : List ℕ) (i : ℕ) (corners : List (List ℕ)) (r
     stored-frame =
         frame-trans (w .marked .frame) (subst (MarksOnly (h .size) m) (sym stored) (setListed-marks (h .size) k m (omega (arith, below)) (not (ltb hider i))))
 
-    pub marking-more : (r : List ℕ) → CornerWith Listed (h .size) m' i (getD corners (i / 64) []) r → Marking h m₀ m' (i + 1) (set corners (i / 64) r)
+    pub marking-more : (r : List ℕ) → CornerWith Listed (h .size) m' i (i + 1) (getD corners (i / 64) []) r → Marking h m₀ m' (i + 1) (set corners (i / 64) r)
     marking-more r corner = record {
       marked =
           subst (Marked (h .size) (h .dimension) (i + 1) m₀) (sym stored)
           (marked-more (h .size) (h .dimension) i m₀ m (room-over (h .size) (w .marked .frame) (readable .room)) (omega (arith, readable .rows)) below others (w .marked) k (ltb hider i) number (sym hidden));
       corners =
-          corners-more i corners r (omega (arith, readable .rows, readable .room))
+          corners-more i (i + 1) corners r (omega (arith, readable .rows, readable .room)) (omega arith)
           (subst (λ (l : List ℕ). ListedCorners h l i corners) (sym stored)
           (corners-kept (h .size) i k m (not (ltb hider i)) corners (omega (arith, readable .rows)) (omega (arith, below)) (λ j l e. others j l (e ∙ number)) (w .corners)))
           corner;

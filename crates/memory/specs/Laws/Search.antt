@@ -109,37 +109,55 @@ module _ {a : Among} {c : ℕ} {m : List ℕ} where
   pub corners-fewer : {n i : ℕ} {corners : List (List ℕ)} → i ≤ n → Corners a c m n corners → Corners a c m i corners
   corners-fewer few h = record { runs = h .runs; below = λ k l. h .below k (omega arith) }
 
-  -- The corner of i's run becomes r: a turn of every loop that keeps corners.
-  pub corners-more : (i : ℕ) (corners : List (List ℕ)) (r : List ℕ) → i / 64 < 64 → Corners a c m i corners
-      → CornerWith a c m i (getD corners (i / 64) []) r → Corners a c m (i + 1) (set corners (i / 64) r)
-  corners-more i corners r small h w = record {
+  -- The corner of i's run becomes r, with the moves from place i up to place e: a turn of every loop that keeps corners.
+  pub corners-more : (i e : ℕ) (corners : List (List ℕ)) (r : List ℕ) → i / 64 < 64 → e ≤ 64 * (i / 64) + 64 → Corners a c m i corners
+      → CornerWith a c m i e (getD corners (i / 64) []) r → Corners a c m e (set corners (i / 64) r)
+  corners-more i e corners r small end h w = record {
     runs = length-set corners (i / 64) r ∙ h .runs;
-    below = λ k l t. go k l t (ℕ-discrete k i) (ℕ-discrete (k / 64) (i / 64));
+    below = λ k l t. go k l t (decLt k i) (ℕ-discrete (k / 64) (i / 64));
   }
     where
       here : (n : ℕ) → n ≡ i / 64 → getD (set corners (i / 64) r) n [] ≡ r
       here n e = ap (λ (j : ℕ). getD (set corners (i / 64) r) j []) e ∙ getD-set-same corners (i / 64) r [] (omega (arith, h .runs))
 
-      go : (k : ℕ) → k < i + 1 → looksAt a c m k ≡ true → Dec (k ≡ i) → Dec (k / 64 ≡ i / 64) → Below (getD (set corners (i / 64) r) (k / 64) []) (seenAt a c m k)
-      go k l t (yes same) e =
-          subst (λ (y : List ℕ). Below y (seenAt a c m k)) (sym (here (k / 64) (ap (λ (n : ℕ). n / 64) same)))
-          (subst (λ (n : ℕ). Below r (seenAt a c m n)) (sym same) (w .new (ap (looksAt a c m) (sym same) ∙ t)))
-      go k l t (no other) (yes run) =
+      go : (k : ℕ) → k < e → looksAt a c m k ≡ true → Dec (k < i) → Dec (k / 64 ≡ i / 64) → Below (getD (set corners (i / 64) r) (k / 64) []) (seenAt a c m k)
+      go k l t (no later) run =
+          let same : k / 64 ≡ i / 64 = omega arith in
+          subst (λ (y : List ℕ). Below y (seenAt a c m k)) (sym (here (k / 64) same)) (w .new k (omega arith) l t)
+      go k l t (yes before) (yes run) =
           subst (λ (y : List ℕ). Below y (seenAt a c m k)) (sym (here (k / 64) run))
-          (λ j. omega (arith, w .old j, subst (λ (n : ℕ). Below (getD corners n []) (seenAt a c m k)) run (h .below k (omega arith) t) j))
-      go k l t (no other) (no run) =
-          subst (λ (y : List ℕ). Below y (seenAt a c m k)) (sym (getD-set-other corners (i / 64) (k / 64) r [] run)) (h .below k (omega arith) t)
+          (λ j. omega (arith, w .old j, subst (λ (n : ℕ). Below (getD corners n []) (seenAt a c m k)) run (h .below k before t) j))
+      go k l t (yes before) (no run) =
+          subst (λ (y : List ℕ). Below y (seenAt a c m k)) (sym (getD-set-other corners (i / 64) (k / 64) r [] run)) (h .below k before t)
+
+module _ {a : Among} {c : ℕ} {m : List ℕ} where
+  pub corner-none : (i : ℕ) (low : List ℕ) → CornerWith a c m i i low low
+  corner-none i low = record { old = λ k. omega arith; new = λ k l g. absurd (omega arith) }
+
+  pub corner-join : (i j e : ℕ) (low p r : List ℕ) → CornerWith a c m i j low p → CornerWith a c m j e p r → CornerWith a c m i e low r
+  corner-join i j e low p r v w = record { old = λ k. omega (arith, v .old k, w .old k); new = λ k l g t. go k l g t (decLt k j) }
+    where
+      go : (k : ℕ) → i ≤ k → k < e → looksAt a c m k ≡ true → Dec (k < j) → Below r (seenAt a c m k)
+      go k l g t (yes before) = λ n. omega (arith, w .old n, v .new k l before t n)
+      go k l g t (no after) = w .new k (omega arith) g t
 
 module _ (a : Among) (c : ℕ) (m : List ℕ) (i : ℕ) (low : List ℕ) where
-  pub corner-same : looksAt a c m i ≡ false → CornerWith a c m i low low
-  corner-same e = record { old = λ k. omega arith; new = λ t. both-ways t e }
-
-  pub corner-least : (r : List ℕ) → Lanes (lesser low (seenAt a c m i)) r → CornerWith a c m i low r
-  corner-least r h = record { old = λ k. at k (decLt k rowCosts) .0; new = λ t k. at k (decLt k rowCosts) .1 }
+  -- One place.
+  corner-at : (r : List ℕ) → Below r low → (looksAt a c m i ≡ true → Below r (seenAt a c m i)) → CornerWith a c m i (i + 1) low r
+  corner-at r old new = record { old = old; new = λ k l g. at k (omega arith) }
     where
-      at : (k : ℕ) → Dec (k < rowCosts) → (getD r k 0 ≤ getD low k 0) × (getD r k 0 ≤ getD (seenAt a c m i) k 0)
-      at k (yes l) = (omega (arith, h .holds k l, lesser-below low (seenAt a c m i) k), omega (arith, h .holds k l, lesser-below low (seenAt a c m i) k))
-      at k (no l) =
+      at : (k : ℕ) → k ≡ i → looksAt a c m k ≡ true → Below r (seenAt a c m k)
+      at k e t = subst (λ (n : ℕ). Below r (seenAt a c m n)) (sym e) (new (ap (looksAt a c m) (sym e) ∙ t))
+
+  pub corner-same : looksAt a c m i ≡ false → CornerWith a c m i (i + 1) low low
+  corner-same e = corner-at low (λ k. omega arith) (λ t. both-ways t e)
+
+  pub corner-least : (r : List ℕ) → Lanes (lesser low (seenAt a c m i)) r → CornerWith a c m i (i + 1) low r
+  corner-least r h = corner-at r (λ k. below k (decLt k rowCosts) .0) (λ t k. below k (decLt k rowCosts) .1)
+    where
+      below : (k : ℕ) → Dec (k < rowCosts) → (getD r k 0 ≤ getD low k 0) × (getD r k 0 ≤ getD (seenAt a c m i) k 0)
+      below k (yes l) = (omega (arith, h .holds k l, lesser-below low (seenAt a c m i) k), omega (arith, h .holds k l, lesser-below low (seenAt a c m i) k))
+      below k (no l) =
           let past : getD r k 0 ≡ 0 = List·getD-eq-default r 0 {n = k} (omega (arith, h .wide)) in
           (omega arith, omega arith)
 

@@ -1,6 +1,6 @@
 -- `marks::marks_right` meets its contract. The loop's invariant: the marks passed are right, and the corners are those of the
 -- listed moves passed. Assumes nothing.
-use Prim.Native.Nat.{ℕ, _-_, _≤_}
+use Prim.Native.Nat.{ℕ, _+_, _-_, _≤_}
 use mathlib.Core.Bool.{true}
 use mathlib.Core.Path.{_≡_, refl, sym, _∙_, subst}
 use native.Mathlib.Omega.{arith}
@@ -57,8 +57,8 @@ loop-again c =
     let hider = c .before .before .before .before .before .before .hider-before in
     let listed = listed-at (a .h .size) (a .m .now) (own .i) (number .result) (number .ensures) ∙ sym (c .before .before .before .before .is-listed .ensures) in (
       omega (arith, own .inv, c .before .before .before .before .before .before .before .before .loop-test .taken),
-      corners-more (own .i) (own .corners) (c .before .corner-with .result)
-          (omega (arith, c .before .before .before .before .before .before .before .before .loop-test .taken, start .pre .0 .rows, start .pre .0 .room)) (own .inv .1) (c .before .corner-with .ensures),
+      corners-more (own .i) (own .i + 1) (own .corners) (c .before .corner-with .result)
+          (omega (arith, c .before .before .before .before .before .before .before .before .loop-test .taken, start .pre .0 .rows, start .pre .0 .room)) (omega arith) (own .inv .1) (c .before .corner-with .ensures),
       marks-more (a .h .size) (a .h .dimension) (a .m .now) (own .i) (own .inv .2) (c .before .before .before .before .is-listed .result) (ltb (hider .result) (own .i)) listed (hider .ensures)
           (c .before .before .before .if1 .left),
     )

@@ -16,14 +16,18 @@ abbrev μ-loop : tie.MeasureT-loop
 loop-holds : tie.Need-loop-holds Inv-loop μ-loop
 loop-holds c = (omega arith, corners-none _ refl)
 
-corner-with-requires : tie.Need-corner-with-requires Inv-loop μ-loop
-corner-with-requires c κs = (c .before .before .before .before .pre, omega arith)
+run-end-requires : tie.Need-run-end-requires Inv-loop μ-loop
+run-end-requires c κs = let asked = c .before .before .before .pre in omega (arith, asked .rows, asked .room)
+
+run-corner-requires : tie.Need-run-corner-requires Inv-loop μ-loop
+run-corner-requires c κs = (c .before .before .before .before .before .pre, omega arith, omega arith)
 
 loop-again : tie.Need-loop-again Inv-loop μ-loop
 loop-again c =
-    let own = c .before .before .before .loop in
-    let asked = c .before .before .before .before .before .pre in
-    (omega arith, corners-more (own .i) (own .corners) (c .corner-with .result) (omega (arith, asked .rows, asked .room)) (own .inv .1) (c .corner-with .ensures))
+    let own = c .before .before .before .before .loop in
+    let asked = c .before .before .before .before .before .before .pre in
+    let e = c .before .before .run-end in
+    (omega arith, corners-more (own .i) (e .result) (own .corners) (c .run-corner .result) (omega (arith, asked .rows, asked .room)) (e .ensures .2) (own .inv .1) (c .run-corner .ensures))
 
 returns : tie.Need-returns Inv-loop μ-loop
 returns c =
@@ -39,12 +43,12 @@ corners-of-spec =
     Inv-loop
     μ-loop
     loop-holds
-    (λ c. let asked = c .before .before .before .pre in omega (arith, asked .rows, asked .room))
-    (λ c. let asked = c .before .before .before .pre in omega (arith, asked .rows, asked .room))
-    corner-with-requires
-    (λ c. let asked = c .before .before .before .before .before .pre in omega (arith, asked .rows, asked .room))
-    (λ c. let asked = c .before .before .before .before .before .pre in omega (arith, asked .rows, asked .room))
-    (λ c. let asked = c .before .before .before .before .before .pre in omega (arith, asked .rows, asked .room))
+    run-end-requires
+    (λ c. let asked = c .before .before .before .before .pre in omega (arith, asked .rows, asked .room))
+    (λ c. let asked = c .before .before .before .before .pre in omega (arith, asked .rows, asked .room))
+    run-corner-requires
+    (λ c. let asked = c .before .before .before .before .before .before .pre in omega (arith, asked .rows, asked .room))
+    (λ c. let asked = c .before .before .before .before .before .before .pre in omega (arith, asked .rows, asked .room))
     (λ c. omega arith)
     loop-again
     returns)
