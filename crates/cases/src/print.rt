@@ -6,6 +6,7 @@ use promises::number_of;
 use upkeep::ROW;
 use upkeep::Telling;
 use upkeep::told_next;
+use upkeep::told_of;
 ghost use Prim.Native.Nat.{_<_};
 ghost use Rattle.upkeep.specs.Telling.{TellingAsked};
 
@@ -37,10 +38,11 @@ pub fn put_row(r: [u16; ROW]) {
 pub fn put_rows(m: &[u8], t: Telling, count: usize)
     requires { ⌜ (0 < count → TellingAsked t (now m)) ⌝ }
 {
+    let told = told_of(t);
     let mut at = 0;
     let mut i = 0;
     while i < count {
-        let step = told_next(m, t, at);
+        let step = told_next(m, told, &t.upkeep.changed, at);
         let row = step.row;
         put_row(row);
         at = step.next;

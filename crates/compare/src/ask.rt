@@ -16,6 +16,7 @@ use promises::number_of;
 use upkeep::Plan;
 use upkeep::Telling;
 use upkeep::told_next;
+use upkeep::told_of;
 use zorder::COSTS;
 ghost use Prim.Native.Nat.{_<_, _≤_};
 ghost use Rattle.upkeep.specs.Telling.{TellingAsked};
@@ -53,11 +54,12 @@ fn hear(
 ) -> Plain
     requires { ⌜ (0 < count → TellingAsked telling (now m)) ⌝ }
 {
+    let rest = told_of(telling);
     let mut said = told;
     let mut at = 0;
     let mut i = 0;
     while i < count {
-        let step = told_next(m, telling, at);
+        let step = told_next(m, rest, &telling.upkeep.changed, at);
         let r = step.row;
         said = heard(t, said, i, r, listens);
         at = step.next;

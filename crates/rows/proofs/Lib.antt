@@ -1,3 +1,4 @@
 -- What the walks share.
 pub mod Walk
 pub mod Lent
+pub mod Words

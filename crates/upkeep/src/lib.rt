@@ -22,4 +22,6 @@ pub use plan::nothing;
 pub use plan::plan_found;
 pub use telling::Step;
 pub use telling::Telling;
+pub use telling::Told;
 pub use telling::told_next;
+pub use telling::told_of;

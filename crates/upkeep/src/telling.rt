@@ -25,10 +25,33 @@ pub struct Telling {
     pub upkeep: Upkeep,
 }
 
+// A telling without its set, which goes by reference: it would be copied for each row.
+pub struct Told {
+    pub head: Head,
+    pub place: usize,
+    pub mark: u16,
+    pub coming: Move,
+    pub listed: bool,
+}
+
 // A row, and the position from which the next one is looked for.
 pub struct Step {
     pub row: [u16; ROW],
     pub next: usize,
+}
+
+pub fn told_of(t: Telling) -> Told
+    ensures { λ r. ⌜ r ≡ spec.toldOf t ⌝ }
+{
+    let head = t.head;
+    let coming = t.coming;
+    Told {
+        head,
+        place: t.place,
+        mark: t.mark,
+        coming,
+        listed: t.upkeep.listed,
+    }
 }
 
 // Positions: the places of the board, for the first part; the places again, for the second, with the coming move before its
@@ -71,9 +94,9 @@ fn is_told(
     first == is_listed(m, h.size, number)
 }
 
-fn row_at(m: &[u8], t: Telling, i: usize) -> [u16; ROW]
-    requires { ⌜ spec.TellingAsked t (now m) × (i < spec.positions t) ⌝ }
-    ensures { λ r. ⌜ r ≡ spec.rowAt t (now (m .entry)) i ⌝ }
+fn row_at(m: &[u8], t: Told, i: usize) -> [u16; ROW]
+    requires { ⌜ Readable (t .head) (now m) × (t .place ≤ t .head .count) × (i < 2 * t .head .count + 1) ⌝ }
+    ensures { λ r. ⌜ r ≡ spec.rowBy t (now (m .entry)) i ⌝ }
 {
     let h = t.head;
     let n = h.count;
@@ -89,15 +112,15 @@ fn row_at(m: &[u8], t: Telling, i: usize) -> [u16; ROW]
 }
 
 // The first told row from position i on.
-pub fn told_next(m: &[u8], t: Telling, i: usize) -> Step
-    requires { ⌜ spec.TellingAsked t (now m) ⌝ }
-    ensures { λ r. ⌜ (r .row ≡ spec.nextRow t (now (m .entry)) i) × (r .next ≡ spec.nextAt t (now (m .entry)) i) ⌝ }
+pub fn told_next(m: &[u8], t: Told, changed: &[u64; WORDS], i: usize) -> Step
+    requires { ⌜ Readable (t .head) (now m) × (t .place ≤ t .head .count) ⌝ }
+    ensures { λ r. ⌜ (r .row ≡ spec.nextRow (spec.whole t (now (changed .entry))) (now (m .entry)) i) × (r .next ≡ spec.nextAt (spec.whole t (now (changed .entry))) (now (m .entry)) i) ⌝ }
 {
     let h = t.head;
     let end = 2 * h.count + 1;
     let mut j = i;
     while j < end {
-        if is_told(m, h, t.place, t.mark, t.upkeep.listed, &t.upkeep.changed, j) {
+        if is_told(m, h, t.place, t.mark, t.listed, changed, j) {
             return Step {
                 row: row_at(m, t, j),
                 next: j + 1,

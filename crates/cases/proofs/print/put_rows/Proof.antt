@@ -1,14 +1,20 @@
 -- `print::put_rows` meets its contract: one row after another. Assumes nothing but what `libc` says of its calls.
 use Prim.Native.Nat.{_-_}
 use borrow.Author.Needs.{needs}
+use Rattle.upkeep.specs.Laws.Telling.{whole-asked}
 use Rattle.cases.proofs.print.put_rows.Statement.{statement}
 use Rattle.cases.proofs.print.put_rows.Tie as tie
 
 abbrev Inv-loop : tie.InvT-loop
-Inv-loop m t count at₀ i₀ at i = Unit {0}
+Inv-loop m count t told at₀ i₀ at i = Unit {0}
 
 abbrev μ-loop : tie.MeasureT-loop
-μ-loop m t count at₀ i₀ at i = count - i
+μ-loop m count t told at₀ i₀ at i = count - i
+
+told-next-requires : tie.Need-told-next-requires Inv-loop μ-loop
+told-next-requires c κs =
+    let start = c .before .before .before .before .before .before in
+    whole-asked (start .args .t2) (start .args .m .now) (c .before .before .before .before .told-of .ensures) (start .pre (search needs))
 
 pub put-rows-spec : {M : Type 1} → statement M
 put-rows-spec =
@@ -16,8 +22,9 @@ put-rows-spec =
     (tie.spec
     Inv-loop
     μ-loop
+    (λ c κs. search needs)
     (λ c. search needs)
-    (λ c κs. c .before .before .before .pre (search needs))
+    told-next-requires
     (λ c κs. search needs)
     (λ c. search needs)
     (λ c. search needs)

@@ -11,7 +11,7 @@ use Rattle.upkeep.proofs.telling.row_at.Statement.{statement}
 use Rattle.upkeep.proofs.telling.row_at.Tie as tie
 
 add-if1 : tie.Need-add-if1
-add-if1 c = let asked = c .before .before .before .pre .0 in omega (arith, asked .readable .rows, asked .readable .room .1, asked .place)
+add-if1 c = let pre = c .before .before .before .pre in omega (arith, pre .0 .rows, pre .0 .room .1, pre .1)
 
 returns : tie.Need-returns
 returns c =
@@ -22,8 +22,8 @@ move-at-requires : tie.Need-move-at-requires
 move-at-requires c κs =
     let a = c .before .before .before .before .before .args in
     let pre = c .before .before .before .before .before .pre in
-    let asked = pre .0 .readable in
-    let on-board : c .place-at .result < a .t .head .count = omega (arith, place-below (a .t .head .count) (a .t .place) (a .i) (pre .0 .place) (pre .1) (c .before .if1 .left), c .place-at .ensures) in
+    let asked = pre .0 in
+    let on-board : c .place-at .result < a .t .head .count = omega (arith, place-below (a .t .head .count) (a .t .place) (a .i) (pre .1) (pre .2) (c .before .if1 .left), c .place-at .ensures) in
     (asked .room, omega (arith, asked .rows), asked .numbers (c .place-at .result) on-board, asked .dimension)
 
 returns-2 : tie.Need-returns-2
