@@ -25,10 +25,9 @@
  *
  * What it takes
  *   stack    at most 12 KB in every call; measured, 5,528 bytes.
- *   time     every call but dolzhev_load judges the whole memory first, and no call remembers what an earlier one saw.
- *            Boards of 4,096 moves: 4.1 ms at most with
- *            d up to 4 on the drawn boards that were measured, 6 ms on one made against the search
- *            (docs/BENCHMARK.md).
+ *   time     every call but dolzhev_load judges the whole memory first, and no call remembers what an earlier one saw. On full
+ *            boards of 4,096 moves 4.1 ms at most on the drawn boards that were measured with d up to 4, 8.9 ms on one made
+ *            against the search, and 52 ms, on k with d of 8, on a board of one sum (README.md, docs/BENCHMARK.md).
  *   linking  memcpy and memset, and no other function. The archive has no data that can be written. */
 #ifndef DOLZHEV_H
 #define DOLZHEV_H
