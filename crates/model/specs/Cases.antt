@@ -22,7 +22,7 @@ unfoldable pub moves : List Move
 moves = move 0 1 6 ∷ move 1 3 7 ∷ move 2 2 2 ∷ move 3 5 1 ∷ move 4 6 2 ∷ move 5 2 2 ∷ []
 
 unfoldable pub worked : Board
-worked = record { size = 16; dimension = 2; moves = inZOrder 2 moves }
+worked = record { size = 16; dimension = 2; moves = inZOrder 2 moves; blocks = λ n. 0 }
 
 -- A region by its corners, each as its first two costs.
 unfoldable pub corners : List ℕ → List ℕ → List ℕ

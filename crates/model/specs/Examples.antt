@@ -113,10 +113,10 @@ equal-costs = refl
 
 -- Move 0 hides 1 and 2, and 1 hides 2.
 chain : Board
-chain = record { size = 16; dimension = 2; moves = inZOrder 2 (move 0 1 1 ∷ move 1 2 2 ∷ move 2 3 3 ∷ []) }
+chain = record { size = 16; dimension = 2; moves = inZOrder 2 (move 0 1 1 ∷ move 1 2 2 ∷ move 2 3 3 ∷ []); blocks = λ n. 0 }
 
 -- Its withdrawal brings up 1 only. A re-cost of 0 with equal costs tells nothing; one to (2,3), which 1 hides, brings up 1.
-chain-notices : map (λ c. notices chain (c ∷ [])) (withdraw 0 ∷ recost 0 (pair 1 1) ∷ recost 0 (pair 2 3) ∷ [])
+chain-notices : map (λ c. notices chain (c ∷ [])) (withdraw 0 ∷ recost 0 0 (pair 1 1) ∷ recost 0 0 (pair 2 3) ∷ [])
     ≡ ((1 ∷ 0 ∷ 2 ∷ 1 ∷ []) ∷ []) ∷ ([] ∷ []) ∷ ((1 ∷ 0 ∷ 2 ∷ 1 ∷ []) ∷ []) ∷ []
 unfolding showing chain
 chain-notices = refl
@@ -125,7 +125,7 @@ chain-notices = refl
 
 -- Moves 1, 3 and 5 have equal costs; each dominates 7.
 twins : Board
-twins = record { size = 16; dimension = 2; moves = inZOrder 2 (move 5 2 2 ∷ move 7 3 3 ∷ move 1 2 2 ∷ move 3 2 2 ∷ []) }
+twins = record { size = 16; dimension = 2; moves = inZOrder 2 (move 5 2 2 ∷ move 7 3 3 ∷ move 1 2 2 ∷ move 3 2 2 ∷ []); blocks = λ n. 0 }
 
 -- The list has the lowest number, band 0 all three.
 twin-lists : map numbers (skyline 2 (twins .moves) ∷ band 2 0 (twins .moves) ∷ []) ≡ (1 ∷ []) ∷ (1 ∷ 3 ∷ 5 ∷ []) ∷ []
@@ -140,7 +140,7 @@ twins-withdrawn = refl
 
 -- A hidden twin goes, or one of a higher number than the listed one comes: nothing is told. One of a lower number comes: it
 -- takes the listed one's place. The listed one gets other costs: the next comes up.
-twin-notices : map (λ c. notices twins (c ∷ [])) (withdraw 3 ∷ enter 2 (pair 2 2) ∷ enter 0 (pair 2 2) ∷ recost 1 (pair 2 3) ∷ [])
+twin-notices : map (λ c. notices twins (c ∷ [])) (withdraw 3 ∷ enter 2 0 (pair 2 2) ∷ enter 0 0 (pair 2 2) ∷ recost 1 0 (pair 2 3) ∷ [])
     ≡ ([] ∷ []) ∷ ([] ∷ []) ∷ ((1 ∷ 1 ∷ 2 ∷ 0 ∷ []) ∷ []) ∷ ((1 ∷ 1 ∷ 2 ∷ 3 ∷ []) ∷ []) ∷ []
 unfolding showing twins
 twin-notices = refl
@@ -150,7 +150,7 @@ twin-notices = refl
 -- Move 1 is dominated, and yet no move is less than it on the first cost: chosen costs are held against all moves, and told of
 -- all moves.
 tied : Board
-tied = record { size = 16; dimension = 2; moves = inZOrder 2 (move 0 1 1 ∷ move 1 1 2 ∷ []) }
+tied = record { size = 16; dimension = 2; moves = inZOrder 2 (move 0 1 1 ∷ move 1 1 2 ∷ []); blocks = λ n. 0 }
 
 chosen-of-all : marks (queryRows tied (chosenQuery 1)) ≡ 0 ∷ 0 ∷ 0 ∷ 1 ∷ []
 unfolding showing tied

@@ -4,6 +4,7 @@ pub mod Basics
 pub mod Moves
 pub mod Dominance
 pub mod Lists
+pub mod Hours
 pub mod Tree
 pub mod Loading
 pub mod Entering

@@ -2,7 +2,7 @@
 use Prim.Native.Nat.{ℕ}
 use Rattle.model.specs.Tree.{Tree}
 use Rattle.model.specs.Nodes.{nodesOpened}
-use Rattle.model.specs.Calls.{Change, Query, list, bandQuery, rankQuery, onKQuery, chosenQuery}
+use Rattle.model.specs.Calls.{Change, Query, list, bandQuery, rankQuery, onKQuery, chosenQuery, hoursQuery}
 
 -- "List also reports the nodes opened." No other call reports any.
 unfoldable pub queryOpens : ℕ → Query → Tree → ℕ
@@ -11,6 +11,7 @@ queryOpens d (bandQuery b) t = 0
 queryOpens d (rankQuery k) t = 0
 queryOpens d (onKQuery k) t = 0
 queryOpens d (chosenQuery set) t = 0
+queryOpens d (hoursQuery minute hours) t = 0
 
 unfoldable pub changeOpens : ℕ → Change → Tree → ℕ
 changeOpens d x t = 0

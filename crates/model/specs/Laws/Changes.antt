@@ -14,7 +14,7 @@ use Rattle.model.specs.Basics.{Each, distinct}
 use Rattle.model.specs.Moves.{Move, moveBefore, insert}
 use Rattle.model.specs.Lists.{hidden, skyline}
 use Rattle.model.specs.Withdrawing.{without}
-use Rattle.model.specs.Calls.{Answer, accepted, refusedWith, orElse, rowsAnswer, Board, Change, enter, withdraw, recost, onBoard, changeRefusal, changedMoves, changed, listOf, changeNotice, changeAnswer}
+use Rattle.model.specs.Calls.{Answer, accepted, refusedWith, orElse, rowsAnswer, Board, Change, enter, withdraw, recost, blockBad, onBoard, changeRefusal, changedMoves, changed, listOf, changeNotice, changeAnswer}
 use Rattle.model.specs.Sound.{Fit, SoundBoard}
 use Rattle.model.specs.Laws.Bool.{condCases, not-flip}
 use Rattle.model.specs.Laws.Basics.{Once, each-mem, mem-each, select-mem, mem-select, any-none}
@@ -24,15 +24,15 @@ use Rattle.model.specs.Laws.Numbers.{except, except-mem, except-length, 
 use Rattle.model.specs.Laws.Notice.{among, gone, gone-mem, notice-length}
 
 unfoldable pub changeNumber : Change → ℕ
-changeNumber (enter n costs) = n
+changeNumber (enter n block costs) = n
 changeNumber (withdraw n) = n
-changeNumber (recost n costs) = n
+changeNumber (recost n block costs) = n
 
 pub change-number : (b : Board) (x : Change) → changeRefusal b x ≡ 0 → changeNumber x < b .size
 unfolding changeNumber changeRefusal
-change-number b (enter n costs) h = leb-false (b .size) n (first-passes (leb (b .size) n) 3 _ h)
+change-number b (enter n block costs) h = leb-false (b .size) n (first-passes (leb (b .size) n) 3 _ h)
 change-number b (withdraw n) h = leb-false (b .size) n (first-passes (leb (b .size) n) 3 _ h)
-change-number b (recost n costs) h = leb-false (b .size) n (first-passes (leb (b .size) n) 3 _ h)
+change-number b (recost n block costs) h = leb-false (b .size) n (first-passes (leb (b .size) n) 3 _ h)
 
 -- ---- the moves after it
 
@@ -63,17 +63,18 @@ distinct-put d n costs ms o =
     distinct-insert (λ m. m .number) (moveBefore d) (record { number = n; costs = costs }) ms (has-numbers n ms ∙ o)
 
 -- The number of a move that may enter is free.
-pub enter-off : (b : Board) (n : ℕ) (costs : List ℕ) → changeRefusal b (enter n costs) ≡ 0 → onBoard n (b .moves) ≡ false
+pub enter-off : (b : Board) (n block : ℕ) (costs : List ℕ) → changeRefusal b (enter n block costs) ≡ 0 → onBoard n (b .moves) ≡ false
 unfolding changeRefusal
-enter-off b n costs h =
-    first-passes (onBoard n (b .moves)) 4 [] (rest-passes (costPastBad (b .dimension) costs) 6 _ (rest-passes (leb (b .size) n) 3 _ h))
+enter-off b n block costs h =
+    first-passes (onBoard n (b .moves)) 4 []
+    (rest-passes (costPastBad (b .dimension) costs) 6 _ (rest-passes (blockBad block) 10 _ (rest-passes (leb (b .size) n) 3 _ h)))
 
 pub changed-distinct : (b : Board) (x : Change) → distinct (map (λ m. m .number) (b .moves)) ≡ true → changeRefusal b x ≡ 0
     → distinct (map (λ m. m .number) (changed b x .moves)) ≡ true
 unfolding changed changedMoves
-changed-distinct b (enter n costs) s h = distinct-put (b .dimension) n costs (b .moves) (enter-off b n costs h) s
+changed-distinct b (enter n block costs) s h = distinct-put (b .dimension) n costs (b .moves) (enter-off b n block costs h) s
 changed-distinct b (withdraw n) s h = distinct-without n (b .moves) s
-changed-distinct b (recost n costs) s h =
+changed-distinct b (recost n block costs) s h =
     distinct-put (b .dimension) n costs (without n (b .moves)) (off-without n (b .moves)) (distinct-without n (b .moves) s)
 
 put-mem : {m : Move} (d n : ℕ) (costs : List ℕ) (ms : List Move) → List·Memᴰ m (insert d (record { number = n; costs = costs }) ms)
@@ -86,9 +87,9 @@ put-mem d n costs ms k f =
 -- a move of another number was there before
 pub changed-mem : {m : Move} (b : Board) (x : Change) → List·Memᴰ m (changed b x .moves) → (¬ (m .number ≡ changeNumber x)) → List·Memᴰ m (b .moves)
 unfolding changed changedMoves changeNumber
-changed-mem b (enter n costs) k f = put-mem (b .dimension) n costs (b .moves) k f
+changed-mem b (enter n block costs) k f = put-mem (b .dimension) n costs (b .moves) k f
 changed-mem b (withdraw n) k f = without-number n (b .moves) k .0
-changed-mem b (recost n costs) k f =
+changed-mem b (recost n block costs) k f =
     without-number n (b .moves) (put-mem (b .dimension) n costs (without n (b .moves)) k f) .0
 
 -- ---- how many rows its notice has
@@ -178,11 +179,11 @@ refusal-other n (c ∷ cs) z es = condCases (λ (k : ℕ). ¬ (k ≡ n)) (c .0) 
 
 change-refusal-other : (b : Board) (x : Change) → ¬ (changeRefusal b x ≡ 8)
 unfolding changeRefusal
-change-refusal-other b (enter n costs) =
-    refusal-other 8 _ (λ e. omega arith) (λ e. omega arith, (λ e. omega arith, (λ e. omega arith, tt)))
+change-refusal-other b (enter n block costs) =
+    refusal-other 8 _ (λ e. omega arith) (λ e. omega arith, (λ e. omega arith, (λ e. omega arith, (λ e. omega arith, tt))))
 change-refusal-other b (withdraw n) = refusal-other 8 _ (λ e. omega arith) (λ e. omega arith, (λ e. omega arith, tt))
-change-refusal-other b (recost n costs) =
-    refusal-other 8 _ (λ e. omega arith) (λ e. omega arith, (λ e. omega arith, (λ e. omega arith, tt)))
+change-refusal-other b (recost n block costs) =
+    refusal-other 8 _ (λ e. omega arith) (λ e. omega arith, (λ e. omega arith, (λ e. omega arith, (λ e. omega arith, tt))))
 
 -- enough rows lent: the answer is what the checks say
 enough-rows : (b : Board) (x : Change) (lent : ℕ) → length (changeNotice b x) ≤ lent → rowsAnswer (length (changeNotice b x)) lent ≡ accepted
@@ -204,8 +205,9 @@ never-eight b x lent s l =
     (λ h e. let z = ap (λ (a : Answer). a .number) (enough-rows b x lent (omega (arith, notice-short b x s (eqb-true (changeRefusal b x) 0 h)))) in omega arith)
     (λ _. change-refusal-other b x)
 
--- "A board with a free number always takes one more move, given costs past d of zero": no check turns it down.
-pub enter-passes : (b : Board) (n : ℕ) (costs : List ℕ) → n < b .size → costPastBad (b .dimension) costs ≡ false → onBoard n (b .moves) ≡ false
-    → changeRefusal b (enter n costs) ≡ 0
+-- "A board with a free number always takes one more move, given costs past d of zero" and a block of 0 to 63 (Card 8): no check
+-- turns it down.
+pub enter-passes : (b : Board) (n block : ℕ) (costs : List ℕ) → n < b .size → blockBad block ≡ false → costPastBad (b .dimension) costs ≡ false → onBoard n (b .moves) ≡ false
+    → changeRefusal b (enter n block costs) ≡ 0
 unfolding changeRefusal refusal
-enter-passes b n costs l p o = rw (lt-leb (b .size) n l, p, o)
+enter-passes b n block costs l k p o = rw (lt-leb (b .size) n l, k, p, o)

@@ -190,7 +190,7 @@ module _ (b : Board) (s : SoundBoard b) (x : Move) (listed : List·Memᴰ x (lis
   same-number m n = mem-number (λ m. m .number) ms (s .once)
 
   -- A twin of a lower number that enters takes the place of the listed one, and no other row changes.
-  module _ (n : ℕ) (costs : List ℕ) (passes : changeRefusal b (enter n costs) ≡ 0)
+  module _ (n block : ℕ) (costs : List ℕ) (passes : changeRefusal b (enter n block costs) ≡ 0)
       (twin : lowerTwin d (record { number = n; costs = costs }) x ≡ true) where
     abbrev y : Move
     y = record { number = n; costs = costs }
@@ -200,16 +200,16 @@ module _ (b : Board) (s : SoundBoard b) (x : Move) (listed : List·Memᴰ x (lis
     with-y =
         record {
           new = mem-insert-new (moveBefore d) y ms;
-          off = off-board y ms (enter-off b n costs passes);
+          off = off-board y ms (enter-off b n block costs passes);
           old = λ m. mem-insert-old (moveBefore d) y;
           either = λ m. insert-mem (moveBefore d) y ms;
         }
 
-    pub lower-twin-enters : changeNotice b (enter n costs) ≡ rowOf left x ∷ rowOf entered y ∷ []
+    pub lower-twin-enters : changeNotice b (enter n block costs) ≡ rowOf left x ∷ rowOf entered y ∷ []
     unfolding changeNotice changed changedMoves listOf
     lower-twin-enters =
         two-rows (skyline d ms) (skyline d (insert d y ms)) x y
-        (list-once d ms (s .once)) (list-once d (insert d y ms) (changed-distinct b (enter n costs) (s .once) passes))
+        (list-once d ms (s .once)) (list-once d (insert d y ms) (changed-distinct b (enter n block costs) (s .once) passes))
         (w-leaves d ms (insert d y ms) y with-y same-number x listed twin)
         (y-enters d ms (insert d y ms) y with-y same-number x listed twin)
 
