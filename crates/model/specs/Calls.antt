@@ -72,9 +72,16 @@ loadAnswer bytes c d rows =
     orElse (refusedWith (refusal ((sizeBad c || costCountBad d, 2) ∷ (ltb bytes (memoryNeed c), 1) ∷ [])))
     (rowsRefusal c d 0 [] rows)
 
+unfoldable pub onBoard : ℕ → List Move → Bool
+onBoard n ms = any (λ m. eqb (m .number) n) ms
+
 -- A number given a block.
 unfoldable pub giveBlock : ℕ → ℕ → (ℕ → ℕ) → ℕ → ℕ
 giveBlock n block blocks k = cond (eqb k n) block (blocks k)
+
+-- The blocks of the numbers on the board, 0 of every other.
+unfoldable pub blocksOn : List Move → (ℕ → ℕ) → ℕ → ℕ
+blocksOn ms blocks n = cond (onBoard n ms) (blocks n) 0
 
 unfoldable pub rowBlocks : List InputRow → ℕ → ℕ
 rowBlocks [] = λ n. 0
@@ -88,9 +95,6 @@ pub data Change : Type 0 where
   enter : ℕ → ℕ → List ℕ → Change
   withdraw : ℕ → Change
   recost : ℕ → ℕ → List ℕ → Change
-
-unfoldable pub onBoard : ℕ → List Move → Bool
-onBoard n ms = any (λ m. eqb (m .number) n) ms
 
 -- "Enter: .. 4, 7 for a cost past d, 5 if the number is on the board, 8. Withdraw: .. 4, 6 if the number is not on the
 -- board, 8. Re-cost: .. 4, 7, 6, 8." With 11 after 4 (Card 8).

@@ -1,5 +1,5 @@
 -- The lent memory: fields at offsets that the size C alone determines (docs/DECISIONS.md has the picture). Numbers are two
--- bytes, the lower first. Marks and costs go by move number, so that a change of the tree leaves them where they are.
+-- bytes, the lower first. Marks, blocks and costs go by move number, so that a change of the tree leaves them where they are.
 use Prim.Native.Nat.{ℕ, zero, suc, _+_, _*_, _/_, _%_}
 use mathlib.Core.List.{List, [], _∷_, _++_}
 use lib.Dec.{eqb}
@@ -7,7 +7,7 @@ use lib.ListN.{getD, set}
 use Rattle.zorder.specs.Address.{padded}
 use Rattle.model.specs.Basics.{select}
 use Rattle.model.specs.Moves.{Move}
-use Rattle.model.specs.Calls.{Board}
+use Rattle.model.specs.Calls.{Board, blocksOn}
 use Rattle.line.specs.Line.{Placed, movesIn}
 
 unfoldable pub wordAt : ℕ → List ℕ → ℕ
@@ -35,6 +35,9 @@ heightPlace c i = 16 + 2 * c + i
 unfoldable pub markPlace : ℕ → ℕ → ℕ
 markPlace c n = 16 + 3 * c + n
 
+unfoldable pub blockPlace : ℕ → ℕ → ℕ
+blockPlace c n = 16 + 4 * c + n
+
 unfoldable pub costPlace : ℕ → ℕ → ℕ → ℕ
 costPlace c n j = 16 + 5 * c + 16 * n + 2 * j
 
@@ -51,7 +54,7 @@ dimensionIn m = getD m dimensionPlace 0
 unfoldable pub countIn : List ℕ → ℕ
 countIn m = wordAt countPlace m
 
--- By place in Z-order: the number of the move, and its height. By number: its mark and its costs.
+-- By place in Z-order: the number of the move, and its height. By number: its mark, its block and its costs.
 unfoldable pub numberIn : ℕ → List ℕ → ℕ → ℕ
 numberIn c m i = wordAt (numberPlace c i) m
 
@@ -60,6 +63,9 @@ heightIn c m i = getD m (heightPlace c i) 0
 
 unfoldable pub markIn : ℕ → List ℕ → ℕ → ℕ
 markIn c m n = getD m (markPlace c n) 0
+
+unfoldable pub blockIn : ℕ → List ℕ → ℕ → ℕ
+blockIn c m n = getD m (blockPlace c n) 0
 
 unfoldable pub costIn : ℕ → List ℕ → ℕ → ℕ → ℕ
 costIn c m n j = wordAt (costPlace c n j) m
@@ -95,7 +101,13 @@ unfoldable pub lineIn : List ℕ → List Placed
 lineIn m = lineFrom (sizeIn m) (dimensionIn m) (countIn m) m
 
 unfoldable pub boardIn : List ℕ → Board
-boardIn m = record { size = sizeIn m; dimension = dimensionIn m; moves = movesIn (lineIn m) }
+boardIn m =
+    record {
+      size = sizeIn m;
+      dimension = dimensionIn m;
+      moves = movesIn (lineIn m);
+      blocks = blocksOn (movesIn (lineIn m)) (blockIn (sizeIn m) m);
+    }
 
 -- The kept list: the moves whose mark is 1.
 unfoldable pub keptFrom : ℕ → List ℕ → List Move → List Move

@@ -14,7 +14,7 @@ use Rattle.model.specs.Changing.{changeTree}
 use Rattle.model.specs.Opening.{queryOpens, changeOpens}
 use Rattle.promises.specs.Layout.{sizeIn, dimensionIn, boardIn}
 use Rattle.promises.specs.Written.{changeWrites, loadWrites}
-use Rattle.promises.specs.Sound.{Stands, Sound, Holding}
+use Rattle.promises.specs.Sound.{Sound, Holding}
 use Rattle.promises.specs.Answers.{answerOf, numberOf, counted, rowsAfter}
 use Rattle.promises.specs.declared.Verdict.{Verdict}
 use Rattle.promises.specs.declared.Answer.{Answer}
@@ -47,12 +47,12 @@ pub record Said (answer : calls.Answer) (rows : List Row) (nodes : ℕ) (lent : 
 abbrev pub UnsoundSaid : List Row → Answer → List Row → Type 0
 UnsoundSaid = Said (refusedWith 3) [] 0
 
--- The lists (Definitions 2, 3, 4, 6 and 8). Their memory is lent for reading only.
+-- The lists (Definitions 2, 3, 4, 6 and 8) and the hours call (Card 8). Their memory is lent for reading only.
 abbrev pub QuerySaid : Query → Board → ℕ → List Row → Answer → List Row → Type 0
 QuerySaid q b nodes lent = Said (queryAnswer b q (length lent)) (queryRows b q) nodes lent
 
 pub record QueryPromise (q : Query) (m : List ℕ) (lent : List Row) (r : Answer) (lent' : List Row) : Type 0 where
-  pub sound : (t : Tree) → Stands m t → QuerySaid q (boardIn m) (queryOpens (dimensionIn m) q t) lent r lent'
+  pub sound : (s : Sound m) → QuerySaid q (boardIn m) (queryOpens (dimensionIn m) q (s .tree)) lent r lent'
   pub unsound : (Sound m → ⊥) → UnsoundSaid lent r lent'
 
 -- Enter, withdraw and re-cost.
@@ -60,10 +60,9 @@ abbrev pub ChangeSaid : Change → Board → ℕ → List Row → Answer → Lis
 ChangeSaid x b nodes lent = Said (changeAnswer b x (length lent)) (changeNotice b x) nodes lent
 
 pub record ChangePromise (x : Change) (m : List ℕ) (lent : List Row) (r : Answer) (m' : List ℕ) (lent' : List Row) : Type 0 where
-  pub sound : (t : Tree) → Stands m t → ChangeSaid x (boardIn m) (changeOpens (dimensionIn m) x t) lent r lent'
+  pub sound : (s : Sound m) → ChangeSaid x (boardIn m) (changeOpens (dimensionIn m) x (s .tree)) lent r lent'
   pub left :
-      (t : Tree)
-      → Stands m t
-      → MemoryAfter (changeWrites (sizeIn m)) (numberOf (r .verdict)) m m' (changed (boardIn m) x) (changeTree (dimensionIn m) x t)
+      (s : Sound m)
+      → MemoryAfter (changeWrites (sizeIn m) x) (numberOf (r .verdict)) m m' (changed (boardIn m) x) (changeTree (dimensionIn m) x (s .tree))
   pub nothing : Sound m → changesNothing (boardIn m) x ≡ true → m' ≡ m
   pub unsound : (Sound m → ⊥) → UnsoundSaid lent r lent' × (m' ≡ m)

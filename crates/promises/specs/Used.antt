@@ -7,7 +7,7 @@ use lib.Dec.{eqb, leb}
 use lib.ListN.{length, getD}
 use Rattle.model.specs.Basics.{any}
 use Rattle.model.specs.Calls.{memoryNeed}
-use Rattle.promises.specs.Layout.{sizePlace, dimensionPlace, countPlace, numberPlace, heightPlace, markPlace, costPlace, sizeIn, dimensionIn, countIn, numberIn, tab}
+use Rattle.promises.specs.Layout.{sizePlace, dimensionPlace, countPlace, numberPlace, heightPlace, markPlace, blockPlace, costPlace, sizeIn, dimensionIn, countIn, numberIn, tab}
 use Rattle.promises.specs.Written.{inArea}
 
 -- C, d and the count.
@@ -18,9 +18,9 @@ headUse i = inArea sizePlace (dimensionPlace + 1) i || inArea countPlace (countP
 unfoldable pub rowsUse : ℕ → ℕ → ℕ → Bool
 rowsUse c n i = inArea (numberPlace c 0) (numberPlace c n) i || inArea (heightPlace c 0) (heightPlace c n) i
 
--- The mark and the first d costs of a move's number.
+-- The mark, the block and the first d costs of a move's number.
 unfoldable pub moveUse : ℕ → ℕ → ℕ → ℕ → Bool
-moveUse c d i number = eqb i (markPlace c number) || inArea (costPlace c number 0) (costPlace c number d) i
+moveUse c d i number = eqb i (markPlace c number) || eqb i (blockPlace c number) || inArea (costPlace c number 0) (costPlace c number d) i
 
 unfoldable pub inUse : List ℕ → ℕ → Bool
 inUse m i =

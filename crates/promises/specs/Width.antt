@@ -28,18 +28,18 @@ module _ (g : List ℕ → List ℕ) where
   moveWith m = record { number = m .number; costs = g (m .costs) }
 
   abbrev pub inputWith : InputRow → InputRow
-  inputWith r = record { number = r .number; costs = g (r .costs) }
+  inputWith r = record { number = r .number; block = r .block; costs = g (r .costs) }
 
   abbrev pub rowWith : Row → Row
   rowWith r = record { mark = r .mark; number = r .number; costs = g (r .costs) }
 
   abbrev pub boardWith : Board → Board
-  boardWith b = record { size = b .size; dimension = b .dimension; moves = map moveWith (b .moves) }
+  boardWith b = record { size = b .size; dimension = b .dimension; moves = map moveWith (b .moves); blocks = b .blocks }
 
   unfoldable pub changeWith : Change → Change
-  changeWith (enter n costs) = enter n (g costs)
+  changeWith (enter n block costs) = enter n block (g costs)
   changeWith (withdraw n) = withdraw n
-  changeWith (recost n costs) = recost n (g costs)
+  changeWith (recost n block costs) = recost n block (g costs)
 
   unfoldable pub entryWith : (h : ℕ) → Entry h → Entry h
   entryWith zero m = moveWith m

@@ -1,19 +1,30 @@
 -- Which bytes an accepted call may write, on a board of size c: docs/DECISIONS.md has the picture. All others are as before.
 use Prim.Native.Nat.{ℕ, _+_}
-use mathlib.Core.Bool.{Bool, not, _&&_, _||_}
-use lib.Dec.{leb, ltb}
-use Rattle.promises.specs.Layout.{sizePlace, dimensionPlace, countPlace, numberPlace, markPlace, costPlace, workPlace}
+use mathlib.Core.Bool.{Bool, false, not, _&&_, _||_}
+use lib.Dec.{leb, ltb, eqb}
+use Rattle.model.specs.Calls.{Change, enter, withdraw, recost}
+use Rattle.promises.specs.Layout.{sizePlace, dimensionPlace, countPlace, numberPlace, blockPlace, workPlace}
 
 -- The byte i is one from a up to b.
 unfoldable pub inArea : ℕ → ℕ → ℕ → Bool
 inArea a b i = leb a i && ltb i b
 
--- A change: the count; rows, marks, costs and work area, but not the bytes for blocks between marks and costs.
-unfoldable pub changeWrites : ℕ → ℕ → Bool
-changeWrites c i =
+-- Moves: the count; rows, marks, costs and work area, but not the blocks between marks and costs.
+unfoldable pub movesWrite : ℕ → ℕ → Bool
+movesWrite c i =
     inArea countPlace (countPlace + 2) i
-    || (inArea (numberPlace c 0) (workPlace c c) i && not (inArea (markPlace c c) (costPlace c 0 0) i))
+    || (inArea (numberPlace c 0) (workPlace c c) i && not (inArea (blockPlace c 0) (blockPlace c c) i))
 
--- A load: C and d besides.
+-- The block that a change gives: that of its number, and no other.
+unfoldable pub blockWrites : ℕ → Change → ℕ → Bool
+blockWrites c (enter n block costs) i = eqb i (blockPlace c n)
+blockWrites c (withdraw n) i = false
+blockWrites c (recost n block costs) i = eqb i (blockPlace c n)
+
+unfoldable pub changeWrites : ℕ → Change → ℕ → Bool
+changeWrites c x i = movesWrite c i || blockWrites c x i
+
+-- A load: C and d, moves and blocks.
 unfoldable pub loadWrites : ℕ → ℕ → Bool
-loadWrites c i = inArea sizePlace (dimensionPlace + 1) i || changeWrites c i
+loadWrites c i =
+    inArea sizePlace (dimensionPlace + 1) i || movesWrite c i || inArea (blockPlace c 0) (blockPlace c c) i

@@ -16,6 +16,8 @@ pub fn number_of(verdict: Verdict) -> u8
         Verdict::NumberAbsent => 6,
         Verdict::BadArgument(_) => 7,
         Verdict::FewRows(_) => 8,
+        Verdict::BlockTooLarge(_) => 11,
+        Verdict::BadHours(_) => 12,
     }
 }
 
@@ -32,5 +34,7 @@ pub fn detail_of(verdict: Verdict) -> usize
         Verdict::NumberAbsent => 0,
         Verdict::BadArgument(place) => place,
         Verdict::FewRows(need) => need,
+        Verdict::BlockTooLarge(place) => place,
+        Verdict::BadHours(block) => block,
     }
 }

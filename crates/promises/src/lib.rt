@@ -5,8 +5,8 @@ mod answers;
 pub use answers::detail_of;
 pub use answers::number_of;
 
-// What a call says. The numbers are details: of `NumberTooLarge`, `NumberTwice` and `BadArgument` the place of a loaded row,
-// else 0; of `FewRows` the rows needed.
+// What a call says. The numbers are details: of `NumberTooLarge`, `NumberTwice`, `BadArgument` and `BlockTooLarge` the place of a
+// loaded row, else 0; of `FewRows` the rows needed; of `BadHours` the block.
 pub enum Verdict {
     Accepted,
     ShortMemory,
@@ -17,6 +17,8 @@ pub enum Verdict {
     NumberAbsent,
     BadArgument(usize),
     FewRows(usize),
+    BlockTooLarge(usize),
+    BadHours(usize),
 }
 
 // What every call on a board but load answers: the verdict, how many rows it told, and the nodes that it opened.

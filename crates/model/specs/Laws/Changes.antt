@@ -197,6 +197,12 @@ changes-accepted b x lent h l =
     ap (λ (k : ℕ). cond (eqb k 0) (rowsAnswer (length (changeNotice b x)) lent) (record { number = k; detail = 0 })) h
     ∙ enough-rows b x lent l
 
+-- an accepted change passed every check
+pub accepted-passes : (b : Board) (x : Change) (lent : ℕ) → changeAnswer b x lent .number ≡ 0 → changeRefusal b x ≡ 0
+unfolding changeAnswer orElse refusedWith
+accepted-passes b x lent =
+    condCases (λ (a : Answer). a .number ≡ 0 → changeRefusal b x ≡ 0) (eqb (changeRefusal b x) 0) (λ h _. eqb-true (changeRefusal b x) 0 h) (λ _ e. e)
+
 -- "8 is given exactly if more rows are needed than lent", and C + 1 suffice.
 pub never-eight : (b : Board) (x : Change) (lent : ℕ) → SoundBoard b → b .size + 1 ≤ lent → ¬ (changeAnswer b x lent .number ≡ 8)
 unfolding changeAnswer orElse refusedWith accepted

@@ -24,7 +24,7 @@ use Rattle.promises.specs.Sound.{Holding}
 use Rattle.promises.specs.Answers.{answerOf, numberOf, counted, rowsAfter}
 use Rattle.promises.specs.Promise.{MemoryAfter, LoadPromise, Said, QueryPromise, QuerySaid, ChangePromise, ChangeSaid}
 use Rattle.promises.specs.Run.{Bytes, Step, changes, lists, loadRefused, leaves, Steps, done, then, eventOf, eventsOf, History, end, call, load, runOf, EachRun}
-use Rattle.promises.specs.Laws.Stands.{holding-board}
+use Rattle.promises.specs.Laws.Stands.{holding-sound, holding-board}
 use Rattle.promises.specs.declared.Verdict.{Verdict}
 use Rattle.promises.specs.declared.Answer.{Answer}
 
@@ -73,12 +73,12 @@ module _ (x : Change) (m m' : List ℕ) (lent lent' : List Row) (r : Answer) (p 
   change-said : ChangeSaid x b (changeOpens (dimensionIn m) x (a .tree)) lent r lent'
   change-said =
       subst (λ (b : Board). ChangeSaid x b (changeOpens (dimensionIn m) x (a .tree)) lent r lent') (a .holding .board)
-      (p .sound (a .tree) (a .holding .stands))
+      (p .sound (holding-sound (a .holding)))
 
-  change-left : MemoryAfter (changeWrites (sizeIn m)) (numberOf (r .verdict)) m m' (changed b x) (changeTree (dimensionIn m) x (a .tree))
+  change-left : MemoryAfter (changeWrites (sizeIn m) x) (numberOf (r .verdict)) m m' (changed b x) (changeTree (dimensionIn m) x (a .tree))
   change-left =
-      subst (λ (b : Board). MemoryAfter (changeWrites (sizeIn m)) (numberOf (r .verdict)) m m' (changed b x) (changeTree (dimensionIn m) x (a .tree))) (a .holding .board)
-      (p .left (a .tree) (a .holding .stands))
+      subst (λ (b : Board). MemoryAfter (changeWrites (sizeIn m) x) (numberOf (r .verdict)) m m' (changed b x) (changeTree (dimensionIn m) x (a .tree))) (a .holding .board)
+      (p .left (holding-sound (a .holding)))
 
   -- the answer is the plain board's, so what becomes of it is known
   abbrev next : Board
@@ -90,7 +90,7 @@ module _ (x : Change) (m m' : List ℕ) (lent lent' : List Row) (r : Answer) (p 
 
   change-at : Bytes m' → At m' next
   unfolding isAccepted answerOf
-  change-at k = left-at (changeWrites (sizeIn m)) m m' (changed b x) (changeTree (dimensionIn m) x (a .tree)) (numberOf (r .verdict)) change-left k a
+  change-at k = left-at (changeWrites (sizeIn m) x) m m' (changed b x) (changeTree (dimensionIn m) x (a .tree)) (numberOf (r .verdict)) change-left k a
 
   change-keeps : (k : Bytes m') → Keeps b (eventOf (changes x lent lent' r k p))
   unfolding eventOf Answered Reads heldAfter
@@ -109,7 +109,7 @@ module _ (m : List ℕ) (lent lent' : List Row) (r : Answer) (p : QueryPromise l
   list-said : QuerySaid list b (queryOpens (dimensionIn m) list (a .tree)) lent r lent'
   list-said =
       subst (λ (b : Board). QuerySaid list b (queryOpens (dimensionIn m) list (a .tree)) lent r lent') (a .holding .board)
-      (p .sound (a .tree) (a .holding .stands))
+      (p .sound (holding-sound (a .holding)))
 
   list-keeps : Keeps b (eventOf (lists lent lent' r p))
   unfolding eventOf Answered Reads heldAfter plainNext queryRows

@@ -27,7 +27,8 @@ use Rattle.line.specs.Laws.Decode.{treeOf, line-injective}
 use Rattle.line.specs.Laws.Heights.{heights-right, right-heights}
 use Rattle.line.specs.Laws.Line.{moves-line}
 use Rattle.promises.specs.Layout.{sizeIn, dimensionIn, countIn, numberIn, heightIn, costIn, tab, costsIn, moveIn, placedIn, lineFrom, lineIn, boardIn, markIn, keptFrom, keptIn}
-use Rattle.promises.specs.Sound.{Stands}
+use Rattle.model.specs.Sound.{BlocksFit}
+use Rattle.promises.specs.Sound.{Stands, Sound}
 use Rattle.promises.specs.Run.{Bytes}
 use Rattle.promises.specs.Width.{narrow, widened, moveWith, boardWith, entryWith, treeWith, placedOf, lineOfWidth, StoodAt}
 use Rattle.promises.specs.Laws.Stands.{costs-row}
@@ -171,7 +172,7 @@ module _ (w : ℕ) (m : List ℕ) (t : Tree) (l : w ≤ rowCosts) (bytes : Bytes
       map-each (λ r. r .move .number < sizeIn m) (placedWith (narrow w)) (lineIn m)
       (subst (Each (λ r. r .move .number < sizeIn m)) (sym (line-narrow w m l (s .dimension .1))) (s .numbers))
 
-  -- It is sound now,
+  -- It stands now,
   pub earlier-stands : Stands m now
   unfolding costCountBad
   earlier-stands =
@@ -194,7 +195,10 @@ module _ (w : ℕ) (m : List ℕ) (t : Tree) (l : w ≤ rowCosts) (bytes : Bytes
       (ruled-filled d t (s .rules))
       (line-with (narrow w) now ∙ ap (map (placedWith (narrow w))) now-line ∙ line-narrow w m l (s .dimension .1) ∙ s .line)
 
-  -- and so is the board.
-  pub earlier-board : boardWith (narrow w) (boardIn m) ≡ record { size = sizeIn m; dimension = d; moves = movesOf t }
+  -- and so is the board, but for the blocks, which that version did not have (Card 8): it is sound now if they are 0 to 63.
+  pub earlier-board : boardWith (narrow w) (boardIn m) ≡ record { size = sizeIn m; dimension = d; moves = movesOf t; blocks = boardIn m .blocks }
   unfolding boardIn
-  earlier-board = λ i. record { size = sizeIn m; dimension = d; moves = sym then-moves i }
+  earlier-board = λ i. record { size = sizeIn m; dimension = d; moves = sym then-moves i; blocks = boardIn m .blocks }
+
+  pub earlier-sound : BlocksFit (boardIn m) → Sound m
+  earlier-sound blocks = record { tree = now; stands = earlier-stands; blocks = blocks }

@@ -12,7 +12,7 @@ use Rattle.model.specs.Basics.{Each, distinct}
 use Rattle.model.specs.Moves.{Move, moveBefore, ordered}
 use Rattle.model.specs.Tree.{Tree, movesOf}
 use Rattle.model.specs.Calls.{Board}
-use Rattle.model.specs.Sound.{Fit, SoundBoard}
+use Rattle.model.specs.Sound.{Fit, SoundBoard, BlocksFit}
 use Rattle.model.specs.Laws.Basics.{each-mem, each-mono, each-both, each-map}
 use Rattle.model.specs.Laws.Sorting.{rising-once}
 use Rattle.model.specs.Laws.Order.{move-path, move-order, dimension-most}
@@ -21,7 +21,7 @@ use Rattle.model.specs.Laws.Tree.{ruled-ordered}
 use Rattle.line.specs.Line.{movesIn}
 use Rattle.line.specs.Laws.Line.{moves-line}
 use Rattle.promises.specs.Layout.{wordAt, sizeIn, dimensionIn, countIn, costIn, costsIn, numberIn, moveIn, placedIn, tab, lineFrom, lineIn, boardIn}
-use Rattle.promises.specs.Sound.{Stands, Holding}
+use Rattle.promises.specs.Sound.{Stands, Sound, Holding}
 use Rattle.promises.specs.Run.{Bytes}
 use Rattle.promises.specs.Laws.Tab.{length-tab, getD-tab, getD-tab-past, each-tab}
 
@@ -92,10 +92,17 @@ module _ (m : List ℕ) (t : Tree) (s : Stands m t) where
         same : Move → Type 0
         same x = x .costs ≡ costsIn (sizeIn m) (dimensionIn m) m (x .number)
 
-    pub stands-board : SoundBoard (boardIn m)
+    pub stands-board : BlocksFit (boardIn m) → SoundBoard (boardIn m)
     unfolding boardIn
-    stands-board =
-        record { size = s .size; dimension = s .dimension; fit = stands-fit; once = stands-once; order = stands-order }
+    stands-board blocks =
+        record { size = s .size; dimension = s .dimension; fit = stands-fit; once = stands-once; blocks = blocks; order = stands-order }
+
+pub sound-board : (m : List ℕ) → Sound m → Bytes m → SoundBoard (boardIn m)
+sound-board m s k = stands-board m (s .tree) (s .stands) k (s .blocks)
+
+-- The memory holds a board: it is sound.
+abbrev pub holding-sound : {m : List ℕ} {b : Board} {t : Tree} → Holding m b t → Sound m
+holding-sound {t = t} h = record { tree = t; stands = h .stands; blocks = subst BlocksFit (sym (h .board)) (h .blocks) }
 
 pub holding-board : (m : List ℕ) (b : Board) (t : Tree) → Holding m b t → Bytes m → SoundBoard b
-holding-board m b t h k = subst SoundBoard (h .board) (stands-board m t (h .stands) k)
+holding-board m b t h k = subst SoundBoard (h .board) (sound-board m (holding-sound h) k)

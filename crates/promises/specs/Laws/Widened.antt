@@ -18,8 +18,9 @@ use Rattle.model.specs.Basics.{Each, select, any, sortBy}
 use Rattle.model.specs.Moves.{Move, Row, rowOf, sameRow, listed, left, entered}
 use Rattle.model.specs.Dominance.{dominatesAt, dominatesOn}
 use Rattle.model.specs.Lists.{hidden, skyline, dominators, band, rankBefore, rank, dominated, onK, chosen, chosenCosts, listedRows}
+use Rattle.model.specs.Hours.{blockOpen, openMoves}
 use Rattle.model.specs.Notice.{missing, noticeOf}
-use Rattle.model.specs.Calls.{Board, listOf, changed, changedMoves, Query, list, bandQuery, rankQuery, onKQuery, chosenQuery, queryRows, Change, changeNotice}
+use Rattle.model.specs.Calls.{Board, listOf, changed, changedMoves, Query, list, bandQuery, rankQuery, onKQuery, chosenQuery, hoursQuery, queryRows, Change, changeNotice}
 use Rattle.model.specs.Laws.Basics.{each-append, each-select}
 use Rattle.model.specs.Laws.Sorting.{each-sort}
 use Rattle.model.specs.Laws.Tree.{each-take}
@@ -106,7 +107,7 @@ module _ (b : Board) (h : Each (FitCosts (b .dimension)) (b .moves)) where
   some-fit p = each-select p (FitCosts (b .dimension)) (b .moves) h
 
   query-rows-fit : (q : Query) → Each Told (queryRows b q)
-  unfolding queryRows listOf listedRows skyline band rank onK chosen
+  unfolding queryRows listOf listedRows skyline band rank onK chosen openMoves
   query-rows-fit list = fit-rows dim (λ m. listed) (skyline dim (b .moves)) (some-fit (λ m. not (hidden dim (b .moves) m)))
   query-rows-fit (bandQuery n) = fit-rows dim (λ m. listed) (band dim n (b .moves)) (some-fit (λ m. leb (dominators dim (b .moves) m) n))
   query-rows-fit (rankQuery t) =
@@ -118,6 +119,10 @@ module _ (b : Board) (h : Each (FitCosts (b .dimension)) (b .moves)) where
   query-rows-fit (chosenQuery set) =
       fit-rows dim (λ m. listed) (chosen (chosenCosts dim set) (b .moves))
       (some-fit (λ m. not (any (λ p. dominatesAt (chosenCosts dim set) (p .costs) (m .costs)) (b .moves))))
+  query-rows-fit (hoursQuery t hours) =
+      let open-moves = openMoves t hours (b .blocks) (b .moves) in
+      fit-rows dim (λ m. listed) (skyline dim open-moves)
+      (fit-skyline dim open-moves (some-fit (λ m. blockOpen t hours (b .blocks (m .number)))))
 
   missing-fit : (mark : ℕ) (ms : List Move) (ss : List Row) → Each (FitCosts (b .dimension)) ms → Each Told (missing (map (rowOf mark) ms) ss)
   unfolding missing

@@ -14,7 +14,8 @@ use Rattle.model.specs.Basics.{Each, select, any, count, sortBy, parts, numbers
 use Rattle.model.specs.Moves.{Move, Row, rowOf, listed, zBefore, moveBefore, rowBefore}
 use Rattle.model.specs.Dominance.{better, dominates, at, dominatesAt, dominatesOn, equalCosts, lowerTwin, hides}
 use Rattle.model.specs.Lists.{hidden, skyline, dominators, band, dominated, rankBefore, rank, onK, chosen, chosenCosts, listedRows}
-use Rattle.model.specs.Calls.{Board, Query, list, bandQuery, rankQuery, onKQuery, chosenQuery, listOf, queryRows, queryRefusal, queryAnswer, orElse, refusedWith, rowsAnswer}
+use Rattle.model.specs.Hours.{blockOpen, openMoves}
+use Rattle.model.specs.Calls.{Board, Query, list, bandQuery, rankQuery, onKQuery, chosenQuery, hoursQuery, listOf, queryRows, queryRefusal, queryAnswer, Answer, orElse, rowsAnswer}
 use Rattle.promises.specs.Width.{moveWith, rowWith, boardWith}
 use Rattle.model.specs.Laws.Basics.{each-mem, mem-each, each-map, each-append, each-select, any-map, any-ext, select-map, count-map, map-take}
 use Rattle.model.specs.Laws.Range.{each-place}
@@ -167,12 +168,17 @@ module _ (g : List ℕ → List ℕ) (b : Board) (G : KeepsFirst (b .dimension) 
 
   -- Lists of any kind: the same rows, with the costs that g gives.
   pub query-rows-with : (q : Query) → queryRows (boardWith g b) q ≡ map (rowWith g) (queryRows b q)
-  unfolding queryRows listOf
+  unfolding queryRows listOf openMoves
   query-rows-with list = told-with (skyline (b .dimension) (b .moves)) (skyline-with (b .dimension) g G (b .moves))
   query-rows-with (bandQuery n) = told-with (band (b .dimension) n (b .moves)) (band-with (b .dimension) g G (b .moves) n)
   query-rows-with (rankQuery t) = rank-with (b .dimension) g G (b .moves) t
   query-rows-with (onKQuery k) = told-with (onK (b .dimension) k (b .moves)) (on-k-with (b .dimension) g G (b .moves) k)
   query-rows-with (chosenQuery set) = told-with (chosen (chosenCosts (b .dimension) set) (b .moves)) (chosen-with (b .dimension) g G (b .moves) set)
+  query-rows-with (hoursQuery t hours) =
+      let open-moves = openMoves t hours (b .blocks) (b .moves) in
+      told-with (skyline (b .dimension) open-moves)
+      (ap (skyline (b .dimension)) (select-map (λ m. blockOpen t hours (b .blocks (m .number))) (moveWith g) (b .moves))
+      ∙ skyline-with (b .dimension) g G open-moves)
 
   query-refusal-with : (q : Query) → queryRefusal (boardWith g b) q ≡ queryRefusal b q
   unfolding queryRefusal
@@ -181,9 +187,10 @@ module _ (g : List ℕ → List ℕ) (b : Board) (G : KeepsFirst (b .dimension) 
   query-refusal-with (rankQuery t) = refl
   query-refusal-with (onKQuery k) = refl
   query-refusal-with (chosenQuery set) = refl
+  query-refusal-with (hoursQuery minute hours) = refl
 
   pub query-answer-with : (q : Query) (lent : ℕ) → queryAnswer (boardWith g b) q lent ≡ queryAnswer b q lent
   unfolding queryAnswer
   query-answer-with q lent =
-      ap₂ (λ (n need : ℕ). orElse (refusedWith n) (rowsAnswer need lent)) (query-refusal-with q)
+      ap₂ (λ (a : Answer) (need : ℕ). orElse a (rowsAnswer need lent)) (query-refusal-with q)
       (ap length (query-rows-with q) ∙ length-map (queryRows b q) (rowWith g))

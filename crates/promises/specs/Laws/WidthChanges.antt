@@ -21,7 +21,7 @@ use Rattle.model.specs.Entering.{enterTree}
 use Rattle.model.specs.Withdrawing.{without, withdrawTree, costsOn, unchanged, recostTree}
 use Rattle.model.specs.Notice.{missing, noticeOf}
 use Rattle.model.specs.Changing.{changeTree}
-use Rattle.model.specs.Calls.{Answer, accepted, refusedWith, orElse, rowsAnswer, Board, rowRefusal, rowsRefusal, loadAnswer, loaded, Change, enter, withdraw, recost, onBoard, changeRefusal, changedMoves, changed, listOf, changeNotice, changeAnswer}
+use Rattle.model.specs.Calls.{Answer, accepted, refusedWith, orElse, rowsAnswer, Board, blockBad, rowRefusal, rowsRefusal, loadAnswer, giveBlock, rowBlocks, loaded, Change, enter, withdraw, recost, onBoard, changeRefusal, changedMoves, changedBlocks, changed, listOf, changeNotice, changeAnswer}
 use Rattle.model.specs.Laws.Bool.{same-test, cond-map}
 use Rattle.model.specs.Laws.Basics.{each-mem, mem-each, each-map, each-select, any-map, any-ext, select-map, select-ext, equal-refl, equal-true}
 use Rattle.model.specs.Laws.Sorting.{map-insert, each-insert}
@@ -34,9 +34,9 @@ abbrev pub FitCosts : ℕ → Move → Type 0
 FitCosts d m = RowCosts d (m .costs)
 
 abbrev pub FitChange : ℕ → Change → Type 0
-FitChange d (enter n costs) = RowCosts d costs
+FitChange d (enter n block costs) = RowCosts d costs
 FitChange d (withdraw n) = Unit {0}
-FitChange d (recost n costs) = RowCosts d costs
+FitChange d (recost n block costs) = RowCosts d costs
 
 -- Rows of moves, marked in whatever way.
 pub fit-rows : (d : ℕ) (mark : Move → ℕ) (ms : List Move) → Each (FitCosts d) ms → Each (λ r. RowCosts d (r .costs)) (map (λ m. rowOf (mark m) m) ms)
@@ -49,9 +49,9 @@ fit-skyline d ms h = each-select _ (FitCosts d) ms h
 
 pub fit-changed : (d : ℕ) (x : Change) (ms : List Move) → FitChange d x → Each (FitCosts d) ms → Each (FitCosts d) (changedMoves d x ms)
 unfolding changedMoves insert without
-fit-changed d (enter n costs) ms f h = each-insert (moveBefore d) (FitCosts d) (record { number = n; costs = costs }) ms f h
+fit-changed d (enter n block costs) ms f h = each-insert (moveBefore d) (FitCosts d) (record { number = n; costs = costs }) ms f h
 fit-changed d (withdraw n) ms f h = each-select _ (FitCosts d) ms h
-fit-changed d (recost n costs) ms f h = each-insert (moveBefore d) (FitCosts d) (record { number = n; costs = costs }) (without n ms) f (each-select _ (FitCosts d) ms h)
+fit-changed d (recost n block costs) ms f h = each-insert (moveBefore d) (FitCosts d) (record { number = n; costs = costs }) (without n ms) f (each-select _ (FitCosts d) ms h)
 
 module _ (d : ℕ) (g : List ℕ → List ℕ) (G : KeepsFirst d g) (l : d ≤ rowCosts) where
   -- Rows are equal where their first d costs are.
@@ -100,9 +100,9 @@ module _ (d : ℕ) (g : List ℕ → List ℕ) (G : KeepsFirst d g) (l : d ≤ r
 
   pub changed-with : (x : Change) (ms : List Move) → changedMoves d (changeWith g x) (map (moveWith g) ms) ≡ map (moveWith g) (changedMoves d x ms)
   unfolding changedMoves changeWith insert
-  changed-with (enter n costs) ms = sym (map-insert (moveWith g) (moveBefore d) (moveBefore d) (λ m n. sym (move-before-with d g G m n)) (record { number = n; costs = costs }) ms)
+  changed-with (enter n block costs) ms = sym (map-insert (moveWith g) (moveBefore d) (moveBefore d) (λ m n. sym (move-before-with d g G m n)) (record { number = n; costs = costs }) ms)
   changed-with (withdraw n) ms = without-with d g G n ms
-  changed-with (recost n costs) ms =
+  changed-with (recost n block costs) ms =
       ap (insert d (record { number = n; costs = g costs })) (without-with d g G n ms)
       ∙ sym (map-insert (moveWith g) (moveBefore d) (moveBefore d) (λ m n. sym (move-before-with d g G m n)) (record { number = n; costs = costs }) (without n ms))
 
@@ -156,14 +156,20 @@ module _ (g : List ℕ → List ℕ) (b : Board) (G : KeepsFirst (b .dimension) 
 
   change-refusal-with : (x : Change) → FitChange dim x → changeRefusal (boardWith g b) (changeWith g x) ≡ changeRefusal b x
   unfolding changeRefusal changeWith
-  change-refusal-with (enter n costs) f = λ i. refusal ((leb (b .size) n, 4) ∷ (past-with costs f i, 7) ∷ (on-board-with n i, 5) ∷ [])
+  change-refusal-with (enter n block costs) f = λ i. refusal ((leb (b .size) n, 4) ∷ (blockBad block, 11) ∷ (past-with costs f i, 7) ∷ (on-board-with n i, 5) ∷ [])
   change-refusal-with (withdraw n) f = λ i. refusal ((leb (b .size) n, 4) ∷ (not (on-board-with n i), 6) ∷ [])
-  change-refusal-with (recost n costs) f = λ i. refusal ((leb (b .size) n, 4) ∷ (past-with costs f i, 7) ∷ (not (on-board-with n i), 6) ∷ [])
+  change-refusal-with (recost n block costs) f = λ i. refusal ((leb (b .size) n, 4) ∷ (blockBad block, 11) ∷ (past-with costs f i, 7) ∷ (not (on-board-with n i), 6) ∷ [])
+
+  change-blocks-with : (x : Change) → changedBlocks (changeWith g x) ≡ changedBlocks x
+  unfolding changeWith changedBlocks
+  change-blocks-with (enter n block costs) = refl
+  change-blocks-with (withdraw n) = refl
+  change-blocks-with (recost n block costs) = refl
 
   module _ (x : Change) (f : FitChange dim x) where
     pub changed-board-with : changed (boardWith g b) (changeWith g x) ≡ boardWith g (changed b x)
     unfolding changed
-    changed-board-with = λ i. record { size = b .size; dimension = dim; moves = changed-with dim g G l x (b .moves) i }
+    changed-board-with = λ i. record { size = b .size; dimension = dim; moves = changed-with dim g G l x (b .moves) i; blocks = change-blocks-with x i (b .blocks) }
 
     -- Notices: the same rows, with the costs that g gives.
     pub change-notice-with : changeNotice (boardWith g b) (changeWith g x) ≡ map (rowWith g) (changeNotice b x)
@@ -181,18 +187,18 @@ module _ (g : List ℕ → List ℕ) (b : Board) (G : KeepsFirst (b .dimension) 
         ap₂ (λ (n need : ℕ). orElse (refusedWith n) (rowsAnswer need lent)) (change-refusal-with x f)
         (ap length change-notice-with ∙ length-map (changeNotice b x) (rowWith g))
 
-  recost-on : (n : ℕ) (costs : List ℕ) → changeRefusal b (recost n costs) ≡ 0 → onBoard n (b .moves) ≡ true
+  recost-on : (n block : ℕ) (costs : List ℕ) → changeRefusal b (recost n block costs) ≡ 0 → onBoard n (b .moves) ≡ true
   unfolding changeRefusal
-  recost-on n costs a =
-      not-false (onBoard n (b .moves)) (first-passes (not (onBoard n (b .moves))) 5 _ (rest-passes (costPastBad dim costs) 6 _ (rest-passes (leb (b .size) n) 3 _ a)))
+  recost-on n block costs a =
+      not-false (onBoard n (b .moves)) (first-passes (not (onBoard n (b .moves))) 5 _ (rest-passes (costPastBad dim costs) 6 _ (rest-passes (blockBad block) 10 _ (rest-passes (leb (b .size) n) 3 _ a))))
 
   -- Trees of changes that are accepted.
   pub change-tree-with : (x : Change) (t : Tree) → FitChange dim x → movesOf t ≡ b .moves → changeRefusal b x ≡ 0
       → changeTree dim (changeWith g x) (treeWith g t) ≡ treeWith g (changeTree dim x t)
   unfolding changeTree changeWith
-  change-tree-with (enter n costs) t f e a = enter-with dim g G (record { number = n; costs = costs }) t
+  change-tree-with (enter n block costs) t f e a = enter-with dim g G (record { number = n; costs = costs }) t
   change-tree-with (withdraw n) t f e a = withdraw-with dim g G n t
-  change-tree-with (recost n costs) t f e a = recost-with dim g G l n costs t f (subst (Each (FitCosts dim)) (sym e) h) (subst (λ (ms : List Move). onBoard n ms ≡ true) (sym e) (recost-on n costs a))
+  change-tree-with (recost n block costs) t f e a = recost-with dim g G l n costs t f (subst (Each (FitCosts dim)) (sym e) h) (subst (λ (ms : List Move). onBoard n ms ≡ true) (sym e) (recost-on n block costs a))
 
 -- ---- loads
 
@@ -203,7 +209,7 @@ module _ (c d : ℕ) (g : List ℕ → List ℕ) (G : KeepsFirst d g) where
   row-refusal-with : (earlier : List ℕ) (r : InputRow) → Past r → rowRefusal c d earlier (inputWith g r) ≡ rowRefusal c d earlier r
   unfolding rowRefusal
   row-refusal-with earlier r h =
-      ap (λ (b : Bool). refusal ((leb c (r .number), 4) ∷ (b, 7) ∷ (has (r .number) earlier, 5) ∷ [])) (G .past (r .costs) h ∙ sym h)
+      ap (λ (b : Bool). refusal ((leb c (r .number), 4) ∷ (blockBad (r .block), 11) ∷ (b, 7) ∷ (has (r .number) earlier, 5) ∷ [])) (G .past (r .costs) h ∙ sym h)
 
   rows-refusal-with : (place : ℕ) (earlier : List ℕ) (rs : List InputRow) → Each Past rs → rowsRefusal c d place earlier (map (inputWith g) rs) ≡ rowsRefusal c d place earlier rs
   unfolding rowsRefusal
@@ -212,6 +218,11 @@ module _ (c d : ℕ) (g : List ℕ → List ℕ) (G : KeepsFirst d g) where
       ap₂ (λ (n : ℕ) (a : Answer). cond (eqb n 0) a (record { number = n; detail = place }))
       (row-refusal-with earlier r (h .0))
       (rows-refusal-with (suc place) (r .number ∷ earlier) rs (h .1))
+
+  blocks-with : (rs : List InputRow) → rowBlocks (map (inputWith g) rs) ≡ rowBlocks rs
+  unfolding rowBlocks
+  blocks-with [] = refl
+  blocks-with (r ∷ rs) = ap (giveBlock (r .number) (r .block)) (blocks-with rs)
 
   module _ (rs : List InputRow) where
     pub load-answer-with : (bytes : ℕ) → Each Past rs → loadAnswer bytes c d (map (inputWith g) rs) ≡ loadAnswer bytes c d rs
@@ -224,7 +235,8 @@ module _ (c d : ℕ) (g : List ℕ → List ℕ) (G : KeepsFirst d g) where
 
     pub loaded-with : loaded c d (map (inputWith g) rs) ≡ boardWith g (loaded c d rs)
     unfolding loaded
-    loaded-with = λ i. record { size = c; dimension = d; moves = (ap (inZOrder d) moves-in-with ∙ sorted-with d g G (map moveOf rs)) i }
+    loaded-with =
+        λ i. record { size = c; dimension = d; moves = (ap (inZOrder d) moves-in-with ∙ sorted-with d g G (map moveOf rs)) i; blocks = blocks-with rs i }
 
     pub load-tree-with : loadTree d (map moveOf (map (inputWith g) rs)) ≡ treeWith g (loadTree d (map moveOf rs))
     load-tree-with = ap (loadTree d) moves-in-with ∙ load-with d g G (map moveOf rs)

@@ -41,10 +41,20 @@ returns-9 : tie.Need-returns-9
 unfolding detailOf
 returns-9 c = sym (ap detailOf (c .before .verdict4 .given .1))
 
+returns-10 : tie.Need-returns-10
+unfolding detailOf
+returns-10 c = sym (ap detailOf (c .before .verdict5 .given .1))
+
+returns-11 : tie.Need-returns-11
+unfolding detailOf
+returns-11 c = sym (ap detailOf (c .before .verdict6 .given .1))
+
 pub detail-of-spec : {M : Type 1} → statement M
 detail-of-spec =
     tie.close
     (tie.spec
+    (λ c. search needs)
+    (λ c. search needs)
     (λ c. search needs)
     (λ c. search needs)
     (λ c. search needs)
@@ -62,4 +72,6 @@ detail-of-spec =
     returns-6
     returns-7
     returns-8
-    returns-9)
+    returns-9
+    returns-10
+    returns-11)

@@ -41,10 +41,20 @@ returns-9 : tie.Need-returns-9
 unfolding numberOf
 returns-9 c = sym (ap numberOf (c .enum-told9 .given .1))
 
+returns-10 : tie.Need-returns-10
+unfolding numberOf
+returns-10 c = sym (ap numberOf (c .enum-told10 .given .1))
+
+returns-11 : tie.Need-returns-11
+unfolding numberOf
+returns-11 c = sym (ap numberOf (c .enum-told11 .given .1))
+
 pub number-of-spec : {M : Type 1} → statement M
 number-of-spec =
     tie.close
     (tie.spec
+    (λ c. search needs)
+    (λ c. search needs)
     (λ c. search needs)
     (λ c. search needs)
     (λ c. search needs)
@@ -62,4 +72,6 @@ number-of-spec =
     returns-6
     returns-7
     returns-8
-    returns-9)
+    returns-9
+    returns-10
+    returns-11)
