@@ -5,7 +5,7 @@ use mathlib.Core.Logic.{_⊎_}
 use mathlib.Core.Path.{_≡_}
 use mathlib.Core.List.{List}
 use lib.ListN.{length, getD}
-use Rattle.promises.specs.Written.{changeWrites}
+use Rattle.promises.specs.Written.{movesWrite}
 
 -- Only bytes from place a up to place b differ.
 pub record DifferWithin (a b : ℕ) (m m' : List ℕ) : Type 0 where
@@ -17,16 +17,19 @@ pub record Only (writes : ℕ → Bool) (m m' : List ℕ) : Type 0 where
   pub length : length m' ≡ length m
   pub same : (i : ℕ) → writes i ≡ false → getD m' i 0 ≡ getD m i 0
 
--- Only what a change may write.
-abbrev pub ChangeOnly : ℕ → List ℕ → List ℕ → Type 0
-ChangeOnly c = Only (changeWrites c)
+-- Only what a change of moves may write.
+abbrev pub MovesOnly : ℕ → List ℕ → List ℕ → Type 0
+MovesOnly c = Only (movesWrite c)
 
--- Only rows, that is numbers and heights by place, differ; only marks; only costs; only the work area.
+-- Only rows, that is numbers and heights by place, differ; only marks; only blocks; only costs; only the work area.
 abbrev pub RowsOnly : ℕ → List ℕ → List ℕ → Type 0
 RowsOnly c = DifferWithin 16 (16 + 3 * c)
 
 abbrev pub MarksOnly : ℕ → List ℕ → List ℕ → Type 0
 MarksOnly c = DifferWithin (16 + 3 * c) (16 + 4 * c)
+
+abbrev pub BlocksOnly : ℕ → List ℕ → List ℕ → Type 0
+BlocksOnly c = DifferWithin (16 + 4 * c) (16 + 5 * c)
 
 abbrev pub CostsOnly : ℕ → List ℕ → List ℕ → Type 0
 CostsOnly c = DifferWithin (16 + 5 * c) (16 + 21 * c)

@@ -5,6 +5,7 @@ pub mod Fields
 pub mod Costs
 pub mod Stored
 pub mod Lines
+pub mod Blocks
 pub mod Places
 pub mod Turns
 pub mod Levels

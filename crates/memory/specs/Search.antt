@@ -1,22 +1,28 @@
 -- What the search over places finds.
-use Prim.Native.Nat.{ℕ, _-_, _/_, _≤_, _<_}
+use Prim.Native.Nat.{ℕ, _-_, _/_, _%_, _^_, _≤_, _<_}
 use mathlib.Core.Bool.{Bool, true, false, not, _&&_}
 use mathlib.Core.List.{List, []}
 use mathlib.Core.Path.{_≡_}
+use lib.Dec.{eqb}
 use lib.ListN.{length, getD}
 use Rattle.zorder.specs.Address.{rowCosts}
 use Rattle.model.specs.Dominance.{nowhereGreater}
-use Rattle.promises.specs.Layout.{numberIn, costsIn, tab}
+use Rattle.promises.specs.Layout.{numberIn, blockIn, costsIn, tab}
 use Rattle.memory.specs.Tests.{isMarked}
 use Rattle.memory.specs.declared.search.Among.{Among}
-use Rattle.memory.specs.declared.search.Among.the-variants.{All, Listed, Hidden}
+use Rattle.memory.specs.declared.search.Among.the-variants.{All, Listed, Hidden, InBlocks}
 use Rattle.memory.specs.declared.sound.Head.{Head}
+
+-- Whether the block of a number is one of a set, whose bit k stands for block k.
+unfoldable pub inBlocks : ℕ → ℕ → List ℕ → ℕ → Bool
+inBlocks blocks c m k = eqb (blocks / 2 ^ (blockIn c m k % 64) % 2) 1
 
 -- Whether a search looks at the move of a number, and at the one at place i.
 unfoldable pub looks : Among → ℕ → List ℕ → ℕ → Bool
 looks All c m k = true
 looks Listed c m k = isMarked c m k
 looks Hidden c m k = not (isMarked c m k)
+looks (InBlocks blocks) c m k = inBlocks blocks c m k
 
 unfoldable pub looksAt : Among → ℕ → List ℕ → ℕ → Bool
 looksAt a c m i = looks a c m (numberIn c m i)
@@ -26,6 +32,7 @@ unfoldable pub seen : Among → List ℕ → List ℕ
 seen All costs = costs
 seen Listed costs = costs
 seen Hidden costs = tab (λ i. 65535 - getD costs i 0) rowCosts
+seen (InBlocks blocks) costs = costs
 
 unfoldable pub seenAt : Among → ℕ → List ℕ → ℕ → List ℕ
 seenAt a c m i = seen a (costsIn c rowCosts m (numberIn c m i))

@@ -3,7 +3,7 @@ use Prim.Native.Nat.{ℕ, suc}
 use mathlib.Core.Bool.{Bool, cond}
 use mathlib.Core.List.{List, [], _∷_}
 use lib.ListN.{set}
-use Rattle.promises.specs.Layout.{setWord, sizePlace, dimensionPlace, countPlace, numberPlace, heightPlace, markPlace, costPlace, workPlace}
+use Rattle.promises.specs.Layout.{setWord, sizePlace, dimensionPlace, countPlace, numberPlace, heightPlace, markPlace, blockPlace, costPlace, workPlace}
 
 unfoldable pub setHead : ℕ → ℕ → ℕ → List ℕ → List ℕ
 setHead c d n m = setWord countPlace n (set (setWord sizePlace c m) dimensionPlace d)
@@ -19,6 +19,9 @@ setHeight c i h m = set m (heightPlace c i) h
 
 unfoldable pub setListed : ℕ → ℕ → Bool → List ℕ → List ℕ
 setListed c n listed m = set m (markPlace c n) (cond listed 1 0)
+
+unfoldable pub setBlock : ℕ → ℕ → ℕ → List ℕ → List ℕ
+setBlock c n block m = set m (blockPlace c n) block
 
 -- The costs of a row from cost j on.
 unfoldable pub setCostsFrom : ℕ → ℕ → ℕ → List ℕ → List ℕ → List ℕ

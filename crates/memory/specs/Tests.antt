@@ -8,8 +8,8 @@ use lib.ListN.{length}
 use Rattle.zorder.specs.Refusal.{costCountBad}
 use Rattle.model.specs.Moves.{Move, moveBefore}
 use Rattle.model.specs.Dominance.{hides}
-use Rattle.model.specs.Calls.{sizeBad, memoryNeed}
-use Rattle.promises.specs.Layout.{sizeIn, dimensionIn, countIn, numberIn, markIn, moveIn}
+use Rattle.model.specs.Calls.{sizeBad, memoryNeed, blockBad}
+use Rattle.promises.specs.Layout.{sizeIn, dimensionIn, countIn, numberIn, markIn, blockIn, moveIn}
 use Rattle.promises.specs.Sound.{Sound}
 
 -- A test passes at 0, 1, .., n-1.
@@ -27,8 +27,12 @@ headRight m =
     && leb (memoryNeed (sizeIn m)) (length m)
     && leb (countIn m) (sizeIn m)
 
+-- The number at place i is below c, and its block one of 0 to 63.
+unfoldable pub numberRight : ℕ → List ℕ → ℕ → Bool
+numberRight c m i = ltb (numberIn c m i) c && not (blockBad (blockIn c m (numberIn c m i)))
+
 unfoldable pub numbersRight : ℕ → ℕ → List ℕ → Bool
-numbersRight c n m = allTo (λ i. ltb (numberIn c m i) c) n
+numbersRight c n m = allTo (numberRight c m) n
 
 unfoldable pub orderRight : ℕ → ℕ → ℕ → List ℕ → Bool
 orderRight c d n m = allTo (λ i. moveBefore d (moveIn c d m i) (moveIn c d m (suc i))) (n - 1)

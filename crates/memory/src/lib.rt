@@ -8,6 +8,7 @@ mod search;
 mod sound;
 mod stores;
 
+pub use fields::block_of;
 pub use fields::costs_of;
 pub use fields::count;
 pub use fields::dimension;
@@ -32,6 +33,7 @@ pub use sound::Head;
 pub use sound::Held;
 pub use sound::is_sound;
 pub use sound::sound_head;
+pub use stores::set_block;
 pub use stores::set_costs;
 pub use stores::set_count;
 pub use stores::set_head;

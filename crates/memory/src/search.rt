@@ -1,5 +1,6 @@
 // One search for everything. Places go in runs of 64, and each run has a corner, the least of each cost over its moves: where
 // the corner is somewhere greater than what is looked for, every move of the run is, and the run is passed by.
+use crate::fields::block_of;
 use crate::fields::costs_of;
 use crate::fields::is_listed;
 use crate::fields::number_at;
@@ -19,11 +20,19 @@ pub const RUN: usize = 64;
 pub const RUNS: usize = 64;
 
 // Which moves a search looks at. Hidden ones are seen from above, each cost as what it lacks of 65535: what is nowhere less
-// than a move is found as what is nowhere greater.
+// than a move is found as what is nowhere greater. Of blocks, bit k of the number stands for block k.
 pub enum Among {
     All,
     Listed,
     Hidden,
+    InBlocks(u64),
+}
+
+fn in_blocks(m: &[u8], c: usize, number: u16, blocks: u64) -> bool
+    requires { ⌜ Room c (now m) × (number < c) ⌝ }
+    ensures { λ r. ⌜ r ≡ spec.inBlocks blocks c (now (m .entry)) number ⌝ }
+{
+    (blocks >> (block_of(m, c, number) % 64)) & 1 == 1
 }
 
 fn looks(m: &[u8], c: usize, number: u16, among: Among) -> bool
@@ -34,6 +43,7 @@ fn looks(m: &[u8], c: usize, number: u16, among: Among) -> bool
         Among::All => true,
         Among::Listed => is_listed(m, c, number),
         Among::Hidden => !is_listed(m, c, number),
+        Among::InBlocks(blocks) => in_blocks(m, c, number, blocks),
     }
 }
 
@@ -63,6 +73,7 @@ pub fn seen(among: Among, costs: [u16; COSTS]) -> [u16; COSTS]
         Among::All => costs,
         Among::Listed => costs,
         Among::Hidden => from_above(costs),
+        Among::InBlocks(_) => costs,
     }
 }
 

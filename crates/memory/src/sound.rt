@@ -1,4 +1,5 @@
 // Whether the memory is sound, decided for every content.
+use crate::fields::block_of;
 use crate::fields::count;
 use crate::fields::dimension;
 use crate::fields::move_at;
@@ -42,13 +43,18 @@ fn head_right(m: &[u8]) -> bool
     count(m) <= c
 }
 
+// Whether each number is below C and its block one of 0 to 63.
 fn numbers_right(m: &[u8], c: usize, n: usize) -> bool
     requires { ⌜ Room c (now m) × (n ≤ c) ⌝ }
     ensures { λ r. ⌜ r ≡ tests.numbersRight c n (now (m .entry)) ⌝ }
 {
     let mut i = 0;
     while i < n {
-        if c <= (number_at(m, c, i) as usize) {
+        let number = number_at(m, c, i);
+        if c <= (number as usize) {
+            return false;
+        }
+        if 63 < block_of(m, c, number) {
             return false;
         }
         i += 1;

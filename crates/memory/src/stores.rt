@@ -45,6 +45,13 @@ pub fn set_listed(m: &mut [u8], c: usize, number: u16, listed: bool)
     m[16 + 3 * c + (number as usize)] = if listed { 1 } else { 0 };
 }
 
+pub fn set_block(m: &mut [u8], c: usize, number: u16, block: u16)
+    requires { ⌜ Room c (now m) × (number < c) × (block < 256) ⌝ }
+    ensures { λ _. ⌜ now (m .exit) ≡ stores.setBlock c number block (now (m .entry)) ⌝ }
+{
+    m[16 + 4 * c + (number as usize)] = block as u8;
+}
+
 pub fn set_costs(m: &mut [u8], c: usize, number: u16, costs: [u16; COSTS])
     requires { ⌜ Room c (now m) × (number < c) ⌝ }
     ensures { λ _. ⌜ now (m .exit) ≡ stores.setCosts c number costs (now (m .entry)) ⌝ }

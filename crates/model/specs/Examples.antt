@@ -1,13 +1,13 @@
--- Computed examples of the tree's rules and of the notice, beside document 01's own cases (d = 2), and of eight costs.
+-- Computed examples of the tree's rules, the notice and the hours, beside document 01's own cases (d = 2), and of eight costs.
 use Prim.Native.Nat.{ℕ, zero, suc, _+_, _-_, _*_, _^_}
-use mathlib.Core.Bool.{true, false}
+use mathlib.Core.Bool.{true, false, cond}
 use mathlib.Core.List.{List, [], _∷_, _++_, map, flatMap}
 use mathlib.Core.Path.{_≡_, refl}
 use lib.ListN.{length, getD, set, replicate}
 use Rattle.zorder.specs.Address.{rowCosts, address, padded}
 use Rattle.zorder.specs.Words.{wordsOf}
 use Rattle.zorder.specs.Between.{before, sideOf, farOf}
-use Rattle.model.specs.Basics.{numbersFrom}
+use Rattle.model.specs.Basics.{numbersFrom, has}
 use Rattle.model.specs.Moves.{Move, inZOrder}
 use Rattle.model.specs.Dominance.{dominates}
 use Rattle.model.specs.Tree.{Entry, Tree, empty, rooted}
@@ -16,7 +16,8 @@ use Rattle.model.specs.Entering.{enterTree}
 use Rattle.model.specs.Withdrawing.{enterAll, withdrawTree, recostTree}
 use Rattle.model.specs.Nodes.{nodesOpened}
 use Rattle.model.specs.Lists.{skyline, band, rank}
-use Rattle.model.specs.Calls.{Board, enter, withdraw, recost, chosenQuery, queryRows}
+use Rattle.model.specs.Hours.{Window, Hours, openIn, noHours}
+use Rattle.model.specs.Calls.{Board, loaded, enter, withdraw, recost, changedMoves, changed, changesNothing, chosenQuery, hoursQuery, queryRefusal, queryRows}
 use Rattle.model.specs.Computing.{computing}
 use Rattle.model.specs.Cases.{pair, move, numbers, marks, notices}
 
@@ -160,6 +161,73 @@ chosen-of-all = refl
 rank-tie : marks (rank 2 2 (inZOrder 2 (move 0 3 0 ∷ move 1 0 3 ∷ []))) ≡ 0 ∷ 1 ∷ 0 ∷ 0 ∷ []
 unfolding showing
 rank-tie = refl
+
+-- ---- hours
+
+-- Moves 0 and 2 have equal costs and dominate 1; each lies in a block of its own.
+yard : Board
+yard =
+    loaded 16 2
+    (record { number = 0; block = 5; costs = pair 1 1 }
+    ∷ record { number = 1; block = 6; costs = pair 2 2 }
+    ∷ record { number = 2; block = 7; costs = pair 1 1 }
+    ∷ [])
+
+window : ℕ → ℕ → Window
+window start end = record { start = start; end = end }
+
+-- One window; what stands in the other slots is not looked at.
+once : ℕ → ℕ → Hours
+once start end = record { count = 1; windows = window start end ∷ replicate 3 (window 7 7) }
+
+-- Eight entries, those of the given blocks open from 100 to 199.
+openOnly : List ℕ → List Hours
+openOnly ks = map (λ k. cond (has k ks) (once 100 200) noHours) (numbersFrom 0 8)
+
+-- A move in a shut block hides none, neither as a dominator nor as a lower twin.
+hours-lists : map (λ ks. marks (queryRows yard (hoursQuery 100 (openOnly ks))))
+    ((5 ∷ []) ∷ (6 ∷ []) ∷ (7 ∷ []) ∷ (5 ∷ 6 ∷ []) ∷ (5 ∷ 7 ∷ []) ∷ (6 ∷ 7 ∷ []) ∷ [] ∷ [])
+    ≡ (0 ∷ 0 ∷ []) ∷ (0 ∷ 1 ∷ []) ∷ (0 ∷ 2 ∷ []) ∷ (0 ∷ 0 ∷ []) ∷ (0 ∷ 0 ∷ []) ∷ (0 ∷ 2 ∷ []) ∷ [] ∷ []
+unfolding showing yard window once openOnly
+hours-lists = refl
+
+-- A window over the week's end: the start is in it, the end is not.
+over-week : map (λ t. openIn t (window 10000 50)) (0 ∷ 49 ∷ 50 ∷ 9999 ∷ 10000 ∷ 10079 ∷ [])
+    ≡ true ∷ true ∷ false ∷ false ∷ true ∷ true ∷ []
+unfolding showing window
+over-week = refl
+
+-- The refusal of entries for blocks 0 to 9, the last bad: blocks 3 and 9 hold no move.
+refused : ℕ → Hours → List ℕ
+refused t h =
+    let a = queryRefusal yard (hoursQuery t (set (set (replicate 10 noHours) 9 (once 5 5)) 3 h)) in
+    a .number ∷ a .detail ∷ []
+
+-- 7 goes before 12, which names the lowest bad block: at 3 a start above 10,079, an end above it, a start equal to its end, a
+-- fifth window, and nothing bad.
+hours-refused : refused 10080 (once 5 5) ∷ map (refused 10079)
+    (once 10080 0 ∷ once 0 10080 ∷ once 5 5 ∷ record { count = 5; windows = replicate 4 (window 0 1) } ∷ once 10079 0 ∷ [])
+    ≡ (7 ∷ 0 ∷ []) ∷ (12 ∷ 3 ∷ []) ∷ (12 ∷ 3 ∷ []) ∷ (12 ∷ 3 ∷ []) ∷ (12 ∷ 3 ∷ []) ∷ (12 ∷ 9 ∷ []) ∷ []
+unfolding showing yard window once refused
+hours-refused = refl
+
+-- A re-cost changes nothing if costs and block are both equal ..
+block-changes : map (changesNothing yard) (recost 0 5 (pair 1 1) ∷ recost 0 9 (pair 1 1) ∷ recost 0 5 (pair 1 2) ∷ []) ≡ true ∷ false ∷ false ∷ []
+unfolding showing yard
+block-changes = refl
+
+-- .. and with equal costs and another block it changes the block only: no move, and no row is told.
+block-given : map (changed yard (recost 0 9 (pair 1 1)) .blocks) (numbersFrom 0 4) ≡ 9 ∷ 6 ∷ 7 ∷ 0 ∷ []
+unfolding showing yard
+block-given = refl
+
+block-moves : changedMoves 2 (recost 0 9 (pair 1 1)) (yard .moves) ≡ yard .moves
+unfolding showing yard
+block-moves = refl
+
+block-untold : notices yard (recost 0 9 (pair 1 1) ∷ []) ≡ [] ∷ []
+unfolding showing yard
+block-untold = refl
 
 -- ---- eight costs
 

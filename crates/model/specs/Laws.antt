@@ -22,3 +22,5 @@ pub mod Notice
 pub mod Holder
 pub mod Changes
 pub mod TwinChanges
+pub mod Blocks
+pub mod Hours

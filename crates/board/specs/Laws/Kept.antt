@@ -23,7 +23,7 @@ use Rattle.promises.specs.Promise.{Kept}
 use Rattle.promises.specs.Laws.Tab.{each-tab}
 use Rattle.memory.specs.Held.{SoundAt}
 use Rattle.memory.specs.Stores.{setCount}
-use Rattle.memory.specs.Frame.{DifferWithin, ChangeOnly}
+use Rattle.memory.specs.Frame.{DifferWithin, MovesOnly}
 use Rattle.memory.specs.Laws.Written.{only-trans, count-written, size-left, dimension-left}
 use Rattle.memory.specs.Laws.Fields.{number-over-head, mark-over-head}
 use Rattle.memory.specs.Laws.Stored.{setCount-head, count-setCount, size-setCount, dimension-setCount}
@@ -34,7 +34,7 @@ use Rattle.tree.specs.Hold.{RowsHold}
 abbrev pub MarksRight : ℕ → ℕ → List ℕ → List Move → Type 0
 MarksRight c d m ms = Each (λ x. eqb (markIn c m (x .number)) 1 ≡ not (hidden d ms x)) ms
 
-module _ {c d n k : ℕ} {m m₁ : List ℕ} {t : Tree} (s : SoundAt c d n m) (f : ChangeOnly c m m₁) (h : RowsHold c d k m₁ t)
+module _ {c d n k : ℕ} {m m₁ : List ℕ} {t : Tree} (s : SoundAt c d n m) (f : MovesOnly c m m₁) (h : RowsHold c d k m₁ t)
     (marks : MarksRight c d m₁ (movesOf t)) where
   abbrev m' : List ℕ
   m' = setCount k m₁
@@ -89,7 +89,7 @@ module _ {c d n k : ℕ} {m m₁ : List ℕ} {t : Tree} (s : SoundAt c d n m) (f
         kept = kept;
       }
 
-  all : ChangeOnly c m m'
+  all : MovesOnly c m m'
   all = only-trans f (count-written c k m₁)
 
   kept-counted : (ms : List Move) → movesOf t ≡ ms → Kept (changeWrites c) m m' (record { size = c; dimension = d; moves = ms }) t
@@ -102,7 +102,7 @@ module _ {c d n k : ℕ} {m m₁ : List ℕ} {t : Tree} (s : SoundAt c d n m) (f
       }
 
 -- The same for a change of the board that sound memory holds.
-pub made : {c d n k : ℕ} {m m₁ m' : List ℕ} (s : SoundAt c d n m) (x : Change) (t : Tree) → ChangeOnly c m m₁ → RowsHold c d k m₁ (changeTree d x t)
+pub made : {c d n k : ℕ} {m m₁ m' : List ℕ} (s : SoundAt c d n m) (x : Change) (t : Tree) → MovesOnly c m m₁ → RowsHold c d k m₁ (changeTree d x t)
     → movesOf (changeTree d x t) ≡ changedMoves d x (movesIn (lineFrom c d n m))
     → MarksRight c d m₁ (changedMoves d x (movesIn (lineFrom c d n m)))
     → m' ≡ setCount k m₁

@@ -32,7 +32,7 @@ use Rattle.dominance.specs.Move.{asMove}
 use Rattle.dominance.specs.declared.Move.{Move}
 use Rattle.memory.specs.Held.{SoundAt}
 use Rattle.memory.specs.Stores.{setListed, setCosts, setCount}
-use Rattle.memory.specs.Frame.{ChangeOnly, MarksOnly, CostsOnly}
+use Rattle.memory.specs.Frame.{MovesOnly, MarksOnly, CostsOnly}
 use Rattle.memory.specs.Laws.Written.{only-trans, rows-written, marks-written, costs-written}
 use Rattle.memory.specs.Laws.Fields.{mark-over-rows, mark-over-costs}
 use Rattle.memory.specs.Laws.Places.{any-tab, anyTo-found}
@@ -114,7 +114,7 @@ module _ {c d n p : ℕ} {x : Move} {u : Upkeep} {m m₁ m₂ : List ℕ} (a : T
       ∙ sym (equal-true (x .costs) (costsOn (x .number) (movesOf t)) e))))
       (λ _. ap (λ (k : ℕ). enterTree d (asMove x) (withdrawTree d k t)) (a .number))
 
-  pub recost-written : {m₃ : List ℕ} → withdraw.Withdrawn c d n p m₂ m₃ → ChangeOnly c m m₃
+  pub recost-written : {m₃ : List ℕ} → withdraw.Withdrawn c d n p m₂ m₃ → MovesOnly c m m₃
   recost-written w = only-trans (marks-written c marked) (gone-written w)
 
   module _ {m₃ m₄ : List ℕ} (w : withdraw.Withdrawn c d n p m₂ m₃) (e₄ : m₄ ≡ setCosts c (x .number) (x .costs) m₃) where

@@ -20,7 +20,7 @@ use Rattle.promises.specs.Run.{Bytes}
 use Rattle.memory.specs.Room.{Room}
 use Rattle.memory.specs.Held.{SoundAt}
 use Rattle.memory.specs.Stores.{setListed, setCosts}
-use Rattle.memory.specs.Frame.{ChangeOnly, MarksOnly, CostsOnly}
+use Rattle.memory.specs.Frame.{MovesOnly, MarksOnly, CostsOnly}
 use Rattle.memory.specs.Laws.Frames.{frame-trans}
 use Rattle.memory.specs.Laws.Written.{only-trans, only-room, rows-written, work-written}
 use Rattle.memory.specs.Laws.Fields.{number-over-marks, mark-over-rows, mark-over-work}
@@ -35,7 +35,7 @@ use Rattle.board.specs.Laws.Rows.{holds-sound, holds-moves, holds-over-m
 use Rattle.board.specs.Laws.Marks.{rest-without}
 
 -- What storing the mark and the costs of a coming move asks, whatever was written before.
-pub coming-asked : {c d n : ℕ} {k : Change} {m m₁ : List ℕ} → ChangeAsked c d n k m → k .comes ≡ true → ChangeOnly c m m₁ → Room c m₁ × (k .coming .number < c)
+pub coming-asked : {c d n : ℕ} {k : Change} {m m₁ : List ℕ} → ChangeAsked c d n k m → k .comes ≡ true → MovesOnly c m m₁ → Room c m₁ × (k .coming .number < c)
 coming-asked {c} {d} {n} {m = m} asked comes f = (only-room c f (held-room c d n m (asked .sound)), asked .fit comes .number)
 
 -- Its mark, after those of the others.
@@ -62,7 +62,7 @@ module _ {c d n : ℕ} {x : model.Move} {m m' : List ℕ} {t : Tree} (h : RowsHo
 
 -- A move goes.
 module _ {c d n p : ℕ} {m₁ m₂ : List ℕ} (w : Withdrawn c d n p m₁ m₂) where
-  pub gone-written : ChangeOnly c m₁ m₂
+  pub gone-written : MovesOnly c m₁ m₂
   gone-written = only-trans (work-written c (w .work)) (rows-written c (w .rows))
 
   pub gone-mark : (v : ℕ) → v < c → markIn c m₂ v ≡ markIn c m₁ v

@@ -27,7 +27,8 @@ use Rattle.memory.specs.Room.{Numbers}
 use Rattle.memory.specs.Tests.{headRight, numbersRight, orderRight, isListed, hiddenBefore, marksRight, Decides}
 use Rattle.memory.specs.Laws.Lines.{movesIn-line, heightsIn-line, numbers-each, each-numbers}
 use Rattle.memory.specs.Laws.Ordered.{order-right}
-use Rattle.memory.specs.Laws.Turns.{numbers-right, right-numbers}
+use Rattle.memory.specs.Laws.Turns.{numbers-right, blocks-right, right-numbers}
+use Rattle.memory.specs.Laws.Blocks as blocks
 use Rattle.memory.specs.Laws.Head.{HeadRight, head-right, right-head}
 use Rattle.memory.specs.Laws.Marks.{marks-kept, kept-marks}
 
@@ -78,7 +79,8 @@ module _ (m : List ℕ) where
   stands-numbers s = each-numbers c d n m (s .numbers)
 
   pub sound-numbers : Sound m → numbersRight (sizeIn m) (countIn m) m ≡ true
-  sound-numbers s = right-numbers c m n (stands-numbers (s .stands))
+  unfolding lineIn boardIn
+  sound-numbers s = right-numbers c m n (stands-numbers (s .stands)) (blocks.blocks-right c d n m (s .blocks))
 
   pub sound-order : Sound m → orderRight (sizeIn m) (dimensionIn m) (countIn m) m ≡ true
   unfolding lineIn boardIn
@@ -98,8 +100,8 @@ module _ (m : List ℕ) where
     pub right-sound : headRight m ≡ true → numbersRight (sizeIn m) (countIn m) m ≡ true
         → orderRight (sizeIn m) (dimensionIn m) (countIn m) m ≡ true → heightsRight (heightsIn (lineIn m)) ≡ true
         → marksRight (sizeIn m) (dimensionIn m) (countIn m) m ≡ true → Sound m
-    unfolding lineIn keptIn
-    right-sound e f g h k = record { tree = t; stands = stands }
+    unfolding lineIn keptIn boardIn
+    right-sound e f g h k = record { tree = t; stands = stands; blocks = blocks.right-blocks c d n m (blocks-right c m n f) }
       where
         head : HeadRight m
         head = head-right m e

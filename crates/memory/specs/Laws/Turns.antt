@@ -1,15 +1,18 @@
 -- One turn of each loop that tests places.
 use Prim.Native.Nat.{ℕ, suc, _+_, _-_, _≤_, _<_}
-use mathlib.Core.Bool.{Bool, true, false, not, Bool·beq}
+use mathlib.Core.Bool.{Bool, true, false, not, _&&_, Bool·beq}
 use mathlib.Core.List.{List}
 use mathlib.Core.Path.{_≡_, refl, sym, ap, ap₂, _∙_}
 use native.Mathlib.Omega.{arith}
-use lib.Dec.{ltb}
-use borrow.Author.Tests.{ltb-true, lt-ltb, le-ltb}
+use lib.Dec.{leb, ltb}
+use borrow.Author.Tests.{ltb-true, lt-ltb, le-ltb, le-leb, lt-leb, not-true}
 use Rattle.model.specs.Moves.{moveBefore}
-use Rattle.promises.specs.Layout.{numberIn, moveIn}
+use Rattle.model.specs.Basics.{within}
+use Rattle.model.specs.Calls.{blockBad}
+use Rattle.model.specs.Laws.Bool.{and-left, and-right, and-both, and-false-right}
+use Rattle.promises.specs.Layout.{numberIn, blockIn, moveIn}
 use Rattle.memory.specs.Room.{Numbers}
-use Rattle.memory.specs.Tests.{allTo, numbersRight, orderRight, isMarked, isListed, hiddenBefore, marksRight}
+use Rattle.memory.specs.Tests.{allTo, numberRight, numbersRight, orderRight, isMarked, isListed, hiddenBefore, marksRight}
 use Rattle.memory.specs.Laws.Places.{allTo-at, allTo-all, allTo-more, allTo-next, allTo-fails}
 
 beq-not : (a b : Bool) → Bool·beq a (not b) ≡ not (Bool·beq a b)
@@ -25,28 +28,51 @@ module _ (c : ℕ) (m : List ℕ) where
   unfolding isListed
   listed-at i n e = ap (isMarked c m) (sym e)
 
-  below : ℕ → Bool
-  below i = ltb (numberIn c m i) c
+  block : ℕ → ℕ
+  block i = blockIn c m (numberIn c m i)
 
   pub numbers-right : (n : ℕ) → numbersRight c n m ≡ true → Numbers c n m
-  unfolding numbersRight below
-  numbers-right n h i l = ltb-true (numberIn c m i) c (allTo-at below n i l h)
+  unfolding numbersRight numberRight
+  numbers-right n h i l = ltb-true (numberIn c m i) c (and-left (ltb (numberIn c m i) c) (not (blockBad (block i))) (allTo-at (numberRight c m) n i l h))
 
-  pub right-numbers : (n : ℕ) → Numbers c n m → numbersRight c n m ≡ true
-  unfolding numbersRight below
-  right-numbers n h = allTo-all below n (λ i l. lt-ltb (numberIn c m i) c (h i l))
+  pub blocks-right : (n : ℕ) → numbersRight c n m ≡ true → (i : ℕ) → i < n → blockBad (blockIn c m (numberIn c m i)) ≡ false
+  unfolding numbersRight numberRight
+  blocks-right n h i l = not-true (blockBad (block i)) (and-right (ltb (numberIn c m i) c) (not (blockBad (block i))) (allTo-at (numberRight c m) n i l h))
+
+  pub right-numbers : (n : ℕ) → Numbers c n m → ((i : ℕ) → i < n → blockBad (blockIn c m (numberIn c m i)) ≡ false) → numbersRight c n m ≡ true
+  unfolding numbersRight numberRight
+  right-numbers n h k =
+      allTo-all (numberRight c m) n
+      (λ i l. and-both (ltb (numberIn c m i) c) (not (blockBad (block i))) (lt-ltb (numberIn c m i) c (h i l)) (ap not (k i l)))
+
+  -- One block: a byte is at least 0.
+  fits : (k : ℕ) → k ≤ 63 → blockBad k ≡ false
+  unfolding blockBad within
+  fits k l = ap not (and-both (leb 0 k) (leb k 63) (le-leb 0 k (omega arith)) (le-leb k 63 l))
+
+  pub exceeds : (k : ℕ) → 63 < k → blockBad k ≡ true
+  unfolding blockBad within
+  exceeds k l = ap not (and-false-right (leb 0 k) (leb k 63) (lt-leb k 63 l))
 
   pub numbers-none : numbersRight c 0 m ≡ true
   unfolding numbersRight allTo
   numbers-none = refl
 
-  pub numbers-more : (i : ℕ) → numbersRight c i m ≡ true → numberIn c m i < c → numbersRight c (i + 1) m ≡ true
-  unfolding numbersRight below
-  numbers-more i h l = allTo-more below i h (lt-ltb (numberIn c m i) c l)
+  pub numbers-more : (i : ℕ) → numbersRight c i m ≡ true → numberIn c m i < c → blockIn c m (numberIn c m i) ≤ 63 → numbersRight c (i + 1) m ≡ true
+  unfolding numbersRight numberRight
+  numbers-more i h l k =
+      allTo-more (numberRight c m) i h
+      (and-both (ltb (numberIn c m i) c) (not (blockBad (block i))) (lt-ltb (numberIn c m i) c l) (ap not (fits (block i) k)))
 
   pub numbers-fail : (n i : ℕ) → i < n → c ≤ numberIn c m i → numbersRight c n m ≡ false
-  unfolding numbersRight below
-  numbers-fail n i k l = allTo-fails below n i k (le-ltb (numberIn c m i) c l)
+  unfolding numbersRight numberRight
+  numbers-fail n i k l = allTo-fails (numberRight c m) n i k (ap (λ (b : Bool). b && not (blockBad (block i))) (le-ltb (numberIn c m i) c l))
+
+  pub blocks-fail : (n i : ℕ) → i < n → 63 < blockIn c m (numberIn c m i) → numbersRight c n m ≡ false
+  unfolding numbersRight numberRight
+  blocks-fail n i k l =
+      allTo-fails (numberRight c m) n i k
+      (and-false-right (ltb (numberIn c m i) c) (not (blockBad (block i))) (ap not (exceeds (block i) l)))
 
 module _ (c d : ℕ) (m : List ℕ) where
   -- ---- order

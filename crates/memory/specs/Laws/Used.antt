@@ -13,11 +13,11 @@ use Rattle.model.specs.Basics.{Each, any}
 use Rattle.model.specs.Moves.{Move}
 use Rattle.model.specs.Lists.{skyline}
 use Rattle.model.specs.Tree.{Tree, movesOf, ruled}
-use Rattle.model.specs.Calls.{sizeBad, memoryNeed}
+use Rattle.model.specs.Calls.{sizeBad, memoryNeed, blocksOn}
 use Rattle.model.specs.Laws.Bool.{or-left, or-right}
 use Rattle.model.specs.Laws.Basics.{select-ext}
 use Rattle.line.specs.Line.{movesIn}
-use Rattle.promises.specs.Layout.{wordAt, numberPlace, heightPlace, markPlace, costPlace, sizeIn, dimensionIn, countIn, numberIn, heightIn, markIn, costIn, costsIn, moveIn, tab, lineFrom, lineIn, boardIn, keptFrom, keptIn}
+use Rattle.promises.specs.Layout.{wordAt, numberPlace, heightPlace, markPlace, blockPlace, costPlace, sizeIn, dimensionIn, countIn, numberIn, heightIn, markIn, blockIn, costIn, costsIn, moveIn, tab, lineFrom, lineIn, boardIn, keptFrom, keptIn}
 use Rattle.promises.specs.Sound.{Stands}
 use Rattle.promises.specs.Written.{inArea}
 use Rattle.promises.specs.Used.{headUse, rowsUse, moveUse, inUse, longEnough, SameInUse}
@@ -25,6 +25,7 @@ use Rattle.promises.specs.Laws.Tab.{each-tab, tab-ext}
 use Rattle.promises.specs.Laws.Written.{in-area}
 use Rattle.memory.specs.Laws.Places.{any-tab, anyTo-found}
 use Rattle.memory.specs.Laws.Lines.{line-ext, movesIn-line}
+use Rattle.memory.specs.Laws.Blocks.{same-blocks}
 
 -- ---- fields by their bytes
 
@@ -106,7 +107,13 @@ module _ (m m' : List ℕ) (same : SameInUse m m') where
     unfolding markIn moveUse
     mark-same =
         let o = markPlace c number in
-        move-byte o (or-left (eqb o (markPlace c number)) (inArea (costPlace c number 0) (costPlace c number d) o) (eq-eqb o (markPlace c number) refl))
+        move-byte o (or-left (eqb o (markPlace c number) || eqb o (blockPlace c number)) (inArea (costPlace c number 0) (costPlace c number d) o) (or-left (eqb o (markPlace c number)) (eqb o (blockPlace c number)) (eq-eqb o (markPlace c number) refl)))
+
+    block-same : blockIn (sizeIn m) m' (numberIn (sizeIn m) m i) ≡ blockIn (sizeIn m) m (numberIn (sizeIn m) m i)
+    unfolding blockIn moveUse
+    block-same =
+        let o = blockPlace c number in
+        move-byte o (or-left (eqb o (markPlace c number) || eqb o (blockPlace c number)) (inArea (costPlace c number 0) (costPlace c number d) o) (or-right (eqb o (markPlace c number)) (eqb o (blockPlace c number)) (eq-eqb o (blockPlace c number) refl)))
 
     cost-byte : (o : ℕ) → costPlace (sizeIn m) (numberIn (sizeIn m) m i) 0 ≤ o → o < costPlace (sizeIn m) (numberIn (sizeIn m) m i) (dimensionIn m) → getD m' o 0 ≡ getD m o 0
     unfolding moveUse
@@ -145,6 +152,12 @@ module _ (m m' : List ℕ) (same : SameInUse m m') where
       listed : Move → Bool
       listed x = eqb (markIn c m (x .number)) 1
 
+  blocks-same : blocksOn (movesIn (lineIn m')) (blockIn (sizeIn m') m') ≡ blocksOn (movesIn (lineIn m)) (blockIn (sizeIn m) m)
+  unfolding lineIn
+  blocks-same =
+      (λ i. blocksOn (movesIn (line-same i)) (blockIn (size-same i) m'))
+      ∙ same-blocks c d n m (blockIn c m') (blockIn c m) block-same
+
   -- The same bytes are in use in both.
   use-same : (i : ℕ) → inUse m' i ≡ inUse m i
   unfolding inUse
@@ -157,7 +170,7 @@ module _ (m m' : List ℕ) (same : SameInUse m m') where
 
   pub used-board : boardIn m' ≡ boardIn m
   unfolding boardIn
-  used-board = λ i. record { size = size-same i; dimension = dimension-same i; moves = movesIn (line-same i) }
+  used-board = λ i. record { size = size-same i; dimension = dimension-same i; moves = movesIn (line-same i); blocks = blocks-same i }
 
   pub used-stands : {t : Tree} → Stands m t → Stands m' t
   unfolding longEnough

@@ -1,19 +1,19 @@
 -- Stores that write only what a change or a load may write.
 use Prim.Native.Nat.{ℕ, _+_, _*_, _≤_, _<_}
-use mathlib.Core.Bool.{Bool, true, false}
+use mathlib.Core.Bool.{Bool, true, false, _||_}
 use mathlib.Core.List.{List}
 use mathlib.Core.Logic.{inl, inr}
 use mathlib.Core.Path.{_≡_, refl, ap₂, _∙_}
 use native.Mathlib.Decide.{decLt}
 use native.Mathlib.Omega.{arith}
 use lib.ListN.{length, getD, set}
-use Rattle.model.specs.Laws.Bool.{both-ways, or-left, or-false-right}
-use Rattle.promises.specs.Layout.{wordAt, setWord, sizeIn, dimensionIn}
-use Rattle.promises.specs.Written.{inArea, changeWrites, loadWrites}
-use Rattle.promises.specs.Laws.Written.{in-area, writes-count, writes-rows, writes-costs, leaves-head}
+use Rattle.model.specs.Laws.Bool.{both-ways, or-left, or-right, or-false-left, or-false-right}
+use Rattle.promises.specs.Layout.{wordAt, setWord, blockPlace, sizeIn, dimensionIn, blockIn}
+use Rattle.promises.specs.Written.{inArea, movesWrite, loadWrites}
+use Rattle.promises.specs.Laws.Written.{in-area, writes-count, writes-rows, writes-costs, leaves-head, leaves-blocks}
 use Rattle.memory.specs.Room.{Room}
 use Rattle.memory.specs.Stores.{setHead, setCount}
-use Rattle.memory.specs.Frame.{DifferWithin, Only, ChangeOnly, RowsOnly, MarksOnly, CostsOnly, WorkOnly}
+use Rattle.memory.specs.Frame.{DifferWithin, Only, MovesOnly, RowsOnly, MarksOnly, BlocksOnly, CostsOnly, WorkOnly}
 use Rattle.memory.specs.Laws.Frames.{byte-frame, word-frame}
 
 -- ---- frames over a test
@@ -36,26 +36,26 @@ range-only {a} {b} {m} {m'} writes written f = record { length = f .length; same
     go i free (no l) (yes u) = both-ways (written i (omega arith) u) free
     go i free (no l) (no u) = f .same i (inr (omega arith))
 
--- ---- what a change writes
+-- ---- what a change of moves writes
 
 module _ (c : ℕ) {m m' : List ℕ} where
-  pub rows-written : RowsOnly c m m' → ChangeOnly c m m'
-  rows-written = range-only (changeWrites c) (λ i l u. writes-rows c i l (omega arith))
+  pub rows-written : RowsOnly c m m' → MovesOnly c m m'
+  rows-written = range-only (movesWrite c) (λ i l u. writes-rows c i l (omega arith))
 
-  pub marks-written : MarksOnly c m m' → ChangeOnly c m m'
-  marks-written = range-only (changeWrites c) (λ i l u. writes-rows c i (omega arith) u)
+  pub marks-written : MarksOnly c m m' → MovesOnly c m m'
+  marks-written = range-only (movesWrite c) (λ i l u. writes-rows c i (omega arith) u)
 
-  pub costs-written : CostsOnly c m m' → ChangeOnly c m m'
-  costs-written = range-only (changeWrites c) (λ i l u. writes-costs c i l (omega arith))
+  pub costs-written : CostsOnly c m m' → MovesOnly c m m'
+  costs-written = range-only (movesWrite c) (λ i l u. writes-costs c i l (omega arith))
 
-  pub work-written : WorkOnly c m m' → ChangeOnly c m m'
-  work-written = range-only (changeWrites c) (λ i l u. writes-costs c i (omega arith) u)
+  pub work-written : WorkOnly c m m' → MovesOnly c m m'
+  work-written = range-only (movesWrite c) (λ i l u. writes-costs c i (omega arith) u)
 
-pub count-written : (c n : ℕ) (m : List ℕ) → ChangeOnly c m (setCount n m)
+pub count-written : (c n : ℕ) (m : List ℕ) → MovesOnly c m (setCount n m)
 unfolding setCount
-count-written c n m = range-only (changeWrites c) (writes-count c) (word-frame 4 n m)
+count-written c n m = range-only (movesWrite c) (writes-count c) (word-frame 4 n m)
 
-module _ (c : ℕ) {m m' : List ℕ} (f : ChangeOnly c m m') where
+module _ (c : ℕ) {m m' : List ℕ} (f : MovesOnly c m m') where
   pub size-left : sizeIn m' ≡ sizeIn m
   unfolding sizeIn wordAt
   size-left =
@@ -65,16 +65,36 @@ module _ (c : ℕ) {m m' : List ℕ} (f : ChangeOnly c m m') where
   unfolding dimensionIn
   dimension-left = f .same 2 (leaves-head c 2 (omega arith))
 
+  -- Blocks stay.
+  pub block-left : (n : ℕ) → n < c → blockIn c m' n ≡ blockIn c m n
+  unfolding blockIn blockPlace
+  block-left n h = f .same (16 + 4 * c + n) (leaves-blocks c (16 + 4 * c + n) (omega arith) (omega arith))
+
 -- ---- what a load writes
 
 module _ (c : ℕ) where
-  pub change-load : {m m' : List ℕ} → ChangeOnly c m m' → Only (loadWrites c) m m'
+  abbrev blocks : ℕ → Bool
+  blocks i = inArea (blockPlace c 0) (blockPlace c c) i
+
+  pub moves-load : {m m' : List ℕ} → MovesOnly c m m' → Only (loadWrites c) m m'
   unfolding loadWrites
-  change-load f = record { length = f .length; same = λ i free. f .same i (or-false-right (inArea 0 3 i) (changeWrites c i) free) }
+  moves-load f =
+      record {
+        length = f .length;
+        same = λ i free.
+            f .same i (or-false-right (inArea 0 3 i) (movesWrite c i) (or-false-left (inArea 0 3 i || movesWrite c i) (blocks i) free));
+      }
 
   writes-head : (i : ℕ) → i < 3 → loadWrites c i ≡ true
   unfolding loadWrites
-  writes-head i u = or-left (inArea 0 3 i) (changeWrites c i) (in-area 0 3 i (omega arith) u)
+  writes-head i u = or-left (inArea 0 3 i || movesWrite c i) (blocks i) (or-left (inArea 0 3 i) (movesWrite c i) (in-area 0 3 i (omega arith) u))
+
+  writes-blocks : (i : ℕ) → 16 + 4 * c ≤ i → i < 16 + 5 * c → loadWrites c i ≡ true
+  unfolding loadWrites blockPlace
+  writes-blocks i l u = or-right (inArea 0 3 i || movesWrite c i) (blocks i) (in-area (blockPlace c 0) (blockPlace c c) i (omega arith) (omega arith))
+
+  pub blocks-load : {m m' : List ℕ} → BlocksOnly c m m' → Only (loadWrites c) m m'
+  blocks-load = range-only (loadWrites c) writes-blocks
 
   pub head-written : (d n : ℕ) (m : List ℕ) → Only (loadWrites c) m (setHead c d n m)
   unfolding setHead
@@ -82,4 +102,4 @@ module _ (c : ℕ) where
       let m₁ : List ℕ = setWord 0 c m in
       let m₂ : List ℕ = set m₁ 2 d in
       only-trans (range-only (loadWrites c) (λ i l u. writes-head i (omega arith)) (word-frame 0 c m))
-      (only-trans (range-only (loadWrites c) (λ i l u. writes-head i (omega arith)) (byte-frame 2 d m₁)) (change-load (range-only (changeWrites c) (writes-count c) (word-frame 4 n m₂))))
+      (only-trans (range-only (loadWrites c) (λ i l u. writes-head i (omega arith)) (byte-frame 2 d m₁)) (moves-load (range-only (movesWrite c) (writes-count c) (word-frame 4 n m₂))))
