@@ -5,6 +5,7 @@ use mathlib.Core.Logic.{_⊎_, inl, inr, ⊎-elim}
 use mathlib.Core.Path.{_≡_, sym, ap, _∙_, subst}
 use Rattle.model.specs.Tree.{Tree}
 use Rattle.model.specs.Calls.{Board}
+use Rattle.model.specs.Sound.{BlocksFit}
 use Rattle.model.specs.Laws.Bool.{byCases, both-ways}
 use Rattle.line.specs.Line.{heightsIn}
 use Rattle.line.specs.Heights.{heightsRight}
@@ -57,9 +58,13 @@ module _ {m n : List ℕ} (alike : Alike m n) where
   unfolding boardIn
   alike-dimension = ap (λ (b : Board). b .dimension) (alike .board)
 
-  -- Of sound memory by the tree that stands in both; of other memory both are not sound.
-  pub by-soundness : {A : Type 0} → Bytes m → ((t : Tree) → Stands m t → Stands n t → A) → ((Sound m → ⊥) → (Sound n → ⊥) → A) → A
-  by-soundness bytes sound unsound =
-      ⊎-elim (λ s. sound (s .tree) (s .stands) (alike .trees (s .tree) .0 (s .stands)))
-      (λ f. unsound f (λ s. f (record { tree = s .tree; stands = alike .trees (s .tree) .1 (s .stands) })))
-      (sound-or-not m bytes)
+  -- Where one is sound the other is, with the same tree.
+  abbrev pub alike-sound : Sound m → Sound n
+  alike-sound s = record { tree = s .tree; stands = alike .trees (s .tree) .0 (s .stands); blocks = subst BlocksFit (sym (alike .board)) (s .blocks) }
+
+  sound-alike : Sound n → Sound m
+  sound-alike s = record { tree = s .tree; stands = alike .trees (s .tree) .1 (s .stands); blocks = subst BlocksFit (alike .board) (s .blocks) }
+
+  -- Both are sound, or neither is.
+  pub by-soundness : {A : Type 0} → Bytes m → (Sound m → A) → ((Sound m → ⊥) → (Sound n → ⊥) → A) → A
+  by-soundness bytes sound unsound = ⊎-elim sound (λ f. unsound f (λ s. f (sound-alike s))) (sound-or-not m bytes)

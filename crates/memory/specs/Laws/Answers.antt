@@ -19,9 +19,9 @@ use Rattle.promises.specs.Answers.{answerOf, numberOf, detailOf, counted, rowsA
 use Rattle.promises.specs.Promise.{MemoryAfter, LoadPromise, Said, QuerySaid, QueryPromise, ChangeSaid, ChangePromise}
 use Rattle.promises.specs.Run.{Bytes}
 use Rattle.promises.specs.declared.Verdict.{Verdict}
-use Rattle.promises.specs.declared.Verdict.the-variants.{Accepted, ShortMemory, OutOfRange, Unsound, NumberTooLarge, NumberTwice, NumberAbsent, BadArgument, FewRows}
+use Rattle.promises.specs.declared.Verdict.the-variants.{Accepted, ShortMemory, OutOfRange, Unsound, NumberTooLarge, NumberTwice, NumberAbsent, BadArgument, FewRows, BlockTooLarge, BadHours}
 use Rattle.promises.specs.declared.Answer.{Answer}
-use Rattle.memory.specs.Laws.Alike.{Alike, used-alike, holding-alike, alike-dimension, by-soundness}
+use Rattle.memory.specs.Laws.Alike.{Alike, used-alike, holding-alike, alike-dimension, alike-sound, by-soundness}
 
 -- ---- what is said
 
@@ -32,7 +32,7 @@ verdictOf k p =
     (cond (eqb k 1) ShortMemory
     (cond (eqb k 2) OutOfRange
     (cond (eqb k 3) Unsound
-    (cond (eqb k 4) (NumberTooLarge p) (cond (eqb k 5) (NumberTwice p) (cond (eqb k 6) NumberAbsent (cond (eqb k 7) (BadArgument p) (FewRows p))))))))
+    (cond (eqb k 4) (NumberTooLarge p) (cond (eqb k 5) (NumberTwice p) (cond (eqb k 6) NumberAbsent (cond (eqb k 7) (BadArgument p) (cond (eqb k 8) (FewRows p) (cond (eqb k 11) (BlockTooLarge p) (BadHours p))))))))))
 
 verdict-of : (v : Verdict) → verdictOf (numberOf v) (detailOf v) ≡ v
 unfolding verdictOf numberOf detailOf
@@ -45,6 +45,8 @@ verdict-of (NumberTwice p) = refl
 verdict-of NumberAbsent = refl
 verdict-of (BadArgument p) = refl
 verdict-of (FewRows p) = refl
+verdict-of (BlockTooLarge p) = refl
+verdict-of (BadHours p) = refl
 
 verdict-same : (v w : Verdict) → answerOf v ≡ answerOf w → v ≡ w
 unfolding answerOf
@@ -86,29 +88,29 @@ module _ {m n : List ℕ} (bytes : Bytes m) (alike : Alike m n) {lent lent' lent
   query-alone : (q : Query) → QueryPromise q m lent r lent' → QueryPromise q n lent s lent'' → (s ≡ r) × (lent'' ≡ lent')
   query-alone q p p' =
       by-soundness alike bytes
-      (λ t k k'.
-      said-same (p .sound t k)
-      (subst₂ (λ (b : Board) (d : ℕ). QuerySaid q b (queryOpens d q t) lent s lent'') (alike .board) (alike-dimension alike) (p' .sound t k')))
+      (λ k.
+      said-same (p .sound k)
+      (subst₂ (λ (b : Board) (d : ℕ). QuerySaid q b (queryOpens d q (k .tree)) lent s lent'') (alike .board) (alike-dimension alike) (p' .sound (alike-sound alike k))))
       (λ f f'. said-same (p .unsound f) (p' .unsound f'))
 
   module _ (x : Change) {m' n' : List ℕ} (p : ChangePromise x m lent r m' lent') (p' : ChangePromise x n lent s n' lent'') where
     change-alone : (s ≡ r) × (lent'' ≡ lent')
     change-alone =
         by-soundness alike bytes
-        (λ t k k'.
-        said-same (p .sound t k)
-        (subst₂ (λ (b : Board) (d : ℕ). ChangeSaid x b (changeOpens d x t) lent s lent'') (alike .board) (alike-dimension alike) (p' .sound t k')))
+        (λ k.
+        said-same (p .sound k)
+        (subst₂ (λ (b : Board) (d : ℕ). ChangeSaid x b (changeOpens d x (k .tree)) lent s lent'') (alike .board) (alike-dimension alike) (p' .sound (alike-sound alike k))))
         (λ f f'. said-same (p .unsound f .0) (p' .unsound f' .0))
 
     change-alike : Alike m' n'
     change-alike =
         by-soundness alike bytes
-        (λ t k k'.
-        after-alike alike m' n' (changeWrites (sizeIn m)) (changeWrites (sizeIn n)) (numberOf (r .verdict)) (changed (boardIn m) x) (changeTree (dimensionIn m) x t)
-        (p .left t k)
+        (λ k.
+        after-alike alike m' n' (changeWrites (sizeIn m) x) (changeWrites (sizeIn n) x) (numberOf (r .verdict)) (changed (boardIn m) x) (changeTree (dimensionIn m) x (k .tree))
+        (p .left k)
         (subst₃
-        (λ (v : Verdict) (b : Board) (d : ℕ). MemoryAfter (changeWrites (sizeIn n)) (numberOf v) n n' (changed b x) (changeTree d x t))
-        (ap (λ (a : Answer). a .verdict) (change-alone .0)) (alike .board) (alike-dimension alike) (p' .left t k')))
+        (λ (v : Verdict) (b : Board) (d : ℕ). MemoryAfter (changeWrites (sizeIn n) x) (numberOf v) n n' (changed b x) (changeTree d x (k .tree)))
+        (ap (λ (a : Answer). a .verdict) (change-alone .0)) (alike .board) (alike-dimension alike) (p' .left (alike-sound alike k))))
         (λ f f'. same-memory alike m' n' (p .unsound f .1) (p' .unsound f' .1))
 
 -- ---- the whole

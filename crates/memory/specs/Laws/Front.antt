@@ -14,7 +14,7 @@ use Rattle.model.specs.Laws.Bool.{or-cases}
 use Rattle.model.specs.Laws.Basics.{each-mem, any-witness}
 use Rattle.model.specs.Laws.Tree.{ruled-filled}
 use Rattle.line.specs.Laws.Decode.{line-injective}
-use Rattle.promises.specs.Layout.{numberPlace, heightPlace, markPlace, costPlace, sizeIn, dimensionIn, countIn, numberIn, tab, boardIn}
+use Rattle.promises.specs.Layout.{numberPlace, heightPlace, markPlace, blockPlace, costPlace, sizeIn, dimensionIn, countIn, numberIn, tab, boardIn}
 use Rattle.promises.specs.Sound.{Stands}
 use Rattle.promises.specs.Written.{inArea}
 use Rattle.promises.specs.Used.{headUse, rowsUse, moveUse, inUse, longEnough, SameInUse}
@@ -42,10 +42,13 @@ module _ {m : List ℕ} {t : Tree} (s : Stands m t) (i : ℕ) where
       (λ r. omega (arith, area-ends (16 + 2 * sizeIn m + 0) (16 + 2 * sizeIn m + countIn m) i r, s .count))
 
   move-front : (number : ℕ) → number < sizeIn m → moveUse (sizeIn m) (dimensionIn m) i number ≡ true → i < memoryNeed (sizeIn m)
-  unfolding moveUse markPlace costPlace memoryNeed
+  unfolding moveUse markPlace blockPlace costPlace memoryNeed
   move-front number l h =
-      or-cases (eqb i (markPlace (sizeIn m) number)) (inArea (costPlace (sizeIn m) number 0) (costPlace (sizeIn m) number (dimensionIn m)) i) h
+      or-cases (eqb i (markPlace (sizeIn m) number) || eqb i (blockPlace (sizeIn m) number)) (inArea (costPlace (sizeIn m) number 0) (costPlace (sizeIn m) number (dimensionIn m)) i) h
+      (λ k.
+      or-cases (eqb i (markPlace (sizeIn m) number)) (eqb i (blockPlace (sizeIn m) number)) k
       (λ r. omega (arith, eqb-true i (markPlace (sizeIn m) number) r))
+      (λ r. omega (arith, eqb-true i (blockPlace (sizeIn m) number) r)))
       (λ r. omega (arith, area-ends (costPlace (sizeIn m) number 0) (costPlace (sizeIn m) number (dimensionIn m)) i r, stands-dimension m t s))
 
   moves-front : any (moveUse (sizeIn m) (dimensionIn m) i) (tab (numberIn (sizeIn m) m) (countIn m)) ≡ true → i < memoryNeed (sizeIn m)

@@ -20,7 +20,7 @@ use Rattle.promises.specs.Laws.Tab.{length-tab, tab-of}
 use Rattle.memory.specs.Laws.Costs.{row-length}
 use Rattle.memory.specs.Search.{looksAt, seen, seenAt, fits, None, First, Some, Below, Corners, CornerWith}
 use Rattle.memory.specs.declared.search.Among.{Among}
-use Rattle.memory.specs.declared.search.Among.the-variants.{All, Listed, Hidden}
+use Rattle.memory.specs.declared.search.Among.the-variants.{All, Listed, Hidden, InBlocks}
 
 -- ---- rows
 
@@ -32,6 +32,7 @@ unfolding seen
 length-seen All costs e = e
 length-seen Listed costs e = e
 length-seen Hidden costs e = length-tab (λ i. 65535 - getD costs i 0) rowCosts
+length-seen (InBlocks blocks) costs e = e
 
 pub length-seen-at : (a : Among) (c : ℕ) (m : List ℕ) (i : ℕ) → length (seenAt a c m i) ≡ rowCosts
 unfolding seenAt

@@ -28,7 +28,7 @@ module _ (c : ℕ) (m : List ℕ) where
   unfolding isListed
   listed-at i n e = ap (isMarked c m) (sym e)
 
-  block : ℕ → ℕ
+  abbrev block : ℕ → ℕ
   block i = blockIn c m (numberIn c m i)
 
   pub numbers-right : (n : ℕ) → numbersRight c n m ≡ true → Numbers c n m

@@ -119,7 +119,7 @@ module _ (m m' : List ℕ) (same : SameInUse m m') where
     unfolding moveUse
     cost-byte o k u =
         move-byte o
-        (or-right (eqb o (markPlace c number)) (inArea (costPlace c number 0) (costPlace c number d) o) (in-area (costPlace c number 0) (costPlace c number d) o k u))
+        (or-right (eqb o (markPlace c number) || eqb o (blockPlace c number)) (inArea (costPlace c number 0) (costPlace c number d) o) (in-area (costPlace c number 0) (costPlace c number d) o k u))
 
     costs-same : costsIn (sizeIn m) (dimensionIn m) m' (numberIn (sizeIn m) m i) ≡ costsIn (sizeIn m) (dimensionIn m) m (numberIn (sizeIn m) m i)
     unfolding costsIn costIn costPlace

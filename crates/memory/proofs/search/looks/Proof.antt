@@ -23,7 +23,13 @@ returns-3 c =
     let a = c .before .before .before .before .args in
     ap not (c .is-listed2 .ensures) ∙ sym (ap (λ (l : Among). looks l (a .c) (a .m .now) (a .number)) (c .before .enum-told3 .given .1))
 
+returns-4 : tie.Need-returns-4
+unfolding looks
+returns-4 c =
+    let a = c .before .before .before .before .before .args in
+    c .in-blocks .ensures ∙ sym (ap (λ (l : Among). looks l (a .c) (a .m .now) (a .number)) (c .before .before .among .given .1))
+
 pub looks-spec : {M : Type 1} → statement M
 looks-spec =
     tie.close
-    (tie.spec (λ c. search needs) (λ c. search needs) (λ c κs. search needs) (λ c. search needs) (λ c κs. search needs) returns returns-2 returns-3)
+    (tie.spec (λ c. search needs) (λ c. search needs) (λ c κs. search needs) (λ c. search needs) (λ c κs. search needs) (λ c. search needs) (λ c κs. search needs) returns returns-2 returns-3 returns-4)

@@ -19,6 +19,10 @@ returns-3 : tie.Need-returns-3
 unfolding seen
 returns-3 c = lanes-tab (c .from-above .ensures) ∙ sym (ap (λ (l : Among). seen l (c .before .before .before .args .costs)) (c .before .enum-told3 .given .1))
 
+returns-4 : tie.Need-returns-4
+unfolding seen
+returns-4 c = sym (ap (λ (l : Among). seen l (c .before .before .args .costs)) (c .enum-told4 .given .1))
+
 pub seen-spec : {M : Type 1} → statement M
 seen-spec =
-    tie.close (tie.spec (λ c. search needs) (λ c. search needs) (λ c. search needs) (λ c κs. search needs) returns returns-2 returns-3)
+    tie.close (tie.spec (λ c. search needs) (λ c. search needs) (λ c. search needs) (λ c κs. search needs) (λ c. search needs) returns returns-2 returns-3 returns-4)

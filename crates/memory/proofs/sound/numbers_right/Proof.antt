@@ -1,10 +1,11 @@
--- `sound::numbers_right` meets its contract. The loop's invariant: the numbers passed are below C. Assumes nothing.
-use Prim.Native.Nat.{ℕ, _-_, _≤_}
+-- `sound::numbers_right` meets its contract. The loop's invariant: the numbers passed are below C, and their blocks at most 63. Assumes nothing.
+use Prim.Native.Nat.{ℕ, _-_, _≤_, _<_}
 use mathlib.Core.Bool.{true}
 use mathlib.Core.Path.{_≡_, sym, subst}
 use native.Mathlib.Omega.{arith}
+use Rattle.promises.specs.Layout.{blockIn}
 use Rattle.memory.specs.Tests.{numbersRight}
-use Rattle.memory.specs.Laws.Turns.{numbers-none, numbers-more, numbers-fail}
+use Rattle.memory.specs.Laws.Turns.{numbers-none, numbers-more, numbers-fail, blocks-fail}
 use Rattle.memory.proofs.sound.numbers_right.Statement.{statement}
 use Rattle.memory.proofs.sound.numbers_right.Tie as tie
 
@@ -22,14 +23,24 @@ returns c =
     let a = c .before .before .before .before .before .args in
     sym (numbers-fail (a .c) (a .m .now) (a .n) (c .before .before .before .loop .i) (omega arith) (omega arith))
 
-loop-again : tie.Need-loop-again Inv-loop μ-loop
-loop-again c =
-    let a = c .before .before .before .before .before .args in
-    let own = c .before .before .before .loop in
-    (omega arith, numbers-more (a .c) (a .m .now) (own .i) (own .inv .1) (omega arith))
-
 returns-2 : tie.Need-returns-2 Inv-loop μ-loop
 returns-2 c =
+    let a = c .before .before .before .before .before .before .before .args in
+    let own = c .before .before .before .before .before .loop in
+    let number = c .before .before .before .number-at in
+    sym (blocks-fail (a .c) (a .m .now) (a .n) (own .i) (omega arith)
+    (subst (λ (k : ℕ). 63 < blockIn (a .c) (a .m .now) k) (number .ensures) (omega arith)))
+
+loop-again : tie.Need-loop-again Inv-loop μ-loop
+loop-again c =
+    let a = c .before .before .before .before .before .before .before .args in
+    let own = c .before .before .before .before .before .loop in
+    let number = c .before .before .before .number-at in
+    (omega arith, numbers-more (a .c) (a .m .now) (own .i) (own .inv .1) (omega arith)
+    (subst (λ (k : ℕ). blockIn (a .c) (a .m .now) k ≤ 63) (number .ensures) (omega arith)))
+
+returns-3 : tie.Need-returns-3 Inv-loop μ-loop
+returns-3 c =
     let a = c .before .before .before .args in
     let own = c .before .loop in
     let all : own .i ≡ a .n = omega arith in
@@ -45,7 +56,9 @@ numbers-right-spec =
     (λ c κs. omega arith)
     (λ c. omega arith)
     returns
+    (λ c κs. omega arith)
+    returns-2
     (λ c. omega arith)
     (λ c. omega arith)
     loop-again
-    returns-2)
+    returns-3)
