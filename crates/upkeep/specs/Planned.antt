@@ -9,7 +9,7 @@ use Rattle.model.specs.Moves.{Move, Row, listed}
 use Rattle.model.specs.Lists.{listedRows}
 use Rattle.model.specs.Tree.{Tree}
 use Rattle.model.specs.Calls as calls
-use Rattle.model.specs.Calls.{Query, queryRefusal, queryAnswer, queryRows}
+use Rattle.model.specs.Calls.{accepted, Query, queryRefusal, queryAnswer, queryRows}
 use Rattle.model.specs.Opening.{queryOpens}
 use Rattle.line.specs.Line.{movesIn}
 use Rattle.promises.specs.Layout.{dimensionIn, numberIn, lineFrom, boardIn}
@@ -48,6 +48,7 @@ pub record Nothing (v : Verdict) (p : Plan) : Type 0 where
   pub count : p .count ≡ 0
   pub opened : p .opened ≡ 0
   pub makes : p .makes ≡ false
+  pub gives : p .given .gives ≡ false
   pub telling : TellsNothing (p .telling)
 
 abbrev pub answerIn : Plan → Answer
@@ -85,7 +86,7 @@ pub record PlansFound (h : Head) (found : Found) (opened lent : ℕ) (p : Plan) 
       → SoundAt (h .size) (h .dimension) (h .count) m
       → Finds (h .size) (h .count) test m found
       → (q : Query)
-      → queryRefusal (boardIn m) q ≡ 0
+      → queryRefusal (boardIn m) q ≡ accepted
       → listedRows (foundMoves (h .size) (h .dimension) (h .count) test m) ≡ queryRows (boardIn m) q
       → ((t : Tree) → Stands m t → opened ≡ queryOpens (dimensionIn m) q t)
       → QueryPlanned q m lent p

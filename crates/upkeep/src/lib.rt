@@ -17,6 +17,7 @@ pub use mark::mark_all;
 pub use notice::ROW;
 pub use notice::row_of;
 pub use notice::set_marks;
+pub use plan::Given;
 pub use plan::Plan;
 pub use plan::nothing;
 pub use plan::plan_found;

@@ -5,10 +5,20 @@ use crate::found::telling_of;
 use crate::telling::Telling;
 use memory::Head;
 use promises::Verdict;
+ghost use mathlib.Core.Bool.{false};
+ghost use mathlib.Core.Path.{_≡_};
 ghost use Rattle.upkeep.specs.Planned as spec;
 
-// `count` rows are told, those of the telling. `makes` says that there is a change to make: the move at place `goes` goes, if
-// there is one; `comes` says that the telling's coming move comes.
+// A block for a number, or none: `size` is that of the board.
+pub struct Given {
+    pub gives: bool,
+    pub size: usize,
+    pub number: u16,
+    pub block: u16,
+}
+
+// `count` rows are told, those of the telling. `makes` says that moves change: the one at place `goes` goes, if there is one;
+// `comes` says that the telling's coming move comes. A block is given also where no move changes.
 pub struct Plan {
     pub verdict: Verdict,
     pub count: usize,
@@ -16,7 +26,19 @@ pub struct Plan {
     pub makes: bool,
     pub goes: usize,
     pub comes: bool,
+    pub given: Given,
     pub telling: Telling,
+}
+
+fn no_block() -> Given
+    ensures { λ r. ⌜ r .gives ≡ false ⌝ }
+{
+    Given {
+        gives: false,
+        size: 0,
+        number: 0,
+        block: 0,
+    }
 }
 
 // Nothing to tell and nothing to make.
@@ -30,6 +52,7 @@ pub fn nothing(verdict: Verdict) -> Plan
         makes: false,
         goes: 0,
         comes: false,
+        given: no_block(),
         telling: telling_none(),
     }
 }
@@ -51,6 +74,7 @@ pub fn plan_found(h: Head, found: Found, opened: usize, lent: usize) -> Plan
         makes: false,
         goes: 0,
         comes: false,
+        given: no_block(),
         telling,
     }
 }

@@ -23,14 +23,15 @@ use Rattle.upkeep.specs.Planned.{Finds, TellsNumbers, Nothing, answerIn,
 use Rattle.upkeep.specs.Laws.Telling.{length-none}
 use Rattle.upkeep.specs.Laws.Found.{found-count, found-rows, numbers-asked}
 use Rattle.upkeep.specs.declared.found.Found.{Found}
+use Rattle.upkeep.specs.declared.plan.Given.{Given}
 use Rattle.upkeep.specs.declared.plan.Plan.{Plan}
 use Rattle.upkeep.specs.declared.telling.Telling.{Telling}
 
 -- ---- the answers
 
 -- The answer of a call that is refused so, 3 and 8 apart, and has these rows.
-abbrev pub answerBy : ℕ → List Row → ℕ → calls.Answer
-answerBy refusal rows lent = orElse (refusedWith refusal) (rowsAnswer (length rows) lent)
+abbrev pub answerBy : calls.Answer → List Row → ℕ → calls.Answer
+answerBy refusal rows lent = orElse refusal (rowsAnswer (length rows) lent)
 
 counted-none : (k n : ℕ) → 0 < k → 0 ≡ counted k n
 unfolding counted
@@ -41,13 +42,13 @@ first-refuses : (a b : calls.Answer) → 0 < a .number → a ≡ orElse a b
 unfolding orElse
 first-refuses a b h = ap (λ (t : Bool). cond t b a) (sym (ne-eqb (a .number) 0 (λ e. omega arith)))
 
-module _ (refusal : ℕ) (rows : List Row) (m : List ℕ) (lent : ℕ) where
+module _ (refusal : calls.Answer) (rows : List Row) (m : List ℕ) (lent : ℕ) where
   pub answered-unsound : (Sound m → ⊥) → VerdictFor (answerBy refusal rows lent) rows m lent Unsound 0
   unfolding numberOf counted
   answered-unsound h = record { sound = λ s. absurd (h s); unsound = λ _. refl; counts = refl; enough = omega arith }
 
   module _ (s : Sound m) where
-    pub answered-refused : (v : Verdict) → answerOf v ≡ refusedWith refusal → 0 < numberOf v → VerdictFor (answerBy refusal rows lent) rows m lent v 0
+    pub answered-refused : (v : Verdict) → answerOf v ≡ refusal → 0 < numberOf v → VerdictFor (answerBy refusal rows lent) rows m lent v 0
     unfolding answerOf
     answered-refused v e h =
         record {
@@ -57,14 +58,14 @@ module _ (refusal : ℕ) (rows : List Row) (m : List ℕ) (lent : ℕ) where
           enough = omega arith;
         }
 
-    module _ (f : refusal ≡ 0) (need : ℕ) (e : need ≡ length rows) where
+    module _ (f : refusal ≡ accepted) (need : ℕ) (e : need ≡ length rows) where
       -- by the rows that are needed
       by-rows : (b : Bool) → calls.Answer
       by-rows b = cond b (record { number = 8; detail = need }) accepted
 
       rows-answer : rowsAnswer need lent ≡ answerBy refusal rows lent
-      unfolding orElse refusedWith
-      rows-answer = ap₂ (λ (k i : ℕ). orElse (refusedWith k) (rowsAnswer i lent)) (sym f) e
+      unfolding orElse accepted
+      rows-answer = ap₂ (λ (a : calls.Answer) (i : ℕ). orElse a (rowsAnswer i lent)) (sym f) e
 
       pub answered-few : lent < need → VerdictFor (answerBy refusal rows lent) rows m lent (FewRows need) 0
       unfolding answerOf numberOf detailOf counted rowsAnswer by-rows
@@ -117,12 +118,14 @@ module _ (q : Query) (m : List ℕ) (lent : ℕ) {p : Plan} where
   unfolding queryAnswer numberOf
   query-unsound e h = refused-plans e (answered-unsound (queryRefusal (boardIn m) q) (queryRows (boardIn m) q) m lent h) (omega arith)
 
-  pub query-bad : Nothing (BadArgument 0) p → Sound m → queryRefusal (boardIn m) q ≡ 7 → QueryPlanned q m lent p
-  unfolding queryAnswer answerOf numberOf detailOf refusedWith
-  query-bad e s f =
-      refused-plans e
-      (answered-refused (queryRefusal (boardIn m) q) (queryRows (boardIn m) q) m lent s (BadArgument 0) (ap refusedWith (sym f)) (omega arith))
-      (omega arith)
+  pub query-refused : {v : Verdict} → Nothing v p → Sound m → 0 < numberOf v → queryRefusal (boardIn m) q ≡ answerOf v → QueryPlanned q m lent p
+  unfolding queryAnswer
+  query-refused {v} e s h f =
+      refused-plans e (answered-refused (queryRefusal (boardIn m) q) (queryRows (boardIn m) q) m lent s v (sym f) h) h
+
+  pub query-bad : Nothing (BadArgument 0) p → Sound m → queryRefusal (boardIn m) q ≡ refusedWith 7 → QueryPlanned q m lent p
+  unfolding answerOf numberOf detailOf refusedWith
+  query-bad e s f = query-refused e s (omega arith) f
 
 module _ (h : Head) (found : Found) (opened lent : ℕ) where
   need-of : {m : List ℕ} {test : ℕ → Bool} {rows : List Row} → Finds (h .size) (h .count) test m found → listedRows (foundMoves (h .size) (h .dimension) (h .count) test m) ≡ rows → found .count ≡ length rows
@@ -137,10 +140,10 @@ module _ (h : Head) (found : Found) (opened lent : ℕ) where
             (omega arith);
       }
 
-  pub found-all : (t : Telling) → TellsNumbers h (found .numbers) t → found .count ≤ lent
-      → PlansFound h found opened lent (record { verdict = Accepted; count = found .count; opened = opened; makes = false; goes = 0; comes = false; telling = t })
+  pub found-all : (t : Telling) (given : Given) → TellsNumbers h (found .numbers) t → found .count ≤ lent
+      → PlansFound h found opened lent (record { verdict = Accepted; count = found .count; opened = opened; makes = false; goes = 0; comes = false; given = given; telling = t })
   unfolding queryAnswer numberOf
-  found-all t g l =
+  found-all t given g l =
       record {
         plans = λ {m} {test} s f q ok rows nodes.
             let told = found-rows h test m found f t g ∙ rows in
@@ -199,9 +202,9 @@ module _ {answer : calls.Answer} {rows : List Row} {nodes : Tree → ℕ} {m : L
   put-none : p .count ≡ 0 → after ≡ before
   put-none z = e ∙ ap₂ (λ (new : List (List ℕ)) (n : ℕ). map resultRow new ++ drop n before) (length-none (toldRows (p .telling) m) (plan .told ∙ z)) z
 
-  pub plans-said : (t : Tree) → Stands m t → Said answer rows (nodes t) before (answerIn p) after
-  plans-said t s =
-      answered-said (plan .answered) before after put-all put-none (plan .closed) (record { tree = t; stands = s }) (nodes t) (λ z. plan .opens z t s)
+  pub plans-said : (s : Sound m) → Said answer rows (nodes (s .tree)) before (answerIn p) after
+  plans-said s =
+      answered-said (plan .answered) before after put-all put-none (plan .closed) s (nodes (s .tree)) (λ z. plan .opens z (s .tree) (s .stands))
 
   pub plans-unsaid : (Sound m → ⊥) → UnsoundSaid before (answerIn p) after
   plans-unsaid = answered-unsaid (plan .answered) before after put-all put-none (plan .closed)

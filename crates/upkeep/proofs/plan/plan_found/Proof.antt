@@ -11,8 +11,9 @@ returns c =
 
 returns-2 : tie.Need-returns-2
 returns-2 c =
-    let a = c .before .before .before .args in
-    found-all (a .h) (a .found) (a .opened) (a .lent) (c .telling-of .result) (c .telling-of .ensures) (c .before .before .if1 .left)
+    let a = c .before .before .before .before .args in
+    let telling = c .before .telling-of in
+    found-all (a .h) (a .found) (a .opened) (a .lent) (telling .result) (c .no-block .result) (telling .ensures) (c .before .before .before .if1 .left)
 
 pub plan-found-spec : {M : Type 1} → statement M
-plan-found-spec = tie.close (tie.spec (λ c κs. search needs) returns (λ c κs. search needs) returns-2)
+plan-found-spec = tie.close (tie.spec (λ c κs. search needs) returns (λ c κs. search needs) (λ c κs. search needs) returns-2)
