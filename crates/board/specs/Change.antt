@@ -9,15 +9,14 @@ use Rattle.model.specs.Lists.{skyline}
 use Rattle.model.specs.Notice.{noticeOf}
 use Rattle.model.specs.Tree.{Tree}
 use Rattle.model.specs.Calls as calls
-use Rattle.model.specs.Calls.{changeRefusal, refusedWith, changed}
+use Rattle.model.specs.Calls.{changeRefusal, refusedWith, changedMoves}
 use Rattle.model.specs.Changing.{changeTree}
 use Rattle.line.specs.Line.{movesIn}
-use Rattle.promises.specs.Layout.{sizeIn, dimensionIn, numberIn, costsIn, boardIn, lineFrom}
+use Rattle.promises.specs.Layout.{sizeIn, dimensionIn, numberIn, costsIn, boardIn, lineFrom, lineIn}
 use Rattle.promises.specs.Sound.{Stands}
 use Rattle.promises.specs.Answers.{answerOf}
-use Rattle.promises.specs.Written.{changeWrites}
-use Rattle.promises.specs.Promise.{Kept}
 use Rattle.promises.specs.declared.Verdict.{Verdict}
+use Rattle.memory.specs.Frame.{MovesOnly}
 use Rattle.dominance.specs.declared.Move.{Move}
 use Rattle.upkeep.specs.Change.{ChangeAsked, Upkept, movesAfter}
 use Rattle.upkeep.specs.declared.change.Change.{Change}
@@ -45,18 +44,24 @@ noticeBy c d n k m =
     let ms = movesIn (lineFrom c d n m) in
     noticeOf (skyline d ms) (skyline d (movesAfter d k ms))
 
--- What each change leaves of sound memory.
-pub record Made (x : calls.Change) (m m' : List ℕ) : Type 0 where
-  pub kept : (t : Tree) → Stands m t → Kept (changeWrites (sizeIn m)) m m' (changed (boardIn m) x) (changeTree (dimensionIn m) x t)
+-- What each change leaves of sound memory, blocks apart: the call's moves and tree, and every block as before.
+pub record Moved (x : calls.Change) (m m' : List ℕ) (t : Tree) : Type 0 where
+  pub stands : Stands m' (changeTree (dimensionIn m) x t)
+  pub moves : movesIn (lineIn m') ≡ changedMoves (dimensionIn m) x (movesIn (lineIn m))
+  pub only : MovesOnly (sizeIn m) m m'
 
+pub record Made (x : calls.Change) (m m' : List ℕ) : Type 0 where
+  pub kept : (t : Tree) → Stands m t → Moved x m m' t
+
+-- The block says nothing of moves: any will do.
 abbrev pub EnterMade : model.Move → List ℕ → List ℕ → Type 0
-EnterMade x = Made (calls.enter (x .number) (x .costs))
+EnterMade x m m' = (block : ℕ) → Made (calls.enter (x .number) block (x .costs)) m m'
 
 abbrev pub WithdrawMade : ℕ → ℕ → List ℕ → List ℕ → Type 0
 WithdrawMade c p m = Made (calls.withdraw (numberIn c m p)) m
 
 abbrev pub RecostMade : model.Move → List ℕ → List ℕ → Type 0
-RecostMade x = Made (calls.recost (x .number) (x .costs))
+RecostMade x m m' = (block : ℕ) → Made (calls.recost (x .number) block (x .costs)) m m'
 
 -- A move comes and none goes; one goes and none comes; one comes for the one that goes, with other costs.
 abbrev pub entering : ℕ → Move → Change

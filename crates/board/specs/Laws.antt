@@ -12,5 +12,7 @@ pub mod Calls
 pub mod Accepted
 pub mod Unchanged
 pub mod Plan
+pub mod WithBlock
+pub mod Give
 pub mod Promise
 pub mod CarryOut

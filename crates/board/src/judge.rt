@@ -30,7 +30,7 @@ pub fn same(p: [u16; COSTS], q: [u16; COSTS]) -> bool
     true
 }
 
-// Whether a move comes: only then are costs looked at.
+// Whether a move comes: only then are block and costs looked at.
 pub fn comes(kind: Kind) -> bool
     ensures { λ r. ⌜ r ≡ spec.comes kind ⌝ }
 {
@@ -53,12 +53,15 @@ fn is_new(kind: Kind) -> bool
 }
 
 // `on` says whether the number is on the board.
-pub fn judge(kind: Kind, h: Head, x: Move, on: bool) -> Verdict
+pub fn judge(kind: Kind, h: Head, x: Move, block: u16, on: bool) -> Verdict
     requires { ⌜ h .dimension ≤ rowCosts ⌝ }
-    ensures { λ r. ⌜ spec.JudgesBy kind h x on r ⌝ }
+    ensures { λ r. ⌜ spec.JudgesBy kind h x block on r ⌝ }
 {
     if h.size <= (x.number as usize) {
         return Verdict::NumberTooLarge(0);
+    }
+    if comes(kind) && 63 < block {
+        return Verdict::BlockTooLarge(0);
     }
     let costs = x.costs;
     if comes(kind) && !zero_past(h.dimension, costs) {

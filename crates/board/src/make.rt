@@ -1,6 +1,7 @@
 // The change itself, made on sound memory: no rows and no 8.
 use dominance::Move;
 use memory::Head;
+use memory::set_block;
 use memory::set_costs;
 use memory::set_count;
 use memory::set_listed;
@@ -51,10 +52,10 @@ fn make_recost(m: &mut [u8], h: Head, p: usize, x: Move, u: Upkeep)
     set_count(m, n);
 }
 
-// What the plan makes, if anything.
-pub fn carry_out(m: &mut [u8], p: Plan)
+// The change of moves that the plan makes, if any.
+fn make_moves(m: &mut [u8], p: Plan)
     requires { ⌜ plan.Able p (now m) ⌝ }
-    ensures { λ _. ⌜ plan.CarriedOut p (now (m .entry)) (now (m .exit)) ⌝ }
+    ensures { λ _. ⌜ plan.MovesMade p (now (m .entry)) (now (m .exit)) ⌝ }
 {
     if !p.makes {
         return;
@@ -72,4 +73,16 @@ pub fn carry_out(m: &mut [u8], p: Plan)
         return;
     }
     make_enter(m, h, x, u);
+}
+
+// What the plan makes, if anything: the moves, then the block.
+pub fn carry_out(m: &mut [u8], p: Plan)
+    requires { ⌜ plan.Able p (now m) ⌝ }
+    ensures { λ _. ⌜ plan.CarriedOut p (now (m .entry)) (now (m .exit)) ⌝ }
+{
+    make_moves(m, p);
+    let g = p.given;
+    if g.gives {
+        set_block(m, g.size, g.number, g.block);
+    }
 }

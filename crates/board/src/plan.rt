@@ -7,6 +7,7 @@ use promises::Verdict;
 use upkeep::Change;
 use upkeep::Plan;
 use upkeep::Telling;
+use upkeep::no_block;
 use upkeep::nothing;
 use upkeep::upkeep_of;
 ghost use Rattle.board.specs.Plan as spec;
@@ -36,6 +37,7 @@ pub fn plan_of(m: &[u8], h: Head, v: Verdict, k: Change, lent: usize) -> Plan
         makes: true,
         goes: k.goes,
         comes: k.comes,
+        given: no_block(),
         telling: Telling {
             head: h,
             place,

@@ -8,6 +8,7 @@ ghost use Rattle.dolzhev.specs.Exported.{Handed};
 #[repr(C)]
 pub struct Move {
     pub number: u16,
+    pub block: u16,
     pub costs: [u16; COSTS],
 }
 

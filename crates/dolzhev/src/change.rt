@@ -24,9 +24,9 @@ pub fn done(memory: &mut [u8], p: Plan, rows: &mut [Row]) -> Answer
 
 #[no_mangle]
 pub extern "C" fn dolzhev_enter(memory: &mut [u8], given: Move, rows: &mut [Row]) -> Answer
-    ensures { λ r. ⌜ ChangeExported (calls.enter (given .number) (given .costs)) (now (memory .entry)) (rowsOf (now (rows .entry))) r (now (memory .exit)) (rowsOf (now (rows .exit))) ⌝ }
+    ensures { λ r. ⌜ ChangeExported (calls.enter (given .number) (given .block) (given .costs)) (now (memory .entry)) (rowsOf (now (rows .entry))) r (now (memory .exit)) (rowsOf (now (rows .exit))) ⌝ }
 {
-    let p = plan_enter(memory, given.number, given.costs, rows.len());
+    let p = plan_enter(memory, given.number, given.block, given.costs, rows.len());
     done(memory, p, rows)
 }
 
@@ -40,8 +40,8 @@ pub extern "C" fn dolzhev_withdraw(memory: &mut [u8], number: u16, rows: &mut [R
 
 #[no_mangle]
 pub extern "C" fn dolzhev_recost(memory: &mut [u8], given: Move, rows: &mut [Row]) -> Answer
-    ensures { λ r. ⌜ ChangeExported (calls.recost (given .number) (given .costs)) (now (memory .entry)) (rowsOf (now (rows .entry))) r (now (memory .exit)) (rowsOf (now (rows .exit))) ⌝ }
+    ensures { λ r. ⌜ ChangeExported (calls.recost (given .number) (given .block) (given .costs)) (now (memory .entry)) (rowsOf (now (rows .entry))) r (now (memory .exit)) (rowsOf (now (rows .exit))) ⌝ }
 {
-    let p = plan_recost(memory, given.number, given.costs, rows.len());
+    let p = plan_recost(memory, given.number, given.block, given.costs, rows.len());
     done(memory, p, rows)
 }

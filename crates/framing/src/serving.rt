@@ -64,16 +64,16 @@ fn listed(m: &[u8], d: usize, out: &mut [u8]) -> usize
     put_plan(out, m, d, true, plan_list(m, ROWS))
 }
 
-// The plan of a frame of a change; of any other frame a plan that is not used.
+// The plan of a frame of a change, in block 0; of any other frame a plan that is not used.
 fn change_plan(m: &[u8], f: Frame) -> Plan
     ensures { λ r. ⌜ ChangePlan f (now (m .entry)) r ⌝ }
 {
     let kind = f.kind;
     let costs = f.costs;
     match kind {
-        Kind::Enter => plan_enter(m, f.number, costs, ROWS),
+        Kind::Enter => plan_enter(m, f.number, 0, costs, ROWS),
         Kind::Withdraw => plan_withdraw(m, f.number, ROWS),
-        _ => plan_recost(m, f.number, costs, ROWS),
+        _ => plan_recost(m, f.number, 0, costs, ROWS),
     }
 }
 

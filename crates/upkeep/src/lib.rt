@@ -19,6 +19,7 @@ pub use notice::row_of;
 pub use notice::set_marks;
 pub use plan::Given;
 pub use plan::Plan;
+pub use plan::no_block;
 pub use plan::nothing;
 pub use plan::plan_found;
 pub use telling::Step;

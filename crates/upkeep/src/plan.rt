@@ -30,7 +30,7 @@ pub struct Plan {
     pub telling: Telling,
 }
 
-fn no_block() -> Given
+pub fn no_block() -> Given
     ensures { λ r. ⌜ r .gives ≡ false ⌝ }
 {
     Given {

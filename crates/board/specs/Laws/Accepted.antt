@@ -1,5 +1,5 @@
 -- A change that no check turns down is ready to be told and made, and stands for its call.
-use Prim.Native.Nat.{ℕ, suc, _<_}
+use Prim.Native.Nat.{ℕ, suc, _<_, _≤_}
 use mathlib.Core.Bool.{Bool, true, false, not, _&&_}
 use mathlib.Core.List.{List, [], _∷_}
 use mathlib.Core.Path.{_≡_, refl, sym, ap, ap₂, _∙_, subst}
@@ -14,7 +14,7 @@ use Rattle.model.specs.Basics.{distinct}
 use Rattle.model.specs.Moves as model
 use Rattle.model.specs.Withdrawing.{without}
 use Rattle.model.specs.Calls as calls
-use Rattle.model.specs.Calls.{onBoard, changeRefusal}
+use Rattle.model.specs.Calls.{blockBad, onBoard, changeRefusal}
 use Rattle.model.specs.Sound.{Fit}
 use Rattle.model.specs.Laws.Bool.{both-ways}
 use Rattle.model.specs.Laws.Basics.{each-mono}
@@ -22,6 +22,7 @@ use Rattle.model.specs.Laws.Order.{has-numbers}
 use Rattle.model.specs.Laws.Numbers.{distinct-length}
 use Rattle.zorder.specs.Laws.Refusal.{first-passes, rest-passes}
 use Rattle.model.specs.Laws.Changes.{off-without}
+use Rattle.model.specs.Laws.Blocks.{block-most}
 use Rattle.line.specs.Line.{movesIn}
 use Rattle.promises.specs.Layout.{lineFrom, boardIn}
 use Rattle.promises.specs.Run.{Bytes}
@@ -41,13 +42,16 @@ use Rattle.board.specs.Laws.Judge.{board-moves, judge-size, judge-past, 
 use Rattle.board.specs.Laws.Marks.{rest-without, entering-moves}
 use Rattle.board.specs.Laws.Calls.{call-enter, call-withdraw, call-recost}
 
--- The three checks, none of which turns the change down.
-first-two : (b : calls.Board) (number : ℕ) (costs : List ℕ) (t : Bool) (k : ℕ) → refusal ((leb (b .size) number, 4) ∷ (costPastBad (b .dimension) costs, 7) ∷ (t, suc k) ∷ []) ≡ 0
-    → (leb (b .size) number ≡ false) × (costPastBad (b .dimension) costs ≡ false) × (t ≡ false)
-first-two b number costs t k h =
+-- The four checks, none of which turns the change down.
+all-pass : (b : calls.Board) (number block : ℕ) (costs : List ℕ) (t : Bool) (k : ℕ)
+    → refusal ((leb (b .size) number, 4) ∷ (blockBad block, 11) ∷ (costPastBad (b .dimension) costs, 7) ∷ (t, suc k) ∷ []) ≡ 0
+    → (leb (b .size) number ≡ false) × (costPastBad (b .dimension) costs ≡ false) × (t ≡ false) × (blockBad block ≡ false)
+all-pass b number block costs t k h =
     let large = leb (b .size) number in
     let past = costPastBad (b .dimension) costs in
-    (first-passes large 3 _ h, first-passes past 6 _ (rest-passes large 3 _ h), first-passes t k [] (rest-passes past 6 _ (rest-passes large 3 _ h)))
+    let high = rest-passes large 3 _ h in
+    let rest = rest-passes (blockBad block) 10 _ high in
+    (first-passes large 3 _ h, first-passes past 6 _ rest, first-passes t k [] (rest-passes past 6 _ rest), first-passes (blockBad block) 10 _ high)
 
 module _ {c d n : ℕ} {m : List ℕ} (s : SoundAt c d n m) where
   abbrev ms : List model.Move
@@ -65,14 +69,14 @@ module _ {c d n : ℕ} {m : List ℕ} (s : SoundAt c d n m) where
 
 -- ---- enter
 
-module _ {c d n : ℕ} {m : List ℕ} (s : SoundAt c d n m) (b : Bytes m) (x : Move) (w : Costs rowCosts (x .costs)) where
+module _ {c d n : ℕ} {m : List ℕ} (s : SoundAt c d n m) (b : Bytes m) (x : Move) (block : ℕ) (w : Costs rowCosts (x .costs)) where
   abbrev coming : Change
   coming = record { goes = n; comes = true; coming = x }
 
-  module _ (ok : changeRefusal (boardIn m) (calls.enter (x .number) (x .costs)) ≡ 0) where
-    enter-checks : (leb (boardIn m .size) (x .number) ≡ false) × (costPastBad (boardIn m .dimension) (x .costs) ≡ false) × (onBoard (x .number) (boardIn m .moves) ≡ false)
+  module _ (ok : changeRefusal (boardIn m) (calls.enter (x .number) block (x .costs)) ≡ 0) where
+    enter-checks : (leb (boardIn m .size) (x .number) ≡ false) × (costPastBad (boardIn m .dimension) (x .costs) ≡ false) × (onBoard (x .number) (boardIn m .moves) ≡ false) × (blockBad block ≡ false)
     unfolding changeRefusal
-    enter-checks = first-two (boardIn m) (x .number) (x .costs) (onBoard (x .number) (boardIn m .moves)) 4 ok
+    enter-checks = all-pass (boardIn m) (x .number) block (x .costs) (onBoard (x .number) (boardIn m .moves)) 4 ok
 
     enter-fit : Fit c d (asMove x)
     enter-fit = move-fits s x w (enter-checks .0) (enter-checks .1)
@@ -130,24 +134,24 @@ module _ {c d n number p : ℕ} {m : List ℕ} (s : SoundAt c d n m) (b : Bytes 
           place = λ _. withdraw-place;
         }
 
-    withdraw-call : callOf c n leaving m ≡ calls.withdraw number
-    withdraw-call = call-withdraw c n leaving m refl ∙ ap calls.withdraw (e .found withdraw-place)
+    withdraw-call : (block : ℕ) → callOf c n leaving block m ≡ calls.withdraw number
+    withdraw-call block = call-withdraw c n leaving block m refl ∙ ap calls.withdraw (e .found withdraw-place)
 
 -- ---- re-cost
 
-pub recost-on : (b : calls.Board) (number : ℕ) (costs : List ℕ) → changeRefusal b (calls.recost number costs) ≡ 0 → onBoard number (b .moves) ≡ true
+pub recost-on : (b : calls.Board) (number block : ℕ) (costs : List ℕ) → changeRefusal b (calls.recost number block costs) ≡ 0 → onBoard number (b .moves) ≡ true
 unfolding changeRefusal
-recost-on b number costs ok =
-    not-false (onBoard number (b .moves)) (first-two b number costs (not (onBoard number (b .moves))) 5 ok .2)
+recost-on b number block costs ok =
+    not-false (onBoard number (b .moves)) (all-pass b number block costs (not (onBoard number (b .moves))) 5 ok .2)
 
-module _ {c d n p : ℕ} {m : List ℕ} (s : SoundAt c d n m) (b : Bytes m) (x : Move) (w : Costs rowCosts (x .costs)) (e : PlaceOf c n (x .number) m p) where
+module _ {c d n p : ℕ} {m : List ℕ} (s : SoundAt c d n m) (b : Bytes m) (x : Move) (block : ℕ) (w : Costs rowCosts (x .costs)) (e : PlaceOf c n (x .number) m p) where
   abbrev moving : Change
   moving = record { goes = p; comes = true; coming = x }
 
-  module _ (ok : changeRefusal (boardIn m) (calls.recost (x .number) (x .costs)) ≡ 0) where
-    recost-checks : (leb (boardIn m .size) (x .number) ≡ false) × (costPastBad (boardIn m .dimension) (x .costs) ≡ false) × (not (onBoard (x .number) (boardIn m .moves)) ≡ false)
+  module _ (ok : changeRefusal (boardIn m) (calls.recost (x .number) block (x .costs)) ≡ 0) where
+    recost-checks : (leb (boardIn m .size) (x .number) ≡ false) × (costPastBad (boardIn m .dimension) (x .costs) ≡ false) × (not (onBoard (x .number) (boardIn m .moves)) ≡ false) × (blockBad block ≡ false)
     unfolding changeRefusal
-    recost-checks = first-two (boardIn m) (x .number) (x .costs) (not (onBoard (x .number) (boardIn m .moves))) 5 ok
+    recost-checks = all-pass (boardIn m) (x .number) block (x .costs) (not (onBoard (x .number) (boardIn m .moves))) 5 ok
 
     recost-place : p < n
     recost-place = found-place s (x .number) p e (recost-checks .2)
@@ -170,29 +174,40 @@ module _ {c d n p : ℕ} {m : List ℕ} (s : SoundAt c d n m) (b : Bytes m) (x :
           place = λ f. both-ways refl f;
         }
 
-    recost-call : callOf c n moving m ≡ calls.recost (x .number) (x .costs)
-    recost-call = call-recost c n moving m refl recost-place
+    recost-call : callOf c n moving block m ≡ calls.recost (x .number) block (x .costs)
+    recost-call = call-recost c n moving block m refl recost-place
 
 -- ---- each kind of change
 
-module _ {c d n p : ℕ} {m : List ℕ} (s : SoundAt c d n m) (b : Bytes m) (x : Move) (w : Costs rowCosts (x .costs)) (e : PlaceOf c n (x .number) m p) where
+module _ {c d n p : ℕ} {m : List ℕ} (s : SoundAt c d n m) (b : Bytes m) (x : Move) (block : ℕ) (w : Costs rowCosts (x .costs)) (e : PlaceOf c n (x .number) m p) where
   -- A number that is not on the board has the place past the last.
-  enter-last : changeRefusal (boardIn m) (calls.enter (x .number) (x .costs)) ≡ 0 → p ≡ n
+  enter-last : changeRefusal (boardIn m) (calls.enter (x .number) block (x .costs)) ≡ 0 → p ≡ n
   enter-last ok =
-      omega (arith, e .within, ltb-false p n (sym (on-board c d n m s (x .number) p e) ∙ enter-checks s b x w ok .2))
+      omega (arith, e .within, ltb-false p n (sym (on-board c d n m s (x .number) p e) ∙ enter-checks s b x block w ok .2))
 
   abbrev change : Kind → Change
   change kind = record { goes = p; comes = comes kind; coming = x }
 
-  pub kind-ready : (kind : Kind) → changeRefusal (boardIn m) (changeOf kind (x .number) (x .costs)) ≡ 0 → Ready c d n (change kind) m
+  pub kind-ready : (kind : Kind) → changeRefusal (boardIn m) (changeOf kind (x .number) block (x .costs)) ≡ 0 → Ready c d n (change kind) m
   unfolding changeOf comes
   kind-ready Enter ok =
-      subst (λ (g : ℕ). Ready c d n (record { goes = g; comes = true; coming = x }) m) (sym (enter-last ok)) (enter-ready s b x w ok)
+      subst (λ (g : ℕ). Ready c d n (record { goes = g; comes = true; coming = x }) m) (sym (enter-last ok)) (enter-ready s b x block w ok)
   kind-ready Withdraw ok = withdraw-ready s b x e ok
-  kind-ready Recost ok = recost-ready s b x w e ok
+  kind-ready Recost ok = recost-ready s b x block w e ok
 
-  pub kind-call : (kind : Kind) → changeRefusal (boardIn m) (changeOf kind (x .number) (x .costs)) ≡ 0 → callOf c n (change kind) m ≡ changeOf kind (x .number) (x .costs)
+  pub kind-call : (kind : Kind) → changeRefusal (boardIn m) (changeOf kind (x .number) block (x .costs)) ≡ 0 → callOf c n (change kind) block m ≡ changeOf kind (x .number) block (x .costs)
   unfolding changeOf comes
-  kind-call Enter ok = call-enter c n (change Enter) m refl (omega (arith, enter-last ok))
-  kind-call Withdraw ok = withdraw-call s b x e ok
-  kind-call Recost ok = recost-call s b x w e ok
+  kind-call Enter ok = call-enter c n (change Enter) block m refl (omega (arith, enter-last ok))
+  kind-call Withdraw ok = withdraw-call s b x e ok block
+  kind-call Recost ok = recost-call s b x block w e ok
+
+  -- The block that an accepted change gives.
+  pub kind-block : (kind : Kind) → comes kind ≡ true → changeRefusal (boardIn m) (changeOf kind (x .number) block (x .costs)) ≡ 0 → (x .number < c) × (block ≤ 63)
+  unfolding changeOf comes
+  kind-block Enter _ ok =
+      let h = enter-checks s b x block w ok in
+      (leb-false c (x .number) (sym (judge-size c d n m s (x .number)) ∙ h .0), block-most block (h .3))
+  kind-block Withdraw e ok = both-ways e refl
+  kind-block Recost _ ok =
+      let h = recost-checks s b x block w e ok in
+      (leb-false c (x .number) (sym (judge-size c d n m s (x .number)) ∙ h .0), block-most block (h .3))

@@ -12,7 +12,7 @@ use Rattle.model.specs.Withdrawing.{without}
 use Rattle.model.specs.Lists.{skyline}
 use Rattle.model.specs.Notice.{noticeOf}
 use Rattle.model.specs.Calls as calls
-use Rattle.model.specs.Calls.{refusedWith, listOf, changeRefusal, changeNotice, changed}
+use Rattle.model.specs.Calls.{accepted, refusedWith, listOf, changeRefusal, changeNotice, changed}
 use Rattle.line.specs.Line.{movesIn}
 use Rattle.promises.specs.Layout.{numberIn, boardIn, lineFrom}
 use Rattle.promises.specs.Answers.{answerOf, numberOf}
@@ -30,37 +30,42 @@ pub judged-passes : {x : calls.Change} {m : List ℕ} {v : Verdict} → Judges x
 unfolding answerOf refusedWith
 judged-passes j e = sym (ap (λ (a : calls.Answer). a .number) (j .is)) ∙ e
 
+-- No check turns it down.
+pub not-refused : {k : ℕ} → k ≡ 0 → refusedWith k ≡ accepted
+unfolding refusedWith accepted
+not-refused e = ap refusedWith e
+
 -- ---- the call that a change stands for
 
-abbrev callBy : ℕ → Change → List ℕ → Bool → Bool → calls.Change
-callBy c k m comes inside =
+abbrev callBy : ℕ → Change → ℕ → List ℕ → Bool → Bool → calls.Change
+callBy c k block m comes inside =
     let x = asMove (k .coming) in
-    cond comes (cond inside (calls.recost (x .number) (x .costs)) (calls.enter (x .number) (x .costs)))
+    cond comes (cond inside (calls.recost (x .number) block (x .costs)) (calls.enter (x .number) block (x .costs)))
     (calls.withdraw (numberIn c m (k .goes)))
 
-module _ (c n : ℕ) (k : Change) (m : List ℕ) where
-  call-by : (comes inside : Bool) → k .comes ≡ comes → ltb (k .goes) n ≡ inside → callOf c n k m ≡ callBy c k m comes inside
+module _ (c n : ℕ) (k : Change) (block : ℕ) (m : List ℕ) where
+  call-by : (comes inside : Bool) → k .comes ≡ comes → ltb (k .goes) n ≡ inside → callOf c n k block m ≡ callBy c k block m comes inside
   unfolding callOf
-  call-by comes inside e f = ap₂ (callBy c k m) e f
+  call-by comes inside e f = ap₂ (callBy c k block m) e f
 
-  pub call-withdraw : k .comes ≡ false → callOf c n k m ≡ calls.withdraw (numberIn c m (k .goes))
+  pub call-withdraw : k .comes ≡ false → callOf c n k block m ≡ calls.withdraw (numberIn c m (k .goes))
   call-withdraw e = call-by false (ltb (k .goes) n) e refl
 
-  pub call-recost : k .comes ≡ true → k .goes < n → callOf c n k m ≡ calls.recost (k .coming .number) (k .coming .costs)
+  pub call-recost : k .comes ≡ true → k .goes < n → callOf c n k block m ≡ calls.recost (k .coming .number) block (k .coming .costs)
   call-recost e l = call-by true true e (lt-ltb (k .goes) n l)
 
-  pub call-enter : k .comes ≡ true → n ≤ k .goes → callOf c n k m ≡ calls.enter (k .coming .number) (k .coming .costs)
+  pub call-enter : k .comes ≡ true → n ≤ k .goes → callOf c n k block m ≡ calls.enter (k .coming .number) block (k .coming .costs)
   call-enter e l = call-by true false e (le-ltb (k .goes) n l)
 
 -- ---- its moves and its notice
 
-module _ {c d n : ℕ} {k : Change} {m : List ℕ} (r : Ready c d n k m) (b : Bytes m) where
+module _ {c d n : ℕ} {k : Change} (block : ℕ) {m : List ℕ} (r : Ready c d n k m) (b : Bytes m) where
   abbrev ms : List model.Move
   ms = movesIn (lineFrom c d n m)
 
   moves-by : (comes inside : Bool) → k .comes ≡ comes → ltb (k .goes) n ≡ inside
       → cond comes (insert d (asMove (k .coming)) (dropAt (k .goes) ms)) (dropAt (k .goes) ms)
-      ≡ calls.changedMoves d (callBy c k m comes inside) ms
+      ≡ calls.changedMoves d (callBy c k block m comes inside) ms
   unfolding calls.changedMoves
   moves-by true true e f =
       let l = ltb-true (k .goes) n f in
@@ -71,11 +76,11 @@ module _ {c d n : ℕ} {k : Change} {m : List ℕ} (r : Ready c d n k m) (b : By
       ap (insert d (asMove (k .coming))) (ap (λ (i : ℕ). dropAt i ms) last ∙ entering-moves c d n m)
   moves-by false inside e f = rest-without c d n (k .goes) m (r .asked .sound) b (r .place e)
 
-  call-moves : movesAfter d k ms ≡ calls.changedMoves d (callOf c n k m) ms
+  call-moves : movesAfter d k ms ≡ calls.changedMoves d (callOf c n k block m) ms
   unfolding movesAfter callOf
   call-moves = moves-by (k .comes) (ltb (k .goes) n) refl refl
 
-  pub call-notice : noticeBy c d n k m ≡ changeNotice (boardIn m) (callOf c n k m)
+  pub call-notice : noticeBy c d n k m ≡ changeNotice (boardIn m) (callOf c n k block m)
   unfolding noticeBy changeNotice listOf changed boardIn
   call-notice =
       let s = r .asked .sound in
@@ -83,4 +88,4 @@ module _ {c d n : ℕ} {k : Change} {m : List ℕ} (r : Ready c d n k m) (b : By
       ap (λ (ns : List model.Move). noticeOf (skyline d ms) (skyline d ns)) call-moves
       ∙ (λ i.
       noticeOf (skyline (s .dimension i) (own i))
-      (skyline (s .dimension i) (calls.changedMoves (s .dimension i) (callOf c n k m) (own i))))
+      (skyline (s .dimension i) (calls.changedMoves (s .dimension i) (callOf c n k block m) (own i))))

@@ -6,12 +6,13 @@ use mathlib.Core.Path.{_≡_, refl, sym, subst}
 use native.Mathlib.Omega.{arith}
 use Rattle.model.specs.Calls as calls
 use Rattle.model.specs.Laws.Bool.{both-ways}
+use Rattle.promises.specs.Sound.{Sound}
 use Rattle.dominance.specs.Move.{asMove}
 use Rattle.upkeep.specs.Change.{ChangeAsked, Upkept}
 use Rattle.upkeep.specs.declared.change.Change.{Change}
 use Rattle.upkeep.specs.declared.telling.Telling.{Telling}
 use Rattle.board.specs.Change.{Made, EnterMade, WithdrawMade, RecostMade, ToEnter, ToWithdraw, ToRecost}
-use Rattle.board.specs.Plan.{changeIn, callIn, Prepared, CarriedOut}
+use Rattle.board.specs.Plan.{changeIn, callIn, Prepared, Able, MovesMade}
 use Rattle.board.specs.Laws.Calls.{call-withdraw, call-recost, call-enter}
 use Rattle.upkeep.specs.declared.plan.Plan.{Plan}
 
@@ -49,15 +50,26 @@ module _ {t : Telling} {k : Change} {m : List ℕ} (a : Prepared t k m) where
         upkept = subst (λ (k : Change). Upkept (t .head .size) (t .head .dimension) (t .head .count) k m (t .upkeep)) is (a .upkept);
       }
 
-module _ {p : Plan} {m m' : List ℕ} (h : p .makes ≡ true) where
-  carried : {x : calls.Change} → callIn p m ≡ x → Made x m m' → CarriedOut p m m'
-  carried is made = record { made = λ _. subst (λ (x : calls.Change). Made x m m') (sym is) made; idle = λ f. both-ways h f }
+module _ {p : Plan} {m m' : List ℕ} (able : Able p m) (h : p .makes ≡ true) where
+  abbrev sound : Sound m
+  sound = able .prepared h .ready .asked .sound .sound
 
-  pub enter-carried : p .comes ≡ true → p .telling .head .count ≤ p .goes → EnterMade (asMove (p .telling .coming)) m m' → CarriedOut p m m'
-  enter-carried e l = carried (call-enter (p .telling .head .size) (p .telling .head .count) (changeIn p) m e l)
+  carried : ((block : ℕ) → Made (callIn p block m) m m') → MovesMade p m m'
+  carried made =
+      record {
+        made = λ _. made;
+        idle = λ f. both-ways h f;
+        length = made 0 .kept (sound .tree) (sound .stands) .only .length;
+      }
 
-  pub withdraw-carried : p .comes ≡ false → WithdrawMade (p .telling .head .size) (p .goes) m m' → CarriedOut p m m'
-  withdraw-carried e = carried (call-withdraw (p .telling .head .size) (p .telling .head .count) (changeIn p) m e)
+  made-as : {x : calls.Change} → (block : ℕ) → callIn p block m ≡ x → Made x m m' → Made (callIn p block m) m m'
+  made-as block is made = subst (λ (x : calls.Change). Made x m m') (sym is) made
 
-  pub recost-carried : p .comes ≡ true → p .goes < p .telling .head .count → RecostMade (asMove (p .telling .coming)) m m' → CarriedOut p m m'
-  recost-carried e l = carried (call-recost (p .telling .head .size) (p .telling .head .count) (changeIn p) m e l)
+  pub enter-carried : p .comes ≡ true → p .telling .head .count ≤ p .goes → EnterMade (asMove (p .telling .coming)) m m' → MovesMade p m m'
+  enter-carried e l made = carried (λ block. made-as block (call-enter (p .telling .head .size) (p .telling .head .count) (changeIn p) block m e l) (made block))
+
+  pub withdraw-carried : p .comes ≡ false → WithdrawMade (p .telling .head .size) (p .goes) m m' → MovesMade p m m'
+  withdraw-carried e made = carried (λ block. made-as block (call-withdraw (p .telling .head .size) (p .telling .head .count) (changeIn p) block m e) made)
+
+  pub recost-carried : p .comes ≡ true → p .goes < p .telling .head .count → RecostMade (asMove (p .telling .coming)) m m' → MovesMade p m m'
+  recost-carried e l made = carried (λ block. made-as block (call-recost (p .telling .head .size) (p .telling .head .count) (changeIn p) block m e l) (made block))

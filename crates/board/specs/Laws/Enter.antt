@@ -9,15 +9,13 @@ use lib.ListN.{length}
 use Rattle.model.specs.Moves.{insert}
 use Rattle.model.specs.Tree.{Tree, movesOf}
 use Rattle.model.specs.Calls as calls
-use Rattle.model.specs.Calls.{onBoard, changed}
+use Rattle.model.specs.Calls.{onBoard}
 use Rattle.model.specs.Changing.{changeTree}
 use Rattle.model.specs.Sound.{Fit}
 use Rattle.model.specs.Laws.Order.{move-order}
 use Rattle.model.specs.Laws.Entering.{enter-moves}
-use Rattle.promises.specs.Layout.{sizeIn, dimensionIn, markIn, boardIn}
+use Rattle.promises.specs.Layout.{markIn}
 use Rattle.promises.specs.Sound.{Stands}
-use Rattle.promises.specs.Written.{changeWrites}
-use Rattle.promises.specs.Promise.{Kept}
 use Rattle.promises.specs.Run.{Bytes}
 use Rattle.dominance.specs.Move.{asMove}
 use Rattle.dominance.specs.declared.Move.{Move}
@@ -31,7 +29,7 @@ use Rattle.tree.specs.Enter as tree
 use Rattle.upkeep.specs.Change.{movesAfter}
 use Rattle.upkeep.specs.Notice.{SetMarks}
 use Rattle.upkeep.specs.declared.change.Upkeep.{Upkeep}
-use Rattle.board.specs.Change.{ToEnter, EnterMade}
+use Rattle.board.specs.Change.{ToEnter, Moved, EnterMade}
 use Rattle.board.specs.Laws.Rows.{holds-sound, holds-moves, holds-over-marks, holds-counted}
 use Rattle.board.specs.Laws.Kept.{MarksRight, made}
 use Rattle.board.specs.Laws.Marks.{entering-moves, marks-come}
@@ -71,11 +69,11 @@ module _ {c d n : ℕ} {x : Move} {u : Upkeep} {m m₁ m₂ m₃ : List ℕ} (a 
     costs : CostsOnly c m₂ m₃
     costs = stored-frame (marked-holds t stands) (a .asked .fit refl) (off t stands) e₃
 
-    enter-kept : Kept (changeWrites (sizeIn m)) m m₅ (changed (boardIn m) (calls.enter (x .number) (x .costs))) (changeTree (dimensionIn m) (calls.enter (x .number) (x .costs)) t)
+    enter-kept : (block : ℕ) → Moved (calls.enter (x .number) block (x .costs)) m m₅ t
     unfolding changeTree calls.changedMoves movesAfter
-    enter-kept =
+    enter-kept block =
         let h = holds-sound s b t stands in
-        made s (calls.enter (x .number) (x .costs)) t
+        made s (calls.enter (x .number) block (x .costs)) t
         (only-trans (marks-written c marked) (only-trans (costs-written c costs) (rows-written c (entered .frame))))
         (entered .holds t (stored-holds (marked-holds t stands) (a .asked .fit refl) (off t stands) e₃))
         (enter-moves d (Fit c d) (move-order d c (h .readable .dimension)) (asMove x) (a .asked .fit refl) t (h .rules) (h .fits) ∙ ap (insert d (asMove x)) (sym (holds-moves h)))
@@ -85,4 +83,4 @@ module _ {c d n : ℕ} {x : Move} {u : Upkeep} {m m₁ m₂ m₃ : List ℕ} (a 
         (e₅ ∙ ap (λ (k : ℕ). setCount k m₄) (add-one n))
 
   pub enter-made : {m₄ m₅ : List ℕ} → tree.Entered c d n (asMove x) m₃ m₄ → m₅ ≡ setCount (n + 1) m₄ → EnterMade (asMove x) m m₅
-  enter-made entered e₅ = record { kept = enter-kept entered e₅ }
+  enter-made entered e₅ block = record { kept = λ t stands. enter-kept entered e₅ t stands block }

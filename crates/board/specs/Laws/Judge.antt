@@ -9,7 +9,7 @@ use lib.ListN.{length}
 use Rattle.zorder.specs.Refusal.{refusal, costPastBad}
 use Rattle.model.specs.Basics.{any}
 use Rattle.model.specs.Calls as calls
-use Rattle.model.specs.Calls.{onBoard, changeRefusal, refusedWith}
+use Rattle.model.specs.Calls.{blockBad, onBoard, changeRefusal, refusedWith}
 use Rattle.line.specs.Line.{Placed, movesIn}
 use Rattle.line.specs.Withdraw.{placeOf}
 use Rattle.promises.specs.Layout.{boardIn, lineFrom}
@@ -58,41 +58,44 @@ module _ (c d n : ℕ) (m : List ℕ) (s : SoundAt c d n m) where
 
 -- ---- the checks of each kind of change
 
-refusal-of : (kind : Kind) (b : calls.Board) (x : Move)
-    → changeRefusal b (changeOf kind (x .number) (x .costs))
+refusal-of : (kind : Kind) (b : calls.Board) (x : Move) (block : ℕ)
+    → changeRefusal b (changeOf kind (x .number) block (x .costs))
     ≡ refusal
     ((leb (b .size) (x .number), 4)
+    ∷ (comes kind && blockBad block, 11)
     ∷ (comes kind && costPastBad (b .dimension) (x .costs), 7)
     ∷ (cond (isNew kind) (onBoard (x .number) (b .moves)) (not (onBoard (x .number) (b .moves))), cond (isNew kind) 5 6)
     ∷ [])
 unfolding changeRefusal changeOf comes isNew refusal
-refusal-of Enter b x = refl
-refusal-of Withdraw b x = refl
-refusal-of Recost b x = refl
+refusal-of Enter b x block = refl
+refusal-of Withdraw b x block = refl
+refusal-of Recost b x block = refl
 
 -- Each check by its answer, known or not.
-pub judges-by : (kind : Kind) (h : Head) (x : Move) (on : Bool) {v : Verdict} (large past new : Bool) → leb (h .size) (x .number) ≡ large
+pub judges-by : (kind : Kind) (h : Head) (x : Move) (block : ℕ) (on : Bool) {v : Verdict} (large high past new : Bool) → leb (h .size) (x .number) ≡ large
+    → (comes kind && blockBad block) ≡ high
     → (comes kind && costPastBad (h .dimension) (x .costs)) ≡ past
     → isNew kind ≡ new
-    → answerOf v ≡ refusedWith (refusal ((large, 4) ∷ (past, 7) ∷ (cond new on (not on), cond new 5 6) ∷ []))
-    → JudgesBy kind h x on v
-judges-by kind h x on large past new e f g a =
+    → answerOf v ≡ refusedWith (refusal ((large, 4) ∷ (high, 11) ∷ (past, 7) ∷ (cond new on (not on), cond new 5 6) ∷ []))
+    → JudgesBy kind h x block on v
+judges-by kind h x block on large high past new e k f g a =
     record {
       is = λ b size dimension o.
           a
           ∙ sym
           (ap refusedWith
-          (refusal-of kind b x
+          (refusal-of kind b x block
           ∙ (λ i.
           refusal
           (((ap (λ (k : ℕ). leb k (x .number)) size ∙ e) i, 4)
+          ∷ (k i, 11)
           ∷ ((ap (λ (k : ℕ). comes kind && costPastBad k (x .costs)) dimension ∙ f) i, 7)
           ∷ (cond (g i) (o i) (not (o i)), cond (g i) 5 6)
           ∷ []))));
     }
 
-pub judged : {c d n p : ℕ} {m : List ℕ} (s : SoundAt c d n m) {kind : Kind} {x : Move} {v : Verdict} → PlaceOf c n (x .number) m p
-    → JudgesBy kind (record { size = c; dimension = d; count = n }) x (ltb p n) v → Judges (changeOf kind (x .number) (x .costs)) m v
+pub judged : {c d n p : ℕ} {m : List ℕ} (s : SoundAt c d n m) {kind : Kind} {x : Move} {block : ℕ} {v : Verdict} → PlaceOf c n (x .number) m p
+    → JudgesBy kind (record { size = c; dimension = d; count = n }) x block (ltb p n) v → Judges (changeOf kind (x .number) block (x .costs)) m v
 unfolding boardIn
 judged {c} {d} {n} {p} {m} s {x = x} e j =
     record { is = j .is (boardIn m) (sym (s .size)) (sym (s .dimension)) (on-board c d n m s (x .number) p e) }

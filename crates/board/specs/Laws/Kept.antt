@@ -2,7 +2,7 @@
 use Prim.Native.Nat.{ℕ, _<_}
 use mathlib.Core.Bool.{not}
 use mathlib.Core.List.{List}
-use mathlib.Core.Path.{_≡_, sym, ap, ap₂, _∙_, subst, subst₃}
+use mathlib.Core.Path.{_≡_, sym, ap, ap₂, _∙_, subst}
 use native.Mathlib.Omega.{arith}
 use lib.Dec.{eqb}
 use lib.ListN.{length}
@@ -11,15 +11,13 @@ use Rattle.model.specs.Basics.{Each}
 use Rattle.model.specs.Moves.{Move}
 use Rattle.model.specs.Lists.{hidden, skyline}
 use Rattle.model.specs.Tree.{Tree, movesOf, ruled}
-use Rattle.model.specs.Calls.{Change, changedMoves, changed, sizeBad, memoryNeed}
+use Rattle.model.specs.Calls.{Change, changedMoves, sizeBad, memoryNeed}
 use Rattle.model.specs.Changing.{changeTree}
 use Rattle.model.specs.Laws.Basics.{each-mono, select-ext}
 use Rattle.line.specs.Line.{movesIn, lineOf}
 use Rattle.line.specs.Laws.Line.{moves-line}
-use Rattle.promises.specs.Layout.{sizeIn, dimensionIn, countIn, markIn, moveIn, placedIn, lineFrom, lineIn, boardIn, keptFrom, keptIn}
+use Rattle.promises.specs.Layout.{sizeIn, dimensionIn, countIn, markIn, moveIn, placedIn, lineFrom, lineIn, keptFrom, keptIn}
 use Rattle.promises.specs.Sound.{Stands}
-use Rattle.promises.specs.Written.{changeWrites}
-use Rattle.promises.specs.Promise.{Kept}
 use Rattle.promises.specs.Laws.Tab.{each-tab}
 use Rattle.memory.specs.Held.{SoundAt}
 use Rattle.memory.specs.Stores.{setCount}
@@ -29,6 +27,7 @@ use Rattle.memory.specs.Laws.Fields.{number-over-head, mark-over-head}
 use Rattle.memory.specs.Laws.Stored.{setCount-head, count-setCount, size-setCount, dimension-setCount}
 use Rattle.memory.specs.Laws.Lines.{lineIn-line, line-over-head}
 use Rattle.tree.specs.Hold.{RowsHold}
+use Rattle.board.specs.Change.{Moved}
 
 -- The mark of each of the moves says whether it is in their list.
 abbrev pub MarksRight : ℕ → ℕ → List ℕ → List Move → Type 0
@@ -92,25 +91,18 @@ module _ {c d n k : ℕ} {m m₁ : List ℕ} {t : Tree} (s : SoundAt c d n m) (f
   all : MovesOnly c m m'
   all = only-trans f (count-written c k m₁)
 
-  kept-counted : (ms : List Move) → movesOf t ≡ ms → Kept (changeWrites c) m m' (record { size = c; dimension = d; moves = ms }) t
-  unfolding boardIn
-  kept-counted ms e =
-      record {
-        holding = record { stands = stands; board = λ i. record { size = size i; dimension = dimension i; moves = (moves ∙ e) i } };
-        length = all .length;
-        others = all .same;
-      }
-
 -- The same for a change of the board that sound memory holds.
 pub made : {c d n k : ℕ} {m m₁ m' : List ℕ} (s : SoundAt c d n m) (x : Change) (t : Tree) → MovesOnly c m m₁ → RowsHold c d k m₁ (changeTree d x t)
     → movesOf (changeTree d x t) ≡ changedMoves d x (movesIn (lineFrom c d n m))
     → MarksRight c d m₁ (changedMoves d x (movesIn (lineFrom c d n m)))
     → m' ≡ setCount k m₁
-    → Kept (changeWrites (sizeIn m)) m m' (changed (boardIn m) x) (changeTree (dimensionIn m) x t)
-unfolding changed boardIn lineIn
-made {c} {d} {n} {k} {m} {m₁} s x t f h moves marks e =
-    subst (λ (w : List ℕ). Kept (changeWrites (sizeIn m)) m w (changed (boardIn m) x) (changeTree (dimensionIn m) x t)) (sym e)
-    (subst₃
-    (λ (c d n : ℕ). Kept (changeWrites c) m (setCount k m₁) (record { size = c; dimension = d; moves = changedMoves d x (movesIn (lineFrom c d n m)) }) (changeTree d x t))
-    (s .size) (s .dimension) (s .count)
-    (kept-counted s f h (subst (MarksRight c d m₁) (sym moves) marks) (changedMoves d x (movesIn (lineFrom c d n m))) moves))
+    → Moved x m m' t
+unfolding lineIn
+made {c} {d} {n} {k} {m} {m₁} s x t f h e marks is =
+    let right = subst (MarksRight c d m₁) (sym e) marks in
+    subst (λ (w : List ℕ). Moved x m w t) (sym is)
+    (record {
+      stands = subst (λ (d : ℕ). Stands (setCount k m₁) (changeTree d x t)) (s .dimension) (stands s f h right);
+      moves = moves s f h right ∙ e ∙ (λ i. changedMoves (s .dimension i) x (movesIn (lineFrom (s .size i) (s .dimension i) (s .count i) m)));
+      only = subst (λ (c : ℕ). MovesOnly c m (setCount k m₁)) (s .size) (all s f h right);
+    })

@@ -5,11 +5,11 @@ use mathlib.Core.List.{List, []}
 use mathlib.Core.Path.{_≡_, refl, sym, ap, ap₂, _∙_, subst}
 use native.Mathlib.Omega.{arith}
 use borrow.Author.Tests.{ltb-true, ltb-false, lt-ltb}
-use lib.Dec.{ltb}
+use lib.Dec.{ltb, eqb}
 use lib.ListN.{length}
 use Rattle.model.specs.Basics.{equal}
 use Rattle.model.specs.Calls as calls
-use Rattle.model.specs.Calls.{changeRefusal, changeAnswer, changeNotice, changesNothing, onBoard}
+use Rattle.model.specs.Calls.{refusedWith, changeRefusal, changeAnswer, changeNotice, changesNothing, onBoard}
 use Rattle.model.specs.Withdrawing.{costsOn, unchanged}
 use Rattle.model.specs.Opening.{changeOpens}
 use Rattle.model.specs.Laws.Bool.{both-ways, byCases, and-left, and-right}
@@ -30,19 +30,20 @@ use Rattle.upkeep.specs.Laws.Planned.{answered-unsound, answered-refused, answe
 use Rattle.upkeep.specs.declared.change.Change.{Change}
 use Rattle.upkeep.specs.declared.change.Upkeep.{Upkeep}
 use Rattle.board.specs.Change.{Judges, Other, neededRows, Made}
-use Rattle.board.specs.Plan.{callOf, alike, Ready, Planned, PlanAsked, PlanOf}
+use Rattle.board.specs.Plan.{callOf, alike, Ready, MovesPlanned, Planned, PlanAsked, PlanOf}
 use Rattle.board.specs.Laws.Judge.{board-moves}
 use Rattle.board.specs.Laws.Recost.{costs-board}
 use Rattle.board.specs.Laws.Notice.{told-rows, rows-needed, notice-needs}
-use Rattle.board.specs.Laws.Calls.{judged-passes, call-withdraw, call-enter, call-recost, call-notice}
+use Rattle.board.specs.Laws.Calls.{judged-passes, not-refused, call-withdraw, call-enter, call-recost, call-notice}
 use Rattle.board.specs.Laws.Accepted.{recost-on}
 use Rattle.board.specs.Laws.Unchanged.{no-notice, same-made}
+use Rattle.upkeep.specs.declared.plan.Given.{Given}
 use Rattle.upkeep.specs.declared.plan.Plan.{Plan}
 
 -- ---- nothing told and nothing made
 
-module _ {x : calls.Change} {m : List ℕ} {lent : ℕ} {v : Verdict} {p : Plan} (e : Nothing v p) (a : VerdictFor (changeAnswer (boardIn m) x lent) (changeNotice (boardIn m) x) m lent v 0) where
-  nothing-planned : (numberOf v ≡ 0 → [] ≡ changeNotice (boardIn m) x) → (numberOf v ≡ 0 → Made x m m) → Planned x m lent p
+module _ {block : ℕ} {x : calls.Change} {m : List ℕ} {lent : ℕ} {v : Verdict} {p : Plan} (e : Nothing v p) (a : VerdictFor (changeAnswer (boardIn m) x lent) (changeNotice (boardIn m) x) m lent v 0) where
+  nothing-planned : (numberOf v ≡ 0 → [] ≡ changeNotice (boardIn m) x) → (numberOf v ≡ 0 → Made x m m) → MovesPlanned block x m lent p
   unfolding changeOpens
   nothing-planned notice idle =
       record {
@@ -51,15 +52,23 @@ module _ {x : calls.Change} {m : List ℕ} {lent : ℕ} {v : Verdict} {p : Plan}
         makes = λ f. both-ways f (e .makes);
         idle = λ _ z. idle (sym (ap numberOf (e .verdict)) ∙ z);
         nothing = λ _ _. e .makes;
-        able = record { prepared = λ f. both-ways f (e .makes) };
+        prepared = λ f. both-ways f (e .makes);
       }
 
-  refused-planned : 0 < numberOf v → Planned x m lent p
+  refused-planned : 0 < numberOf v → MovesPlanned block x m lent p
   refused-planned h = nothing-planned (λ z. absurd (omega arith)) (λ z. absurd (omega arith))
 
 pub plan-unsound : {x : calls.Change} {m : List ℕ} {lent : ℕ} {p : Plan} → (Sound m → ⊥) → Nothing Unsound p → Planned x m lent p
 unfolding numberOf changeAnswer
-plan-unsound {x} {m} {lent} bad e = refused-planned e (answered-unsound (changeRefusal (boardIn m) x) (changeNotice (boardIn m) x) m lent bad) (omega arith)
+plan-unsound {x} {m} {lent} bad e =
+    let v-is = ap numberOf (e .verdict) in
+    record {
+      block = 0;
+      moves = refused-planned e (answered-unsound (refusedWith (changeRefusal (boardIn m) x)) (changeNotice (boardIn m) x) m lent bad) (omega arith);
+      gives = λ z. absurd (omega (arith, v-is, z));
+      refused = λ _. e .gives;
+      able = record { prepared = λ f. both-ways f (e .makes); giveable = λ f. both-ways f (e .gives) };
+    }
 
 -- ---- the plan of a change
 
@@ -71,8 +80,9 @@ module _ {c d n : ℕ} {v : Verdict} {k : Change} {m : List ℕ} (a : PlanAsked 
   unfolding changeAnswer
   plan-refused {lent} h e =
       record {
-        plans = λ x j _.
-            refused-planned e (answered-refused (changeRefusal (boardIn m) x) (changeNotice (boardIn m) x) m lent sound v (j .is) h) h;
+        plans = λ block x j _.
+            refused-planned e (answered-refused (refusedWith (changeRefusal (boardIn m) x)) (changeNotice (boardIn m) x) m lent sound v (j .is) h) h;
+        none = e .gives;
       }
 
   module _ (h : numberOf v ≡ 0) where
@@ -89,25 +99,26 @@ module _ {c d n : ℕ} {v : Verdict} {k : Change} {m : List ℕ} (a : PlanAsked 
           let l = ltb-true (k .goes) n (and-left (ltb (k .goes) n) _ rest) in
           (comes, l, ap (λ (i : ℕ). equal (k .coming .costs) (costsIn c d m i)) (sym (ready .number comes l)) ∙ and-right (ltb (k .goes) n) _ rest)
 
-      idle-recost : {lent : ℕ} {p : Plan} → Judges (calls.recost (k .coming .number) (k .coming .costs)) m v → Nothing Accepted p
-          → Planned (calls.recost (k .coming .number) (k .coming .costs)) m lent p
+      idle-recost : (block : ℕ) {lent : ℕ} {p : Plan} → Judges (calls.recost (k .coming .number) block (k .coming .costs)) m v → Nothing Accepted p
+          → MovesPlanned block (calls.recost (k .coming .number) block (k .coming .costs)) m lent p
       unfolding changeAnswer
-      idle-recost {lent} j e =
+      idle-recost block {lent} j e =
           let x = k .coming in
           let fit = ready .asked .fit (alike-costs .0) in
           let ok = judged-passes j h in
-          let on = recost-on (boardIn m) (x .number) (x .costs) ok in
-          let none = no-notice (a .sound) b x fit on (alike-costs .2) in
-          nothing-planned e (answered-all _ _ m lent sound ok 0 (ap length (sym none)) (omega arith)) (λ _. sym none)
-          (λ _. same-made (a .sound) b x fit on (alike-costs .2))
+          let on = recost-on (boardIn m) (x .number) block (x .costs) ok in
+          let none = no-notice (a .sound) b x fit on (alike-costs .2) block in
+          nothing-planned e (answered-all _ _ m lent sound (not-refused ok) 0 (ap length (sym none)) (omega arith)) (λ _. sym none)
+          (λ _. same-made (a .sound) b x fit on (alike-costs .2) block)
 
       pub plan-idle : {lent : ℕ} {p : Plan} → Nothing Accepted p → PlanOf c n v k m lent p
       plan-idle {lent} {p} e =
           record {
-            plans = λ x j stands.
-                let is = sym (call-recost c n k m (alike-costs .0) (alike-costs .1)) ∙ stands h in
-                subst (λ (x : calls.Change). Planned x m lent p) is
-                (idle-recost (subst (λ (x : calls.Change). Judges x m v) (sym is) j) e);
+            plans = λ block x j stands.
+                let is = sym (call-recost c n k block m (alike-costs .0) (alike-costs .1)) ∙ stands h in
+                subst (λ (x : calls.Change). MovesPlanned block x m lent p) is
+                (idle-recost block (subst (λ (x : calls.Change). Judges x m v) (sym is) j) e);
+            none = e .gives;
           }
 
     module _ (different : alike c d n k m ≡ false) where
@@ -122,44 +133,46 @@ module _ {c d n : ℕ} {v : Verdict} {k : Change} {m : List ℕ} (a : PlanAsked 
           }
 
       -- A change that is made changes something.
-      costs-change : k .comes ≡ true → k .goes < n → changeRefusal (boardIn m) (calls.recost (k .coming .number) (k .coming .costs)) ≡ 0
-          → changesNothing (boardIn m) (calls.recost (k .coming .number) (k .coming .costs)) ≡ false
+      costs-change : (block : ℕ) → k .comes ≡ true → k .goes < n → changeRefusal (boardIn m) (calls.recost (k .coming .number) block (k .coming .costs)) ≡ 0
+          → changesNothing (boardIn m) (calls.recost (k .coming .number) block (k .coming .costs)) ≡ false
       unfolding changesNothing unchanged alike
-      costs-change e l ok =
+      costs-change block e l ok =
           let x = k .coming in
           let own = board-moves c d n m (a .sound) in
-          let on = ap (onBoard (x .number)) (sym own) ∙ recost-on (boardIn m) (x .number) (x .costs) ok in
-          ap (equal (x .costs)) (ap (costsOn (x .number)) own ∙ costs-board c d n m (x .number) on ∙ ap (costsIn c d m) (sym (ready .number e l)))
+          let on = ap (onBoard (x .number)) (sym own) ∙ recost-on (boardIn m) (x .number) block (x .costs) ok in
+          ap (λ (t : Bool). t && eqb block (boardIn m .blocks (x .number)))
+          (ap (equal (x .costs)) (ap (costsOn (x .number)) own ∙ costs-board c d n m (x .number) on ∙ ap (costsIn c d m) (sym (ready .number e l)))
           ∙ sym (ap₂ (λ (p q : Bool). p && (q && equal (x .costs) (costsIn c d m (numberIn c m (k .goes))))) e (lt-ltb (k .goes) n l))
-          ∙ different
+          ∙ different)
 
-      never-nothing : (x : calls.Change) → changeRefusal (boardIn m) x ≡ 0 → callOf c n k m ≡ x → changesNothing (boardIn m) x ≡ false
+      never-nothing : (block : ℕ) (x : calls.Change) → changeRefusal (boardIn m) x ≡ 0 → callOf c n k block m ≡ x → changesNothing (boardIn m) x ≡ false
       unfolding changesNothing
-      never-nothing x ok stands =
-          let by : (y : calls.Change) → callOf c n k m ≡ y → changesNothing (boardIn m) y ≡ false → changesNothing (boardIn m) x ≡ false =
+      never-nothing block x ok stands =
+          let by : (y : calls.Change) → callOf c n k block m ≡ y → changesNothing (boardIn m) y ≡ false → changesNothing (boardIn m) x ≡ false =
           λ y is f. ap (changesNothing (boardIn m)) (sym stands ∙ is) ∙ f in
           byCases (k .comes)
           (λ e. byCases (ltb (k .goes) n)
-          (λ i. let l = ltb-true (k .goes) n i in let is = call-recost c n k m e l in by _ is (costs-change e l (ap (changeRefusal (boardIn m)) (sym is ∙ stands) ∙ ok)))
-          (λ o. by _ (call-enter c n k m e (ltb-false (k .goes) n o)) refl))
-          (λ e. by _ (call-withdraw c n k m e) refl)
+          (λ i. let l = ltb-true (k .goes) n i in let is = call-recost c n k block m e l in by _ is (costs-change block e l (ap (changeRefusal (boardIn m)) (sym is ∙ stands) ∙ ok)))
+          (λ o. by _ (call-enter c n k block m e (ltb-false (k .goes) n o)) refl))
+          (λ e. by _ (call-withdraw c n k block m e) refl)
 
       module _ {u : Upkeep} (up : Upkept c d n k m u) {need : ℕ} (e : need ≡ neededRows u) where
-        plan-need : need ≡ length (changeNotice (boardIn m) (callOf c n k m))
-        plan-need = e ∙ notice-needs (ready .asked) b other up ∙ ap length (call-notice ready b)
+        plan-need : (block : ℕ) → need ≡ length (changeNotice (boardIn m) (callOf c n k block m))
+        plan-need block = e ∙ notice-needs (ready .asked) b other up ∙ ap length (call-notice block ready b)
 
-        need-of : (x : calls.Change) → (numberOf v ≡ 0 → callOf c n k m ≡ x) → need ≡ length (changeNotice (boardIn m) x)
-        need-of x stands = plan-need ∙ ap (λ (x : calls.Change). length (changeNotice (boardIn m) x)) (stands h)
+        need-of : (block : ℕ) (x : calls.Change) → (numberOf v ≡ 0 → callOf c n k block m ≡ x) → need ≡ length (changeNotice (boardIn m) x)
+        need-of block x stands = plan-need block ∙ ap (λ (x : calls.Change). length (changeNotice (boardIn m) x)) (stands h)
 
         pub plan-few : {lent : ℕ} {p : Plan} → lent < need → Nothing (FewRows need) p → PlanOf c n v k m lent p
         unfolding numberOf changeAnswer
         plan-few {lent} l g =
             record {
-              plans = λ x j stands.
-                  refused-planned g (answered-few (changeRefusal (boardIn m) x) (changeNotice (boardIn m) x) m lent sound (judged-passes j h) need (need-of x stands) l) (omega arith);
+              plans = λ block x j stands.
+                  refused-planned g (answered-few (refusedWith (changeRefusal (boardIn m) x)) (changeNotice (boardIn m) x) m lent sound (not-refused (judged-passes j h)) need (need-of block x stands) l) (omega arith);
+              none = g .gives;
             }
 
-        module _ {lent : ℕ} (l : need ≤ lent) {place : ℕ} (q : ComingPlace c d n k m place) where
+        module _ {lent : ℕ} (l : need ≤ lent) {place : ℕ} (q : ComingPlace c d n k m place) (g : Given) (off : g .gives ≡ false) where
           abbrev full : Plan
           full =
               record {
@@ -169,33 +182,34 @@ module _ {c d n : ℕ} {v : Verdict} {k : Change} {m : List ℕ} (a : PlanAsked 
                 makes = true;
                 goes = k .goes;
                 comes = k .comes;
+                given = g;
                 telling = record { head = record { size = c; dimension = d; count = n }; place = place; mark = 1; coming = k .coming; upkeep = u };
               }
 
-          full-plans : (x : calls.Change) → changeRefusal (boardIn m) x ≡ 0 → (numberOf v ≡ 0 → callOf c n k m ≡ x)
+          full-plans : (block : ℕ) (x : calls.Change) → changeRefusal (boardIn m) x ≡ 0 → (numberOf v ≡ 0 → callOf c n k block m ≡ x)
               → Plans (changeAnswer (boardIn m) x lent) (changeNotice (boardIn m) x) (changeOpens (dimensionIn m) x) m lent full
           unfolding numberOf changeAnswer changeOpens toldRows noticeRows
-          full-plans x ok stands =
+          full-plans block x ok stands =
               record {
-                answered = answered-all _ _ m lent sound ok need (need-of x stands) l;
+                answered = answered-all _ _ m lent sound (not-refused ok) need (need-of block x stands) l;
                 opens = λ _ _ _. refl;
                 closed = λ z. absurd (omega arith);
                 told = rows-needed (ready .asked) b other up q (asMove (k .coming)) ∙ sym e;
-                tells = λ _. told-rows (ready .asked) b other up q ∙ call-notice ready b ∙ ap (changeNotice (boardIn m)) (stands h);
+                tells = λ _. told-rows (ready .asked) b other up q ∙ call-notice block ready b ∙ ap (changeNotice (boardIn m)) (stands h);
                 asked = λ _. record { readable = held-readable (a .sound); place = q .within };
               }
 
-          full-planned : (x : calls.Change) → changeRefusal (boardIn m) x ≡ 0 → (numberOf v ≡ 0 → callOf c n k m ≡ x) → Planned x m lent full
+          full-planned : (block : ℕ) (x : calls.Change) → changeRefusal (boardIn m) x ≡ 0 → (numberOf v ≡ 0 → callOf c n k block m ≡ x) → MovesPlanned block x m lent full
           unfolding numberOf
-          full-planned x ok stands =
+          full-planned block x ok stands =
               record {
-                plans = full-plans x ok stands;
+                plans = full-plans block x ok stands;
                 accepted = λ _. refl;
                 makes = λ _. stands h;
                 idle = λ f. both-ways refl f;
-                nothing = λ _ same. both-ways same (never-nothing x ok (stands h));
-                able = record { prepared = λ _. record { ready = ready; other = other; upkept = up } };
+                nothing = λ _ same. both-ways same (never-nothing block x ok (stands h));
+                prepared = λ _. record { ready = ready; other = other; upkept = up };
               }
 
           pub plan-full : PlanOf c n v k m lent full
-          plan-full = record { plans = λ x j stands. full-planned x (judged-passes j h) stands }
+          plan-full = record { plans = λ block x j stands. full-planned block x (judged-passes j h) stands; none = off }

@@ -4,7 +4,7 @@ use mathlib.Core.Bool.{Bool, true, false, cond, _||_}
 use mathlib.Core.List.{List, [], _∷_}
 use mathlib.Core.Path.{_≡_, refl, sym, ap, ap₂, _∙_, subst, subst₂}
 use native.Mathlib.Omega.{arith}
-use borrow.Author.Tests.{eq-eqb, eqb-true}
+use borrow.Author.Tests.{eqb-true}
 use lib.Dec.{eqb}
 use lib.ListN.{length}
 use Rattle.model.specs.Basics.{Each, any}
@@ -14,7 +14,7 @@ use Rattle.model.specs.Tree.{Tree, movesOf}
 use Rattle.model.specs.Entering.{enterTree}
 use Rattle.model.specs.Withdrawing.{without, withdrawTree, costsOn, unchanged, recostTree}
 use Rattle.model.specs.Calls as calls
-use Rattle.model.specs.Calls.{onBoard, changed}
+use Rattle.model.specs.Calls.{onBoard}
 use Rattle.model.specs.Changing.{changeTree}
 use Rattle.model.specs.Sound.{Fit}
 use Rattle.model.specs.Laws.Bool.{condCases, both-ways}
@@ -22,10 +22,8 @@ use Rattle.model.specs.Laws.Basics.{equal-true}
 use Rattle.model.specs.Laws.Order.{move-order}
 use Rattle.model.specs.Laws.Entering.{enter-moves}
 use Rattle.line.specs.Line.{movesIn}
-use Rattle.promises.specs.Layout.{sizeIn, dimensionIn, numberIn, costsIn, markIn, moveIn, lineFrom, boardIn}
+use Rattle.promises.specs.Layout.{numberIn, costsIn, markIn, moveIn, lineFrom}
 use Rattle.promises.specs.Sound.{Stands}
-use Rattle.promises.specs.Written.{changeWrites}
-use Rattle.promises.specs.Promise.{Kept}
 use Rattle.promises.specs.Run.{Bytes}
 use Rattle.promises.specs.Laws.Tab.{each-tab}
 use Rattle.dominance.specs.Move.{asMove}
@@ -35,8 +33,8 @@ use Rattle.memory.specs.Stores.{setListed, setCosts, setCount}
 use Rattle.memory.specs.Frame.{MovesOnly, MarksOnly, CostsOnly}
 use Rattle.memory.specs.Laws.Written.{only-trans, rows-written, marks-written, costs-written}
 use Rattle.memory.specs.Laws.Fields.{mark-over-rows, mark-over-costs}
-use Rattle.memory.specs.Laws.Places.{any-tab, anyTo-found}
 use Rattle.memory.specs.Laws.Lines.{movesIn-line}
+use Rattle.memory.specs.Laws.Blocks.{on-at}
 use Rattle.memory.specs.Laws.Held.{held-few}
 use Rattle.tree.specs.Hold.{RowsHold}
 use Rattle.tree.specs.Enter as tree
@@ -44,7 +42,7 @@ use Rattle.tree.specs.Withdraw as withdraw
 use Rattle.upkeep.specs.Change.{dropAt, movesAfter}
 use Rattle.upkeep.specs.Notice.{SetMarks}
 use Rattle.upkeep.specs.declared.change.Upkeep.{Upkeep}
-use Rattle.board.specs.Change.{ToRecost, RecostMade}
+use Rattle.board.specs.Change.{ToRecost, Moved, RecostMade}
 use Rattle.board.specs.Laws.Rows.{holds-sound, holds-moves, holds-over-marks, holds-counted}
 use Rattle.board.specs.Laws.Kept.{MarksRight, made}
 use Rattle.board.specs.Laws.Marks.{rest-without, marks-come}
@@ -67,16 +65,8 @@ costs-board c d n m k =
     (subst (Each (λ x. x .costs ≡ costsIn c d m (x .number))) (sym (movesIn-line c d n m))
     (each-tab (moveIn c d m) (λ x. x .costs ≡ costsIn c d m (x .number)) n (λ _ _. refl)))
 
-module _ (c d n p : ℕ) (m : List ℕ) (l : p < n) where
-  on-board : onBoard (numberIn c m p) (movesIn (lineFrom c d n m)) ≡ true
-  unfolding onBoard moveIn
-  on-board =
-      ap (any (λ x. eqb (x .number) (numberIn c m p))) (movesIn-line c d n m)
-      ∙ any-tab (moveIn c d m) (λ x. eqb (x .number) (numberIn c m p)) n
-      ∙ anyTo-found (λ i. eqb (numberIn c m i) (numberIn c m p)) n p l (eq-eqb (numberIn c m p) (numberIn c m p) refl)
-
-  costs-there : costsOn (numberIn c m p) (movesIn (lineFrom c d n m)) ≡ costsIn c d m (numberIn c m p)
-  costs-there = costs-board c d n m (numberIn c m p) on-board
+costs-there : (c d n p : ℕ) (m : List ℕ) → p < n → costsOn (numberIn c m p) (movesIn (lineFrom c d n m)) ≡ costsIn c d m (numberIn c m p)
+costs-there c d n p m l = costs-board c d n m (numberIn c m p) (on-at c d n m p l)
 
 module _ {c d n p : ℕ} {x : Move} {u : Upkeep} {m m₁ m₂ : List ℕ} (a : ToRecost c d n p x u m) (b : Bytes m)
     (set : SetMarks c n (u .changed) m m₁)
@@ -146,10 +136,10 @@ module _ {c d n p : ℕ} {x : Move} {u : Upkeep} {m m₁ m₂ : List ℕ} (a : T
           subst₂ (λ (k : ℕ) (r : Tree). RowsHold c d k m₅ r) all (recost-tree t stands)
           (entered .holds (withdrawTree d (numberIn c m p) t) (stored-holds (gone t stands) fit (off t stands) e₄))
 
-      recost-kept : Kept (changeWrites (sizeIn m)) m m₆ (changed (boardIn m) (calls.recost (x .number) (x .costs))) (changeTree (dimensionIn m) (calls.recost (x .number) (x .costs)) t)
+      recost-kept : (block : ℕ) → Moved (calls.recost (x .number) block (x .costs)) m m₆ t
       unfolding changeTree calls.changedMoves movesAfter
-      recost-kept =
-          made s (calls.recost (x .number) (x .costs)) t
+      recost-kept block =
+          made s (calls.recost (x .number) block (x .costs)) t
           (only-trans (recost-written w) (only-trans (costs-written c costs) (rows-written c (entered .frame))))
           held
           (ap movesOf (sym (recost-tree t stands)) ∙ moves ∙ ap (insert d (asMove x)) (sym rest))
@@ -166,4 +156,4 @@ module _ {c d n p : ℕ} {x : Move} {u : Upkeep} {m m₁ m₂ : List ℕ} (a : T
     recost-count-asked entered = holds-counted (held entered refl (s .sound .tree) (s .sound .stands))
 
     pub recost-made : {m₅ m₆ : List ℕ} → tree.Entered c d (n - 1) (asMove x) m₄ m₅ → m₆ ≡ setCount n m₅ → RecostMade (asMove x) m m₆
-    recost-made entered e₆ = record { kept = recost-kept entered e₆ }
+    recost-made entered e₆ block = record { kept = λ t stands. recost-kept entered e₆ t stands block }

@@ -6,6 +6,7 @@ use mathlib.Core.Path.{_≡_, refl, sym, ap, _∙_, subst}
 use Rattle.model.specs.Basics.{Each, distinct, equal}
 use Rattle.model.specs.Moves as model
 use Rattle.model.specs.Moves.{rowOf, insert, left, entered}
+use Rattle.model.specs.Lists.{skyline}
 use Rattle.model.specs.Notice.{noticeOf}
 use Rattle.model.specs.Tree.{Tree, movesOf}
 use Rattle.model.specs.Entering.{enterTree}
@@ -25,6 +26,7 @@ use Rattle.promises.specs.Laws.Stands.{stands-dimension, stands-moves, stands-f
 use Rattle.dominance.specs.Move.{asMove}
 use Rattle.dominance.specs.declared.Move.{Move}
 use Rattle.memory.specs.Held.{SoundAt}
+use Rattle.memory.specs.Laws.Written.{only-refl}
 use Rattle.board.specs.Change.{Made}
 use Rattle.board.specs.Laws.Judge.{board-moves}
 use Rattle.board.specs.Laws.Recost.{costs-board}
@@ -40,9 +42,9 @@ notice-none ms =
     notice-rows ms ms ∙ ap (λ (ns : List model.Move). map (rowOf left) ns ++ map (rowOf entered) ns) (gone-none ms)
 
 module _ {c d n : ℕ} {m : List ℕ} (s : SoundAt c d n m) (b : Bytes m) (x : Move) (fit : Fit c d (asMove x)) (on : onBoard (x .number) (boardIn m .moves) ≡ true)
-    (r : equal (x .costs) (costsIn c d m (x .number)) ≡ true) where
+    (r : equal (x .costs) (costsIn c d m (x .number)) ≡ true) (block : ℕ) where
   abbrev change : calls.Change
-  change = calls.recost (x .number) (x .costs)
+  change = calls.recost (x .number) block (x .costs)
 
   module _ (t : Tree) (stands : Stands m t) where
     moves : movesOf t ≡ boardIn m .moves
@@ -74,23 +76,20 @@ module _ {c d n : ℕ} {m : List ℕ} (s : SoundAt c d n m) (b : Bytes m) (x : M
         ∙ ap movesOf same-tree
         ∙ moves
 
-  same-board : changed (boardIn m) change ≡ boardIn m
-  unfolding changed calls.changedMoves boardIn
-  same-board =
-      λ i. record { size = boardIn m .size; dimension = boardIn m .dimension; moves = same-moves (s .sound .tree) (s .sound .stands) i }
-
   pub no-notice : changeNotice (boardIn m) change ≡ []
-  unfolding changeNotice
-  no-notice = ap (λ (k : calls.Board). noticeOf (listOf (boardIn m)) (listOf k)) same-board ∙ notice-none (listOf (boardIn m))
+  unfolding changeNotice changed calls.changedMoves listOf boardIn
+  no-notice =
+      ap (λ (ms : List model.Move). noticeOf (listOf (boardIn m)) (skyline (dimensionIn m) ms)) (same-moves (s .sound .tree) (s .sound .stands))
+      ∙ notice-none (listOf (boardIn m))
 
   pub same-made : Made change m m
-  unfolding changeTree
+  unfolding changeTree calls.changedMoves boardIn
   same-made =
       record {
         kept = λ t stands.
             record {
-              holding = record { stands = subst (Stands m) (sym (same-tree t stands)) stands; board = sym same-board };
-              length = refl;
-              others = λ i free. refl;
+              stands = subst (Stands m) (sym (same-tree t stands)) stands;
+              moves = sym (same-moves t stands);
+              only = only-refl m;
             };
       }
