@@ -26,13 +26,14 @@ fn with_block(p: Plan, comes: bool, size: usize, number: u16, block: u16) -> Pla
     let Verdict::Accepted = verdict else {
         return p;
     };
-    let mut plan = p;
-    plan.given = Given {
+    let given = Given {
         gives: comes,
         size,
         number,
         block,
     };
+    let mut plan = p;
+    plan.given = given;
     plan
 }
 

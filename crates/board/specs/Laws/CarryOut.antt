@@ -6,7 +6,6 @@ use mathlib.Core.Path.{_≡_, refl, sym, subst}
 use native.Mathlib.Omega.{arith}
 use Rattle.model.specs.Calls as calls
 use Rattle.model.specs.Laws.Bool.{both-ways}
-use Rattle.promises.specs.Sound.{Sound}
 use Rattle.dominance.specs.Move.{asMove}
 use Rattle.upkeep.specs.Change.{ChangeAsked, Upkept}
 use Rattle.upkeep.specs.declared.change.Change.{Change}
@@ -51,11 +50,9 @@ module _ {t : Telling} {k : Change} {m : List ℕ} (a : Prepared t k m) where
       }
 
 module _ {p : Plan} {m m' : List ℕ} (able : Able p m) (h : p .makes ≡ true) where
-  abbrev sound : Sound m
-  sound = able .prepared h .ready .asked .sound .sound
-
   carried : ((block : ℕ) → Made (callIn p block m) m m') → MovesMade p m m'
   carried made =
+      let sound = able .prepared h .ready .asked .sound .sound in
       record {
         made = λ _. made;
         idle = λ f. both-ways h f;

@@ -4,12 +4,12 @@ use mathlib.Core.Bool.{Bool, true, false, not, _&&_, Bool·beq}
 use mathlib.Core.List.{List}
 use mathlib.Core.Path.{_≡_, refl, sym, ap, ap₂, _∙_}
 use native.Mathlib.Omega.{arith}
-use lib.Dec.{leb, ltb}
-use borrow.Author.Tests.{ltb-true, lt-ltb, le-ltb, le-leb, lt-leb, not-true}
+use lib.Dec.{ltb}
+use borrow.Author.Tests.{ltb-true, lt-ltb, le-ltb, not-true}
 use Rattle.model.specs.Moves.{moveBefore}
-use Rattle.model.specs.Basics.{within}
 use Rattle.model.specs.Calls.{blockBad}
 use Rattle.model.specs.Laws.Bool.{and-left, and-right, and-both, and-false-right}
+use Rattle.model.specs.Laws.Blocks.{block-low, block-high}
 use Rattle.promises.specs.Layout.{numberIn, blockIn, moveIn}
 use Rattle.memory.specs.Room.{Numbers}
 use Rattle.memory.specs.Tests.{allTo, numberRight, numbersRight, orderRight, isMarked, isListed, hiddenBefore, marksRight}
@@ -45,15 +45,6 @@ module _ (c : ℕ) (m : List ℕ) where
       allTo-all (numberRight c m) n
       (λ i l. and-both (ltb (numberIn c m i) c) (not (blockBad (block i))) (lt-ltb (numberIn c m i) c (h i l)) (ap not (k i l)))
 
-  -- One block: a byte is at least 0.
-  fits : (k : ℕ) → k ≤ 63 → blockBad k ≡ false
-  unfolding blockBad within
-  fits k l = ap not (and-both (leb 0 k) (leb k 63) (le-leb 0 k (omega arith)) (le-leb k 63 l))
-
-  pub exceeds : (k : ℕ) → 63 < k → blockBad k ≡ true
-  unfolding blockBad within
-  exceeds k l = ap not (and-false-right (leb 0 k) (leb k 63) (lt-leb k 63 l))
-
   pub numbers-none : numbersRight c 0 m ≡ true
   unfolding numbersRight allTo
   numbers-none = refl
@@ -62,7 +53,7 @@ module _ (c : ℕ) (m : List ℕ) where
   unfolding numbersRight numberRight
   numbers-more i h l k =
       allTo-more (numberRight c m) i h
-      (and-both (ltb (numberIn c m i) c) (not (blockBad (block i))) (lt-ltb (numberIn c m i) c l) (ap not (fits (block i) k)))
+      (and-both (ltb (numberIn c m i) c) (not (blockBad (block i))) (lt-ltb (numberIn c m i) c l) (ap not (block-low (block i) k)))
 
   pub numbers-fail : (n i : ℕ) → i < n → c ≤ numberIn c m i → numbersRight c n m ≡ false
   unfolding numbersRight numberRight
@@ -72,7 +63,7 @@ module _ (c : ℕ) (m : List ℕ) where
   unfolding numbersRight numberRight
   blocks-fail n i k l =
       allTo-fails (numberRight c m) n i k
-      (and-false-right (ltb (numberIn c m i) c) (not (blockBad (block i))) (ap not (exceeds (block i) l)))
+      (and-false-right (ltb (numberIn c m i) c) (not (blockBad (block i))) (ap not (block-high (block i) l)))
 
 module _ (c d : ℕ) (m : List ℕ) where
   -- ---- order

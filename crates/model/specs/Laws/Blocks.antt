@@ -1,22 +1,23 @@
 -- What holds of the blocks of a board: read for the numbers on it, through load and changes, and 0 to 63 as long as nothing was
 -- refused.
-use Prim.Native.Nat.{ℕ, suc, _≤_}
+use Prim.Native.Nat.{ℕ, suc, _≤_, _<_}
 use mathlib.Core.Bool.{Bool, true, false, cond, not, _&&_, _||_}
 use mathlib.Core.List.{List, [], _∷_, map}
 use mathlib.Core.Path.{_≡_, refl, sym, ap, _∙_, subst, fun-ext}
+use native.Mathlib.Omega.{arith}
 use lib.Dec.{leb, eqb}
-use borrow.Author.Tests.{eqb-true, eq-eqb, ne-eqb, not-false}
+use borrow.Author.Tests.{eqb-true, eq-eqb, ne-eqb, lt-leb, not-false}
 use Rattle.zorder.specs.Laws.Refusal.{first-passes, rest-passes}
 use Rattle.model.specs.Basics.{Each, any, within}
 use Rattle.model.specs.Moves.{Move, InputRow, moveOf, moveBefore, insert, inZOrder}
 use Rattle.model.specs.Withdrawing.{without}
 use Rattle.model.specs.Calls.{Answer, accepted, Board, blockBad, rowRefusal, rowsRefusal, giveBlock, blocksOn, rowBlocks, loaded, Change, enter, withdraw, recost, onBoard, changeRefusal, changedMoves, changedBlocks, changed}
 use Rattle.model.specs.Sound.{BlocksFit}
-use Rattle.model.specs.Laws.Bool.{testCases, condCases, and-right, and-both, not-flip, or-false-left, or-false-right, same-test, both-ways}
+use Rattle.model.specs.Laws.Bool.{testCases, condCases, and-right, and-both, and-false-right, not-flip, or-false-left, or-false-right, same-test, both-ways}
 use Rattle.model.specs.Laws.Basics.{each-mem, mem-each, each-mono, each-select, any-map, any-ext, any-select, any-witness}
 use Rattle.model.specs.Laws.Sorting.{each-insert, any-insert, any-sort}
 use Rattle.model.specs.Laws.Order.{eqb-sym}
-use Rattle.model.specs.Laws.Tree.{within-range}
+use Rattle.model.specs.Laws.Tree.{within-range, within-true}
 use Rattle.model.specs.Laws.Changes.{changeNumber, off-without}
 
 -- ---- the numbers on the board
@@ -150,6 +151,14 @@ loaded-blocks d rows f h =
 pub block-most : (block : ℕ) → blockBad block ≡ false → block ≤ 63
 unfolding blockBad
 block-most block h = within-range 0 63 block (not-false _ h) .1
+
+pub block-low : (block : ℕ) → block ≤ 63 → blockBad block ≡ false
+unfolding blockBad
+block-low block l = ap not (within-true 0 63 block (omega arith) l)
+
+pub block-high : (block : ℕ) → 63 < block → blockBad block ≡ true
+unfolding blockBad within
+block-high block l = ap not (and-false-right (leb 0 block) (leb block 63) (lt-leb block 63 l))
 
 -- What holds of 0 to 63 holds of the block of each move.
 pub fit-each : (P : ℕ → Type 0) (b : Board) → BlocksFit b → ((k : ℕ) → k ≤ 63 → P k) → Each (λ m. P (b .blocks (m .number))) (b .moves)

@@ -1,66 +1,39 @@
 -- `make::carry_out` meets its contract. Assumes nothing.
 use mathlib.Core.Path.{refl}
+use native.Mathlib.Omega.{arith}
 use borrow.Author.Needs.{needs}
-use borrow.Author.Tests.{not-true, not-false}
 use Rattle.model.specs.Laws.Bool.{both-ways}
-use Rattle.board.specs.Laws.CarryOut.{enter-prepared, withdraw-prepared, recost-prepared, enter-carried, withdraw-carried, recost-carried}
 use Rattle.board.proofs.make.carry_out.Statement.{statement}
 use Rattle.board.proofs.make.carry_out.Tie as tie
 
-returns : tie.Need-returns
-returns c = record { made = λ f. both-ways f (not-true _ (c .if1 .taken)); idle = λ _. refl }
+set-block-requires : tie.Need-set-block-requires
+set-block-requires c κs =
+    let made = c .before .before .before .before .before in
+    let start = made .before .before .before in
+    let able = start .pre .giveable (c .before .if1 .taken) in
+    ((omega (arith, able .room, made .make-moves .ensures .length), able .room .1), able .number, omega (arith, able .block))
 
-make-withdraw-requires : tie.Need-make-withdraw-requires
-make-withdraw-requires c κs =
-    let makes = c .before .before .before .before .before .before .before in
-    let start = makes .before .before .before in
-    withdraw-prepared (start .pre .prepared (not-false _ (makes .if1 .left))) (not-true _ (c .before .if2 .taken))
+returns : tie.Need-returns
+returns c =
+    let made = c .before .before .before .before .before .before .before .before in
+    record {
+      between = _;
+      moves = made .make-moves .ensures;
+      given = λ _. c .before .before .set-block .ensures;
+      kept = λ f. both-ways (c .before .before .before .before .if1 .taken) f;
+    }
 
 returns-2 : tie.Need-returns-2
 returns-2 c =
-    let comes = c .before .before .before .before in
-    let makes = comes .before .before .before .before .before .before in
-    withdraw-carried (not-false _ (makes .if1 .left)) (not-true _ (comes .if2 .taken)) (c .before .before .make-withdraw .ensures)
-
-make-recost-requires : tie.Need-make-recost-requires
-make-recost-requires c κs =
-    let comes = c .before .before .before .before in
-    let makes = comes .before .before .before .before .before .before in
-    let start = makes .before .before .before in
-    recost-prepared (start .pre .prepared (not-false _ (makes .if1 .left))) (not-false _ (comes .if2 .left)) (c .before .if3 .taken)
-
-returns-3 : tie.Need-returns-3
-returns-3 c =
-    let goes = c .before .before .before .before in
-    let comes = goes .before .before .before in
-    let makes = comes .before .before .before .before .before .before in
-    recost-carried (not-false _ (makes .if1 .left)) (not-false _ (comes .if2 .left)) (goes .if3 .taken) (c .before .before .make-recost .ensures)
-
-make-enter-requires : tie.Need-make-enter-requires
-make-enter-requires c κs =
-    let comes = c .before .before .before .before in
-    let makes = comes .before .before .before .before .before .before in
-    let start = makes .before .before .before in
-    enter-prepared (start .pre .prepared (not-false _ (makes .if1 .left))) (not-false _ (comes .if2 .left)) (c .before .if3 .left)
-
-returns-4 : tie.Need-returns-4
-returns-4 c =
-    let goes = c .before .before .before .before in
-    let comes = goes .before .before .before in
-    let makes = comes .before .before .before .before .before .before in
-    enter-carried (not-false _ (makes .if1 .left)) (not-false _ (comes .if2 .left)) (goes .if3 .left) (c .before .before .make-enter .ensures)
+    let made = c .before .before .before .before in
+    record {
+      between = _;
+      moves = made .make-moves .ensures;
+      given = λ f. both-ways f (c .if1 .left);
+      kept = λ _. refl;
+    }
 
 pub carry-out-spec : {M : Type 1} → statement M
 carry-out-spec =
     tie.close
-    (tie.spec
-    returns
-    make-withdraw-requires
-    (λ c. search needs)
-    returns-2
-    make-recost-requires
-    (λ c. search needs)
-    returns-3
-    make-enter-requires
-    (λ c. search needs)
-    returns-4)
+    (tie.spec (λ c κs. search needs) set-block-requires (λ c. search needs) returns (λ c. search needs) returns-2)

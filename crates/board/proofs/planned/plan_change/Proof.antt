@@ -17,27 +17,29 @@ use Rattle.tree.specs.Withdraw.{PlaceOf}
 use Rattle.upkeep.specs.declared.plan.Plan.{Plan}
 use Rattle.board.specs.Kind.{changeOf, comes}
 use Rattle.board.specs.Change.{Judges}
-use Rattle.board.specs.Plan.{PlanAsked, PlanOf, Planned}
+use Rattle.board.specs.Plan.{PlanAsked, PlanOf, Planned, WithBlock}
 use Rattle.board.specs.Laws.Judge.{judged}
 use Rattle.board.specs.Laws.Calls.{judged-passes}
-use Rattle.board.specs.Laws.Accepted.{kind-ready, kind-call}
+use Rattle.board.specs.Laws.Accepted.{kind-ready}
 use Rattle.board.specs.Laws.Plan.{plan-unsound}
+use Rattle.board.specs.Laws.WithBlock.{plan-given}
 use Rattle.board.specs.declared.judge.Kind.{Kind}
 use Rattle.board.proofs.planned.plan_change.Statement.{statement}
 use Rattle.board.proofs.planned.plan_change.Tie as tie
 
 -- What is planned, once the place and the verdict are known.
 module _ {c d n p : ℕ} {m : List ℕ} (s : SoundAt c d n m) (b : Bytes m) (kind : Kind) (x : Move) (w : Costs rowCosts (x .costs)) (e : PlaceOf c n (x .number) m p)
-    {v : Verdict} (j : Judges (changeOf kind (x .number) (x .costs)) m v) {is : Bool} (f : is ≡ comes kind) where
+    (block : ℕ) {v : Verdict} (j : Judges (changeOf kind (x .number) block (x .costs)) m v) {is : Bool} (f : is ≡ comes kind) where
   asked : PlanAsked c d n v (record { goes = p; comes = is; coming = x }) m
   asked =
       subst (λ (is : Bool). PlanAsked c d n v (record { goes = p; comes = is; coming = x }) m) (sym f)
-      (record { sound = s; ready = λ z. kind-ready s b x w e kind (judged-passes j z) })
+      (record { sound = s; ready = λ z. kind-ready s b x block w e kind (judged-passes j z) })
 
-  planned : {lent : ℕ} {r : Plan} → PlanOf c n v (record { goes = p; comes = is; coming = x }) m lent r → Planned (changeOf kind (x .number) (x .costs)) m lent r
-  planned {lent} {r} plan =
-      subst (λ (is : Bool). PlanOf c n v (record { goes = p; comes = is; coming = x }) m lent r) f plan .plans _ j
-      (λ z. kind-call s b x w e kind (judged-passes j z))
+  planned : {lent : ℕ} {q r : Plan} → PlanOf c n v (record { goes = p; comes = is; coming = x }) m lent q → {does : Bool} → does ≡ comes kind → WithBlock q does c (x .number) block r
+      → Planned (changeOf kind (x .number) block (x .costs)) m lent r
+  planned {lent} {q} {r} plan g besides =
+      plan-given s b x block w e kind (subst (λ (is : Bool). PlanOf c n v (record { goes = p; comes = is; coming = x }) m lent q) f plan) j
+      (subst (λ (does : Bool). WithBlock q does c (x .number) block r) g besides)
 
 -- Once the memory is known to be sound.
 sound-at : (c : tie.After-known-told) → SoundAt (c .before .h .given .0 .0 .size) (c .before .h .given .0 .0 .dimension) (c .before .h .given .0 .0 .count) (c .before .before .before .before .before .args .m .now)
@@ -62,15 +64,16 @@ plan-of-requires c κs =
     let start = known .before .before .before .before .before in
     let s = sound-at known in
     let e = c .before .before .before .place-of .ensures in
-    asked s (bytes known) (start .args .kind) _ (row-costs (start .good .1 .1 .1 .0)) e (judged s e (c .before .judge .ensures)) (c .comes .ensures)
+    asked s (bytes known) (start .args .kind) _ (row-costs (start .good .1 .1 .1 .1 .0)) e (start .args .block) (judged s e (c .before .judge .ensures)) (c .comes .ensures)
 
 returns-2 : tie.Need-returns-2
 returns-2 c =
-    let known = c .before .before .before .before .before in
+    let known = c .before .before .before .before .before .before .before in
     let start = known .before .before .before .before .before in
     let s = sound-at known in
-    let e = c .before .before .before .before .place-of .ensures in
-    planned s (bytes known) (start .args .kind) _ (row-costs (start .good .1 .1 .1 .0)) e (judged s e (c .before .before .judge .ensures)) (c .before .comes .ensures) (c .plan-of .ensures)
+    let e = c .before .before .before .before .before .before .place-of .ensures in
+    planned s (bytes known) (start .args .kind) _ (row-costs (start .good .1 .1 .1 .1 .0)) e (start .args .block) (judged s e (c .before .before .before .before .judge .ensures)) (c .before .before .before .comes .ensures)
+    (c .before .before .plan-of .ensures) (c .before .comes2 .ensures) (c .with-block .ensures)
 
 pub plan-change-spec : {M : Type 1} → statement M
 plan-change-spec =
@@ -85,4 +88,6 @@ plan-change-spec =
     judge-requires
     (λ c κs. search needs)
     plan-of-requires
+    (λ c κs. search needs)
+    (λ c κs. search needs)
     returns-2)
