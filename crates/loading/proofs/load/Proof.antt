@@ -6,7 +6,7 @@ use native.Mathlib.Omega.{arith}
 use borrow.Author.Needs.{needs}
 use borrow.Author.Tests.{ltb-true, ltb-false}
 use Rattle.promises.specs.Answers.{inputRow, numberOf, detailOf}
-use Rattle.promises.specs.declared.Verdict.the-variants.{NumberTooLarge, NumberTwice, BadArgument}
+use Rattle.promises.specs.declared.Verdict.the-variants.{NumberTooLarge, BlockTooLarge, NumberTwice, BadArgument}
 use Rattle.loading.specs.File.{Acceptable}
 use Rattle.loading.proofs.Answering.{InRange, out-of-range, short-memory, row-bad, acceptable, load-accepted}
 use Rattle.loading.proofs.load.Statement.{statement}
@@ -15,8 +15,9 @@ use Rattle.loading.proofs.load.Tie as tie
 in-range : (c : tie.Else4) → InRange (c .before .before .before .before .before .args .c) (c .before .before .before .before .before .args .d)
 in-range c = omega (arith, ltb-false)
 
-accepted : (c : tie.Else8) → Acceptable (c .before .before .before .before .before .before .before .before .before .before .before .before .before .args .c) (c .before .before .before .before .before .before .before .before .before .before .before .before .before .args .d) (map inputRow (c .before .before .before .before .before .before .before .before .before .before .before .before .before .args .rows .now))
-accepted c = acceptable (c .before .before .before .before .before .before .judge .ensures) (c .before .before .before .before .if6 .left) (c .before .before .if7 .left) (c .if8 .left)
+accepted : (c : tie.Else9) → Acceptable (c .before .before .before .before .before .before .before .before .before .before .before .before .before .before .before .args .c) (c .before .before .before .before .before .before .before .before .before .before .before .before .before .before .before .args .d) (map inputRow (c .before .before .before .before .before .before .before .before .before .before .before .before .before .before .before .args .rows .now))
+accepted c =
+    acceptable (c .before .before .before .before .before .before .before .before .judge .ensures) (c .before .before .before .before .before .before .if6 .left) (c .before .before .before .before .if7 .left) (c .before .before .if8 .left) (c .if9 .left)
 
 not-in-range : (c : tie.Joined1) → InRange (c .before .before .args .c) (c .before .before .args .d) → ⊥
 not-in-range c r =
@@ -48,21 +49,26 @@ returns-3 c =
 returns-4 : tie.Need-returns-4
 unfolding numberOf detailOf
 returns-4 c =
-    row-bad _ _ _ _ _ (in-range (c .before .before .before .before .before .before)) (omega arith) (c .before .before .before .before .judge .ensures) (BadArgument (c .before .before .before .before .judge .result .place)) 6 refl refl (c .if7 .taken) refl
+    row-bad _ _ _ _ _ (in-range (c .before .before .before .before .before .before)) (omega arith) (c .before .before .before .before .judge .ensures) (BlockTooLarge (c .before .before .before .before .judge .result .place)) 10 refl refl (c .if7 .taken) refl
 
 returns-5 : tie.Need-returns-5
 unfolding numberOf detailOf
 returns-5 c =
-    row-bad _ _ _ _ _ (in-range (c .before .before .before .before .before .before .before .before)) (omega arith) (c .before .before .before .before .before .before .judge .ensures) (NumberTwice (c .before .before .before .before .before .before .judge .result .place)) 4 refl refl (c .if8 .taken) refl
+    row-bad _ _ _ _ _ (in-range (c .before .before .before .before .before .before .before .before)) (omega arith) (c .before .before .before .before .before .before .judge .ensures) (BadArgument (c .before .before .before .before .before .before .judge .result .place)) 6 refl refl (c .if8 .taken) refl
+
+returns-6 : tie.Need-returns-6
+unfolding numberOf detailOf
+returns-6 c =
+    row-bad _ _ _ _ _ (in-range (c .before .before .before .before .before .before .before .before .before .before)) (omega arith) (c .before .before .before .before .before .before .before .before .judge .ensures) (NumberTwice (c .before .before .before .before .before .before .before .before .judge .result .place)) 4 refl refl (c .if9 .taken) refl
 
 fill-requires : tie.Need-fill-requires
 fill-requires c κs =
-    let range = in-range (c .before .before .before .before .before .before .before .before .before) in
+    let range = in-range (c .before .before .before .before .before .before .before .before .before .before .before) in
     (((omega arith, range .0 .1), range .0 .0, range .1 .0, range .1 .1), accepted (c .before))
 
-returns-6 : tie.Need-returns-6
-returns-6 c =
-    load-accepted _ _ _ _ _ (in-range (c .before .before .before .before .before .before .before .before .before .before .before .before)) (omega arith) (c .before .before .before .before .before .before .before .before .before .before .judge .ensures) (accepted (c .before .before .before .before)) (c .before .before .fill .ensures)
+returns-7 : tie.Need-returns-7
+returns-7 c =
+    load-accepted _ _ _ _ _ (in-range (c .before .before .before .before .before .before .before .before .before .before .before .before .before .before)) (omega arith) (c .before .before .before .before .before .before .before .before .before .before .before .before .judge .ensures) (accepted (c .before .before .before .before)) (c .before .before .fill .ensures)
 
 pub load-spec : {M : Type 1} → statement M
 load-spec =
@@ -76,6 +82,7 @@ load-spec =
     returns-3
     returns-4
     returns-5
+    returns-6
     fill-requires
     (λ c. search needs)
-    returns-6)
+    returns-7)
