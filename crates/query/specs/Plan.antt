@@ -3,7 +3,7 @@ use Prim.Native.Nat.{ℕ}
 use mathlib.Core.Path.{_≡_}
 use mathlib.Core.List.{List}
 use Rattle.model.specs.Tree.{Tree}
-use Rattle.model.specs.Calls.{Query, queryRefusal, queryRows}
+use Rattle.model.specs.Calls.{accepted, Query, queryRefusal, queryRows}
 use Rattle.model.specs.Opening.{queryOpens}
 use Rattle.promises.specs.Layout.{dimensionIn, boardIn}
 use Rattle.upkeep.specs.Planned.{QueryPlanned}
@@ -15,7 +15,7 @@ use Rattle.query.specs.declared.rule.Rule.{Rule}
 pub record PlansKept (rule : Rule) (most : ℕ) (m : List ℕ) (lent : ℕ) (p : Plan) : Type 0 where
   pub plans :
       (q : Query)
-      → queryRefusal (boardIn m) q ≡ 0
+      → queryRefusal (boardIn m) q ≡ accepted
       → queryRows (boardIn m) q ≡ keptRows rule most m
       → ((t : Tree) → queryOpens (dimensionIn m) q t ≡ 0)
       → QueryPlanned q m lent p

@@ -4,7 +4,7 @@ use mathlib.Core.List.{List}
 use mathlib.Core.Path.{_≡_, refl, ap, _∙_, subst}
 use Rattle.model.specs.Lists.{skyline, listedRows}
 use Rattle.model.specs.Nodes.{nodesOpened}
-use Rattle.model.specs.Calls.{list, listOf, queryRefusal, queryRows}
+use Rattle.model.specs.Calls.{accepted, list, listOf, queryRefusal, queryRows}
 use Rattle.model.specs.Opening.{queryOpens}
 use Rattle.promises.specs.Layout.{boardIn, keptFrom}
 use Rattle.memory.specs.Held.{SoundAt}
@@ -23,7 +23,7 @@ module _ {h : Head} {m : List ℕ} (s : SoundAt (h .size) (h .dimension) (h .cou
   list-rows =
       ap listedRows (held-kept (h .size) (h .dimension) (h .count) m s ∙ (λ j. skyline (s .dimension j) (board-line s j)))
 
-  accepts : queryRefusal (boardIn m) list ≡ 0
+  accepts : queryRefusal (boardIn m) list ≡ accepted
   unfolding queryRefusal
   accepts = refl
 

@@ -11,7 +11,7 @@ use Rattle.zorder.specs.Refusal.{refusal}
 use Rattle.model.specs.Basics.{select, any, within}
 use Rattle.model.specs.Moves.{Move}
 use Rattle.model.specs.Lists.{dominators, band, onK, chosen, listedRows}
-use Rattle.model.specs.Calls.{bandQuery, rankQuery, onKQuery, chosenQuery, queryRefusal, queryRows}
+use Rattle.model.specs.Calls.{accepted, refusedWith, bandQuery, rankQuery, onKQuery, chosenQuery, queryRefusal, queryRows}
 use Rattle.model.specs.Laws.Bool.{or-left, or-right, or-false-both}
 use Rattle.model.specs.Laws.Queries.{count-zero}
 use Rattle.model.specs.Laws.Tree.{within-true}
@@ -31,48 +31,52 @@ above : (lo hi n : ℕ) → hi < n → within lo hi n ≡ false
 unfolding within
 above lo hi n h = ap (λ (b : Bool). leb lo n && b) (lt-leb n hi h) ∙ and-false (leb lo n)
 
-checked : (b c : Bool) → b ≡ c → refusal ((b, 7) ∷ []) ≡ cond c 7 0
+bad : (b : Bool) → b ≡ true → refusedWith (refusal ((b, 7) ∷ [])) ≡ refusedWith 7
 unfolding refusal
-checked b c e = ap (λ (x : Bool). cond x 7 0) e
+bad b e = ap (λ (x : Bool). refusedWith (cond x 7 0)) e
+
+right : (b : Bool) → b ≡ false → refusedWith (refusal ((b, 7) ∷ [])) ≡ accepted
+unfolding refusal refusedWith accepted
+right b e = ap (λ (x : Bool). refusedWith (cond x 7 0)) e
 
 module _ (m : List ℕ) where
-  pub band-bad : (n : ℕ) → 4095 < n → queryRefusal (boardIn m) (bandQuery n) ≡ 7
+  pub band-bad : (n : ℕ) → 4095 < n → queryRefusal (boardIn m) (bandQuery n) ≡ refusedWith 7
   unfolding queryRefusal
-  band-bad n h = checked _ true (ap not (above 0 4095 n h))
+  band-bad n h = bad _ (ap not (above 0 4095 n h))
 
-  pub band-right : (n : ℕ) → n ≤ 4095 → queryRefusal (boardIn m) (bandQuery n) ≡ 0
+  pub band-right : (n : ℕ) → n ≤ 4095 → queryRefusal (boardIn m) (bandQuery n) ≡ accepted
   unfolding queryRefusal
-  band-right n h = checked _ false (ap not (within-true 0 4095 n (omega arith) h))
+  band-right n h = right _ (ap not (within-true 0 4095 n (omega arith) h))
 
-  pub rank-bad : (t : ℕ) → (t < 1) ⊎ (4096 < t) → queryRefusal (boardIn m) (rankQuery t) ≡ 7
+  pub rank-bad : (t : ℕ) → (t < 1) ⊎ (4096 < t) → queryRefusal (boardIn m) (rankQuery t) ≡ refusedWith 7
   unfolding queryRefusal
-  rank-bad t h = checked _ true (ap not (⊎-elim (below 1 4096 t) (above 1 4096 t) h))
+  rank-bad t h = bad _ (ap not (⊎-elim (below 1 4096 t) (above 1 4096 t) h))
 
-  pub rank-right : (t : ℕ) → 1 ≤ t → t ≤ 4096 → queryRefusal (boardIn m) (rankQuery t) ≡ 0
+  pub rank-right : (t : ℕ) → 1 ≤ t → t ≤ 4096 → queryRefusal (boardIn m) (rankQuery t) ≡ accepted
   unfolding queryRefusal
-  rank-right t h l = checked _ false (ap not (within-true 1 4096 t h l))
+  rank-right t h l = right _ (ap not (within-true 1 4096 t h l))
 
-  pub on-bad : (k : ℕ) → (k < 1) ⊎ (dimensionIn m < k) → queryRefusal (boardIn m) (onKQuery k) ≡ 7
+  pub on-bad : (k : ℕ) → (k < 1) ⊎ (dimensionIn m < k) → queryRefusal (boardIn m) (onKQuery k) ≡ refusedWith 7
   unfolding queryRefusal boardIn
-  on-bad k h = checked _ true (ap not (⊎-elim (below 1 (dimensionIn m) k) (above 1 (dimensionIn m) k) h))
+  on-bad k h = bad _ (ap not (⊎-elim (below 1 (dimensionIn m) k) (above 1 (dimensionIn m) k) h))
 
-  pub on-right : (k : ℕ) → 1 ≤ k → k ≤ dimensionIn m → queryRefusal (boardIn m) (onKQuery k) ≡ 0
+  pub on-right : (k : ℕ) → 1 ≤ k → k ≤ dimensionIn m → queryRefusal (boardIn m) (onKQuery k) ≡ accepted
   unfolding queryRefusal boardIn
-  on-right k h l = checked _ false (ap not (within-true 1 (dimensionIn m) k h l))
+  on-right k h l = right _ (ap not (within-true 1 (dimensionIn m) k h l))
 
-  pub chosen-bad : (set : ℕ) → (set ≡ 0) ⊎ (2 ^ dimensionIn m ≤ set) → queryRefusal (boardIn m) (chosenQuery set) ≡ 7
+  pub chosen-bad : (set : ℕ) → (set ≡ 0) ⊎ (2 ^ dimensionIn m ≤ set) → queryRefusal (boardIn m) (chosenQuery set) ≡ refusedWith 7
   unfolding queryRefusal boardIn
   chosen-bad set h =
-      checked _ true
+      bad _
       (⊎-elim
       (λ e. or-left (eqb set 0) (leb (2 ^ dimensionIn m) set) (eq-eqb set 0 e))
       (λ l. or-right (eqb set 0) (leb (2 ^ dimensionIn m) set) (le-leb (2 ^ dimensionIn m) set l))
       h)
 
-  pub chosen-right : (set : ℕ) → (set ≡ 0 → ⊥) → set < 2 ^ dimensionIn m → queryRefusal (boardIn m) (chosenQuery set) ≡ 0
+  pub chosen-right : (set : ℕ) → (set ≡ 0 → ⊥) → set < 2 ^ dimensionIn m → queryRefusal (boardIn m) (chosenQuery set) ≡ accepted
   unfolding queryRefusal boardIn
   chosen-right set n l =
-      checked _ false (or-false-both (eqb set 0) (leb (2 ^ dimensionIn m) set) (ne-eqb set 0 n) (lt-leb (2 ^ dimensionIn m) set l))
+      right _ (or-false-both (eqb set 0) (leb (2 ^ dimensionIn m) set) (ne-eqb set 0 n) (lt-leb (2 ^ dimensionIn m) set l))
 
   -- ---- the rows: on k and chosen costs keep what no move beats
 
