@@ -28,12 +28,12 @@ frameNumber rest = getD (numbersOf rest) 0 0
 unfoldable pub frameCosts : ℕ → List ℕ → List ℕ
 frameCosts d rest = padded d (drop 1 (numbersOf rest))
 
--- "20, number, d costs: enter. 30, number: withdraw. 40, number, d costs: re-cost. 50: list."
+-- "20, number, d costs: enter. 30, number: withdraw. 40, number, d costs: re-cost. 50: list." "frames use block 0" (Card 8).
 unfoldable pub callFrame : ℕ → ℕ → List ℕ → Frame
 callFrame d code rest =
-    cond (eqb code 0x20) (sized (2 + 2 * d) rest (change (enter (frameNumber rest) (frameCosts d rest))))
+    cond (eqb code 0x20) (sized (2 + 2 * d) rest (change (enter (frameNumber rest) 0 (frameCosts d rest))))
     (cond (eqb code 0x30) (sized 2 rest (change (withdraw (frameNumber rest))))
-    (cond (eqb code 0x40) (sized (2 + 2 * d) rest (change (recost (frameNumber rest) (frameCosts d rest))))
+    (cond (eqb code 0x40) (sized (2 + 2 * d) rest (change (recost (frameNumber rest) 0 (frameCosts d rest))))
     (sized 0 rest list)))
 
 -- "Before an accepted 10, any frame of whole bytes starting 20, 30, 40 or 50 gets 3."

@@ -5,7 +5,7 @@ use Rattle.framing.proofs.serving.changed.Statement.{statement}
 use Rattle.framing.proofs.serving.changed.Tie as tie
 
 put-plan-requires : tie.Need-put-plan-requires
-put-plan-requires c κs = room-plan (c .before .before .before .before .pre .planned .plans) _ _ (c .before .before .before .before .pre .asked)
+put-plan-requires c κs = room-plan (c .before .before .before .before .pre .planned .moves .plans) _ _ (c .before .before .before .before .pre .asked)
 
 returns : tie.Need-returns
 returns c =
