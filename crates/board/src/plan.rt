@@ -37,7 +37,6 @@ pub fn plan_of(m: &[u8], h: Head, v: Verdict, k: Change, lent: usize) -> Plan
         makes: true,
         goes: k.goes,
         comes: k.comes,
-        given: no_block(),
         telling: Telling {
             head: h,
             place,
@@ -45,5 +44,6 @@ pub fn plan_of(m: &[u8], h: Head, v: Verdict, k: Change, lent: usize) -> Plan
             coming,
             upkeep,
         },
+        given: no_block(),
     }
 }

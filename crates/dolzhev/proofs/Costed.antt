@@ -81,7 +81,7 @@ function name = record {
       seq (assign (place 5 []) (addrOf (place 1 (field 0 ∷ deref (tyInt w8) ∷ []))))
       (seq (assign (place 6 []) (aggregate (copy (place 5 []) ∷ copy (place 1 (field 1 ∷ [])) ∷ [])))
       (seq (assign (place 7 []) (rvOpd (copy (place 3 (field 1 ∷ [])))))
-      (seq (call name (copy (place 6 []) ∷ copy (place 2 (field 0 ∷ [])) ∷ copy (place 2 (field 1 ∷ [])) ∷ copy (place 7 []) ∷ []) (place 4 []))
+      (seq (call name (copy (place 6 []) ∷ copy (place 2 (field 0 ∷ [])) ∷ copy (place 2 (field 1 ∷ [])) ∷ copy (place 2 (field 2 ∷ [])) ∷ copy (place 7 []) ∷ []) (place 4 []))
       (seq (assign (place 8 []) (addrOf (place 1 (field 0 ∷ deref (tyInt w8) ∷ []))))
       (seq (assign (place 9 []) (aggregate (copy (place 8 []) ∷ copy (place 1 (field 1 ∷ [])) ∷ [])))
       (seq (assign (place 10 []) (addrOf (place 3 (field 0 ∷ deref T′.mir ∷ []))))
@@ -93,17 +93,17 @@ function name = record {
 abbrev stayed : Stays (f.ended .signature .params) (f.ended .kept)
 stayed = (gave-slice (0 ∷ []) tt (plain (λ _. u8)), (stay-none (λ _. B.the-row) yes, (gave-slice (1 ∷ []) tt (plain (λ _. T.the-row)), tt)))
 
-module _ {M : Type 1} (𝓤 : URA M) (ask : ℕ → List ℕ → calls.Change) where
+module _ {M : Type 1} (𝓤 : URA M) (ask : ℕ → ℕ → List ℕ → calls.Change) where
   abbrev pub clausesOf : Clauses 𝓤 f.ended
-  clausesOf κs a = record { ghost = Unit {0}; requires = λ _. emp 𝓤; ensures = λ _ r e. fact 𝓤 (ChangeExported (ask (a .1 .0 .number) (a .1 .0 .costs)) (a .0 .now) (rowsOf (a .1 .1 .0 .now)) r (e .0 .now) (rowsOf (e .1 .1 .0 .now))) }
+  clausesOf κs a = record { ghost = Unit {0}; requires = λ _. emp 𝓤; ensures = λ _ r e. fact 𝓤 (ChangeExported (ask (a .1 .0 .number) (a .1 .0 .block) (a .1 .0 .costs)) (a .0 .now) (rowsOf (a .1 .1 .0 .now)) r (e .0 .now) (rowsOf (e .1 .1 .0 .now))) }
 
   abbrev planClauses : Clauses 𝓤 plan.ended
-  planClauses κs a = record { ghost = Unit {0}; requires = λ _. emp 𝓤; ensures = λ _ r e. fact 𝓤 (Planned (ask (a .1 .0) (a .1 .1 .0)) (a .0 .now) (a .1 .1 .1 .0) r) }
+  planClauses κs a = record { ghost = Unit {0}; requires = λ _. emp 𝓤; ensures = λ _ r e. fact 𝓤 (Planned (ask (a .1 .0) (a .1 .1 .0) (a .1 .1 .1 .0)) (a .0 .now) (a .1 .1 .1 .1 .0) r) }
 
-abbrev pub PlanOf : {M : Type 1} (𝓤 : URA M) (H : Heap 𝓤) (A : Atoms 𝓤) → (ℕ → List ℕ → calls.Change) → Contract 𝓤
+abbrev pub PlanOf : {M : Type 1} (𝓤 : URA M) (H : Heap 𝓤) (A : Atoms 𝓤) → (ℕ → ℕ → List ℕ → calls.Change) → Contract 𝓤
 PlanOf 𝓤 H A ask = tripleOf 𝓤 H A plan.signature (closing 𝓤 H A plan.ended (planClauses 𝓤 ask))
 
-module _ {M : Type 1} (𝓤 : URA M) (H : Heap 𝓤) (A : Atoms 𝓤) (W : Given 𝓤 H A) (mem : Memory → SProp 𝓤) (run : Routine → Fun 𝓤) (ask : ℕ → List ℕ → calls.Change) (κ κr : Lft) (q qr : Share) (b o br or : ℕ) (γ γr : GName) (m : List ℕ) (x : Move) (ys : List Row) (x-is : Is B.the-row x (LL.val B.the-type B′.the-laws x ∷ [])) where
+module _ {M : Type 1} (𝓤 : URA M) (H : Heap 𝓤) (A : Atoms 𝓤) (W : Given 𝓤 H A) (mem : Memory → SProp 𝓤) (run : Routine → Fun 𝓤) (ask : ℕ → ℕ → List ℕ → calls.Change) (κ κr : Lft) (q qr : Share) (b o br or : ℕ) (γ γr : GName) (m : List ℕ) (x : Move) (ys : List Row) (x-is : Is B.the-row x (LL.val B.the-type B′.the-laws x ∷ [])) where
   abbrev s : Val
   s = sliceVal (b, o) (length m)
 
@@ -125,7 +125,7 @@ module _ {M : Type 1} (𝓤 : URA M) (H : Heap 𝓤) (A : Atoms 𝓤) (W : Given
   abbrev Post : Val → SProp 𝓤
   Post = walkOf 𝓤 H A f.ended stayed (clausesOf 𝓤 ask) .post (((κ, (κr, tt)), (q, (qr, tt)), tt, a, vals), tt)
 
-  exits : (r : Answer) (w : Val) (ms : List ℕ) (zs : List Row) → ChangeExported (ask (x .number) (x .costs)) m (rowsOf ys) r ms (rowsOf zs) → length ms ≡ length m → length zs ≡ length ys → Is N.the-row r (w ∷ [])
+  exits : (r : Answer) (w : Val) (ms : List ℕ) (zs : List Row) → ChangeExported (ask (x .number) (x .block) (x .costs)) m (rowsOf ys) r ms (rowsOf zs) → length ms ≡ length m → length zs ≡ length ys → Is N.the-row r (w ∷ [])
       → ent 𝓤 (⋆ 𝓤 H A (‵ (flft κ q) ∷ ‵ (flft κr qr) ∷ ‵ (finally u8 γ ms) ∷ ‵ (finally T.the-row γr zs) ∷ [])) (Post w)
   exits r w ms zs e l lr is =
       qed W (‵ (flft κ q) ∷ ‵ (flft κr qr) ∷ ‵ (finally u8 γ ms) ∷ ‵ (finally T.the-row γr zs) ∷ []) ∵
@@ -136,13 +136,13 @@ module _ {M : Type 1} (𝓤 : URA M) (H : Heap 𝓤) (A : Atoms 𝓤) (W : Given
 
   -- what the plan's triple binds outside, and that the caller has what it asks
   abbrev to-plan : ℕ → GName → PlanOf 𝓤 H A ask .Ghost
-  to-plan ν δ = (((ν ∷ [], tt), (fullShare, tt), tt, (at-list u8 b o δ m, (x .number, (x .costs, (length ys, tt)))), (s ∷ [], (vint w16 (x .number) ∷ [], (LL.array-laws u16-field LL.u16-laws rowCosts .val (B.the-type .to x .1 .0) ∷ [], (vint w64 (length ys) ∷ [], tt))))), tt)
+  to-plan ν δ = (((ν ∷ [], tt), (fullShare, tt), tt, (at-list u8 b o δ m, (x .number, (x .block, (x .costs, (length ys, tt))))), (s ∷ [], (vint w16 (x .number) ∷ [], (vint w16 (x .block) ∷ [], (LL.array-laws u16-field LL.u16-laws rowCosts .val (B.the-type .to x .1 .1 .0) ∷ [], (vint w64 (length ys) ∷ [], tt)))))), tt)
 
   goes-plan : (ν : ℕ) (δ : GName) → Room T.the-row (length ys) → ent 𝓤 (sep 𝓤 (A .lft (ν ∷ []) fullShare) (sem 𝓤 H A (ShrSlice (named 0) (ν ∷ []) u8 .own (at-list u8 b o δ m) (s ∷ [])))) (PlanOf 𝓤 H A ask .pre (to-plan ν δ))
   goes-plan ν δ r-room =
       qed W (‵ (flft (ν ∷ []) fullShare) ∷ ‵ (ShrSlice (named 0) (ν ∷ []) u8 .own (at-list u8 b o δ m) (s ∷ [])) ∷ []) ∵ nothing ! $
       nothing ! $ owned ! usize (Is usize) (uint-makes 𝓤 H A W w64) (length ys) _ (refl, r-room .0) $ fjoin ! $
-      owned ! (Array u16 tt rowCosts) (Is (Array u16 tt rowCosts)) (array-makes 𝓤 H A W u16 (uint-makes 𝓤 H A W w16) rowCosts) (x .costs) _ (subst (λ (ns : List ℕ). Is (Array u16 tt rowCosts) ns (LL.array-laws u16-field LL.u16-laws rowCosts .val (B.the-type .to x .1 .0) ∷ [])) (map-id (x .costs)) (LL.owed B.the-type B′.the-laws x _ x-is .1 .0)) $ fjoin ! $ owned ! u16 (Is u16) (uint-makes 𝓤 H A W w16) (x .number) _ (LL.owed B.the-type B′.the-laws x _ x-is .0) $ fjoin ! $ move ! (3 ∷ 0 ∷ []) $ fjoin ! $ nothing ! $ move ! (3 ∷ 0 ∷ []) $ join ! $ join ! $ done !
+      owned ! (Array u16 tt rowCosts) (Is (Array u16 tt rowCosts)) (array-makes 𝓤 H A W u16 (uint-makes 𝓤 H A W w16) rowCosts) (x .costs) _ (subst (λ (ns : List ℕ). Is (Array u16 tt rowCosts) ns (LL.array-laws u16-field LL.u16-laws rowCosts .val (B.the-type .to x .1 .1 .0) ∷ [])) (map-id (x .costs)) (LL.owed B.the-type B′.the-laws x _ x-is .1 .1 .0)) $ fjoin ! $ owned ! u16 (Is u16) (uint-makes 𝓤 H A W w16) (x .block) _ (LL.owed B.the-type B′.the-laws x _ x-is .1 .0) $ fjoin ! $ owned ! u16 (Is u16) (uint-makes 𝓤 H A W w16) (x .number) _ (LL.owed B.the-type B′.the-laws x _ x-is .0) $ fjoin ! $ move ! (3 ∷ 0 ∷ []) $ fjoin ! $ nothing ! $ move ! (3 ∷ 0 ∷ []) $ join ! $ join ! $ done !
 
   module _ (𝓣 : Tables 𝓤 H) (fm : FmC 𝓤 H (W .laws) (𝓣 .C)) (name : Name) (known-plan : Triple 𝓤 (𝓣 .C name) (PlanOf 𝓤 H A ask)) (known-done : Triple 𝓤 (𝓣 .C #dolzhev·change·done) (DoneC 𝓤 H A mem run)) where
     walk : Room u8 (length m) → Room T.the-row (length ys) → ent 𝓤 (onEntry 𝓤 H A f.signature (κ, (κr, tt)) (q, (qr, tt)) a vals) (WpFn 𝓤 H (𝓣 .C) (𝓣 .Λ) (function name) (s ∷ sx ∷ sr ∷ []) Post)
@@ -161,8 +161,8 @@ module _ {M : Type 1} (𝓤 : URA M) (H : Heap 𝓤) (A : Atoms 𝓤) (W : Given
         -- the plan
         use2 W (raw (PlanOf 𝓤 H A ask .pre (to-plan ν δ))) (goes-plan ν δ r-room) $
         -- [what it asks; the lender's part; the rows' token; what they own; _11; …]
-        calls-at ! fm (PlanOf 𝓤 H A ask) known-plan (to-plan ν δ) (and-then ! (load ! (from ! (stop !)) (look ! 14 refl)) (and-then ! (load ! (from ! (fld ! refl (stop !))) (look-in ! 22 (sub ! 0 refl (whole !)))) (and-then ! (load ! (from ! (fld ! refl (stop !))) (look-in ! 22 (sub ! 1 refl (whole !)))) (and-then ! (load ! (from ! (stop !)) (look ! 12 refl)) (no-more !))))) (λ w.
-        returned plan.ended (planClauses 𝓤 ask) ! tt (to-plan ν δ) w (λ p. Planned (ask (x .number) (x .costs)) m (length ys) p) (λ p e. id⊢ 𝓤 _) (λ p e is.
+        calls-at ! fm (PlanOf 𝓤 H A ask) known-plan (to-plan ν δ) (and-then ! (load ! (from ! (stop !)) (look ! 14 refl)) (and-then ! (load ! (from ! (fld ! refl (stop !))) (look-in ! 22 (sub ! 0 refl (whole !)))) (and-then ! (load ! (from ! (fld ! refl (stop !))) (look-in ! 22 (sub ! 1 refl (whole !)))) (and-then ! (load ! (from ! (fld ! refl (stop !))) (look-in ! 22 (sub ! 2 refl (whole !)))) (and-then ! (load ! (from ! (stop !)) (look ! 12 refl)) (no-more !)))))) (λ w.
+        returned plan.ended (planClauses 𝓤 ask) ! tt (to-plan ν δ) w (λ p. Planned (ask (x .number) (x .block) (x .costs)) m (length ys) p) (λ p e. id⊢ 𝓤 _) (λ p e is.
         land ! (from ! (stop !)) (init ! 18 refl (LL.lawful P.the-type P′.the-laws 𝓤 H A W .typed p _ is .0)) $ rewrite ! 18 (λ (u : Val). ‵ (fat fullShare P′.mir l₄ 0 u)) (ap only (LL.tells P.the-type P′.the-laws p _ is)) refl $
         use1 W (‵ (flft (ν ∷ []) fullShare) ⊛ ‵ ftrue) (id⊢ 𝓤 _) $ split ! $ move ! (1 ∷ []) $ drop ! $ shares-back u8 κ q b o γ m (named 0) ! tt ν room $
         -- [what the memory owns; its token; the rows' token; what they own; _11; …]
@@ -179,7 +179,7 @@ module _ {M : Type 1} (𝓤 : URA M) (H : Heap 𝓤) (A : Atoms 𝓤) (W : Given
         move ! (26 ∷ 27 ∷ 24 ∷ 25 ∷ 22 ∷ 23 ∷ 20 ∷ 21 ∷ 18 ∷ 19 ∷ 16 ∷ 17 ∷ 14 ∷ 15 ∷ 12 ∷ 13 ∷ 10 ∷ 11 ∷ 8 ∷ 9 ∷ 6 ∷ 7 ∷ 4 ∷ 5 ∷ []) $ free-all ! (envOf 𝓤 H (function name .locals) (l₀ ∷ l₁ ∷ l₂ ∷ l₃ ∷ l₄ ∷ l₅ ∷ l₆ ∷ l₇ ∷ l₈ ∷ l₉ ∷ l₁₀ ∷ l₁₁ ∷ [])) $
         by ! (exits r w₁ ms zs (planned-exported e e₁) l lr is₁)))))))))))))))))
 
-module _ {M : Type 1} (𝓤 : URA M) (H : Heap 𝓤) (A : Atoms 𝓤) (W : Given 𝓤 H A) (mem : Memory → SProp 𝓤) (run : Routine → Fun 𝓤) (ask : ℕ → List ℕ → calls.Change) (𝓣 : Tables 𝓤 H) (name : Name) (known-plan : Triple 𝓤 (𝓣 .C name) (PlanOf 𝓤 H A ask)) (known-done : Triple 𝓤 (𝓣 .C #dolzhev·change·done) (DoneC 𝓤 H A mem run)) where
+module _ {M : Type 1} (𝓤 : URA M) (H : Heap 𝓤) (A : Atoms 𝓤) (W : Given 𝓤 H A) (mem : Memory → SProp 𝓤) (run : Routine → Fun 𝓤) (ask : ℕ → ℕ → List ℕ → calls.Change) (𝓣 : Tables 𝓤 H) (name : Name) (known-plan : Triple 𝓤 (𝓣 .C name) (PlanOf 𝓤 H A ask)) (known-done : Triple 𝓤 (𝓣 .C #dolzhev·change·done) (DoneC 𝓤 H A mem run)) where
   costed-walks : Walks 𝓤 H A f.ended stayed (WpFn 𝓤 H (𝓣 .C) (𝓣 .Λ) (function name)) (clausesOf 𝓤 ask)
   costed-walks = walked 𝓤 H A f.ended stayed (clausesOf 𝓤 ask) (WpFn 𝓤 H (𝓣 .C) (𝓣 .Λ) (function name))
       (λ κs. (slice-vals, (LL.vals B.the-type B′.the-laws, (slice-vals, tt)))) (λ κs. (mut-slice-tells (named 0) (κs .0) u8, (LL.tells B.the-type B′.the-laws, (mut-slice-tells (named 1) (κs .1 .0) T.the-row, tt))))

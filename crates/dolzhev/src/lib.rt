@@ -2,7 +2,6 @@
 // None has a `requires`: they refuse. Whatever has a reference to rows is proved by a walk of its MIR, by hand.
 mod answer;
 mod change;
-mod hours;
 mod lists;
 mod load;
 mod ranked;
@@ -12,7 +11,6 @@ pub use answer::Move;
 pub use change::dolzhev_enter;
 pub use change::dolzhev_recost;
 pub use change::dolzhev_withdraw;
-pub use hours::dolzhev_hours;
 pub use lists::dolzhev_band;
 pub use lists::dolzhev_chosen;
 pub use lists::dolzhev_list;

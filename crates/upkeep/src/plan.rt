@@ -26,8 +26,8 @@ pub struct Plan {
     pub makes: bool,
     pub goes: usize,
     pub comes: bool,
-    pub given: Given,
     pub telling: Telling,
+    pub given: Given,
 }
 
 pub fn no_block() -> Given
@@ -52,8 +52,8 @@ pub fn nothing(verdict: Verdict) -> Plan
         makes: false,
         goes: 0,
         comes: false,
-        given: no_block(),
         telling: telling_none(),
+        given: no_block(),
     }
 }
 
@@ -74,7 +74,7 @@ pub fn plan_found(h: Head, found: Found, opened: usize, lent: usize) -> Plan
         makes: false,
         goes: 0,
         comes: false,
-        given: no_block(),
         telling,
+        given: no_block(),
     }
 }

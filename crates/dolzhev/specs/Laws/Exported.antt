@@ -33,7 +33,7 @@ rows-filled t m lent lent' count asked told enough e =
 
 module _ {x : calls.Change} {m : List ℕ} {lent : List Row} {p : Plan} (plan : Planned x m (length lent) p) where
   pub planned-asked : DoneAsked p m lent
-  planned-asked = record { asked = plan .plans .asked; enough = plan .plans .answered .enough; able = plan .able }
+  planned-asked = record { asked = plan .moves .plans .asked; enough = plan .moves .plans .answered .enough; able = plan .able }
 
   pub planned-exported : {m' : List ℕ} {lent' : List Row} {r : Answer} → Done p m lent r m' lent' → ChangeExported x m (rowsOf lent) r m' (rowsOf lent')
   planned-exported {lent' = lent'} d =
@@ -42,7 +42,7 @@ module _ {x : calls.Change} {m : List ℕ} {lent : List Row} {p : Plan} (plan : 
         handed = d .handed;
         promise =
             plan-promise plan (d .out) (rowsOf lent) (rowsOf lent') (sym (rows-length lent))
-            (rows-filled (p .telling) m lent lent' (p .count) (plan .plans .asked) (plan .plans .told) (plan .plans .answered .enough) (d .tells));
+            (rows-filled (p .telling) m lent lent' (p .count) (plan .moves .plans .asked) (plan .moves .plans .told) (plan .moves .plans .answered .enough) (d .tells));
       }
 
 pub query-exported : {q : calls.Query} {m : List ℕ} (lent lent' : List Row) {p : Plan} {r : Answer} → QueryPlanned q m (length lent) p
