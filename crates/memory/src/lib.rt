@@ -25,6 +25,7 @@ pub use search::RUN;
 pub use search::RUNS;
 pub use search::corner_with;
 pub use search::corners_of;
+pub use search::in_blocks;
 pub use search::kept;
 pub use search::next_within;
 pub use search::seen;

@@ -28,7 +28,7 @@ pub enum Among {
     InBlocks(u64),
 }
 
-fn in_blocks(m: &[u8], c: usize, number: u16, blocks: u64) -> bool
+pub fn in_blocks(m: &[u8], c: usize, number: u16, blocks: u64) -> bool
     requires { ⌜ Room c (now m) × (number < c) ⌝ }
     ensures { λ r. ⌜ r ≡ spec.inBlocks blocks c (now (m .entry)) number ⌝ }
 {

@@ -1,0 +1,92 @@
+-- `open::find_open` meets its contract. The loop's invariant: of the moves passed those shown are found. Assumes nothing.
+use Prim.Native.Nat.{ℕ, _-_, _≤_}
+use mathlib.Core.Bool.{Bool}
+use mathlib.Core.List.{List}
+use mathlib.Core.Logic.{⊎-elim}
+use mathlib.Core.Path.{sym, subst, _∙_}
+use native.Mathlib.Omega.{arith}
+use borrow.Author.Tests.{eq-eqb, ne-eqb}
+use Rattle.promises.specs.Layout.{numberIn}
+use Rattle.memory.specs.Laws.Held.{held-readable}
+use Rattle.memory.specs.declared.sound.Head.{Head}
+use Rattle.numbers.specs.Set.{With}
+use Rattle.upkeep.specs.Laws.Passing.{passing-few, passing-none, passing-takes, passing-passes}
+use Rattle.upkeep.specs.Laws.Found.{FindsTo, finds-all}
+use Rattle.hours.specs.Open.{shownFor}
+use Rattle.hours.proofs.open.find_open.Statement.{statement}
+use Rattle.hours.proofs.open.find_open.Tie as tie
+
+-- Whether the move at place i is shown.
+abbrev shownAt : Head → ℕ → List ℕ → ℕ → Bool
+shownAt h blocks m i = shownFor (h .size) (h .dimension) (h .count) blocks m (numberIn (h .size) m i)
+
+abbrev Inv-loop : tie.InvT-loop
+Inv-loop m h blocks n corners numbers₀ count₀ last₀ i₀ numbers count last i =
+    (i ≤ n) × FindsTo (h .size) m (shownFor (h .size) (h .dimension) n blocks m) i numbers count
+
+abbrev μ-loop : tie.MeasureT-loop
+μ-loop m h blocks n corners numbers₀ count₀ last₀ i₀ numbers count last i = n - i
+
+loop-holds : tie.Need-loop-holds Inv-loop μ-loop
+loop-holds c =
+    let a = c .before .before .before .args in
+    (omega arith, passing-none (a .h .size) (a .m .now) (shownAt (a .h) (a .blocks) (a .m .now)) (c .empty .result) (c .empty .ensures))
+
+hider-of-requires : tie.Need-hider-of-requires Inv-loop μ-loop
+hider-of-requires c κs = ((c .before .before .before .before .before .before .pre, omega arith), c .before .before .before .before .corners-of .ensures)
+
+number-at-requires : tie.Need-number-at-requires Inv-loop μ-loop
+number-at-requires c κs =
+    let r = held-readable (c .before .before .before .before .before .before .before .before .before .pre) in
+    (r .room, omega (arith, r .rows, c .before .before .before .before .loop-test .taken))
+
+add-requires : tie.Need-add-requires Inv-loop μ-loop
+add-requires c κs =
+    let r = held-readable (c .before .before .before .before .before .before .before .before .before .before .pre) in
+    omega (arith, r .room .1, r .numbers (c .before .before .before .before .before .before .loop .i) (omega arith), c .number-at .ensures)
+
+add-count : tie.Need-add-count Inv-loop μ-loop
+add-count c =
+    let a = c .before .before .before .before .before .before .before .before .before .before .before .args in
+    omega (arith, passing-few (a .h .size) (a .m .now) (shownAt (a .h) (a .blocks) (a .m .now)) (c .before .before .before .before .before .before .before .loop .inv .1))
+
+loop-again : tie.Need-loop-again Inv-loop μ-loop
+loop-again c =
+    let a = c .before .before .before .before .before .before .before .before .before .args in
+    let own = c .before .before .before .before .before .loop in
+    let m = a .m .now in
+    let test = shownAt (a .h) (a .blocks) m in
+    let hider = c .before .before .hider-of in
+    let says = sym (hider .ensures) in (
+      omega arith,
+      ⊎-elim
+          (λ w. passing-takes (a .h .size) m test (own .i) (own .inv .1) (says ∙ eq-eqb (hider .result) (own .i) (w .0 .taken)) (w .2 .result) (w .2 .ensures)
+          (subst (With (own .numbers) (w .2 .result)) (sym (w .4)) (w .3 .ensures)) (w .5))
+          (λ w. passing-passes (a .h .size) m test (own .i) (own .inv .1) (says ∙ ne-eqb (hider .result) (own .i) (w .0 .left)) (w .1) (w .2))
+          (c .before .if1 .came),
+    )
+
+returns : tie.Need-returns Inv-loop μ-loop
+returns c =
+    let a = c .before .before .before .before .before .args in
+    let own = c .before .loop in
+    finds-all (a .h .size) (a .m .now) (shownFor (a .h .size) (a .h .dimension) (a .h .count) (a .blocks) (a .m .now)) (a .h .count) (own .i) _ (omega arith) (own .inv .1)
+
+pub find-open-spec : {M : Type 1} → statement M
+find-open-spec =
+    tie.close
+    (tie.spec
+    Inv-loop
+    μ-loop
+    (λ c κs. held-readable (c .before .pre))
+    (λ c κs. tt)
+    loop-holds
+    hider-of-requires
+    number-at-requires
+    add-requires
+    add-count
+    (λ c κs. tt)
+    (λ c. omega arith)
+    (λ c. omega arith)
+    loop-again
+    returns)

@@ -1,0 +1,156 @@
+-- The list over the moves in open blocks: what the search before each place finds, and that it is the definition's.
+use Prim.Native.Nat.{ℕ, _+_, _-_, _/_, _%_, _^_, _≤_, _<_}
+use mathlib.Core.Bool.{Bool, true, false, not, _&&_}
+use mathlib.Core.List.{List}
+use mathlib.Core.Path.{_≡_, refl, sym, ap, _∙_, subst}
+use native.Mathlib.Decide.{decLt}
+use native.Mathlib.Omega.{arith}
+use borrow.Author.Tests.{lt-ltb, le-ltb, eq-eqb, ne-eqb}
+use lib.Dec.{eqb, ltb}
+use lib.ListN.{take}
+use Rattle.zorder.specs.Address.{rowCosts}
+use Rattle.model.specs.Basics.{Each, select, any}
+use Rattle.model.specs.Moves.{Move}
+use Rattle.model.specs.Dominance.{nowhereGreater, hides}
+use Rattle.model.specs.Lists.{hidden, skyline, listedRows}
+use Rattle.model.specs.Hours.{Hours, blockOpen, openMoves}
+use Rattle.model.specs.Calls.{blockBad, blocksOn, hoursQuery, queryRows}
+use Rattle.model.specs.Laws.Bool.{and-false-right}
+use Rattle.model.specs.Laws.Basics.{select-ext, select-select, any-select}
+use Rattle.model.specs.Laws.Blocks.{block-most}
+use Rattle.model.specs.Laws.Hiding.{earlier-hides}
+use Rattle.line.specs.Line.{movesIn}
+use Rattle.dominance.specs.Lanes.{Lanes, limit, isFirst}
+use Rattle.promises.specs.Layout.{sizeIn, dimensionIn, countIn, numberIn, blockIn, costsIn, moveIn, lineFrom, lineIn, boardIn}
+use Rattle.promises.specs.Run.{Bytes}
+use Rattle.promises.specs.Laws.Tab.{each-tab}
+use Rattle.memory.specs.Held.{SoundAt}
+use Rattle.memory.specs.Search.{inBlocks, looks, looksAt, seen, seenAt, fits, Some}
+use Rattle.memory.specs.Tests.{anyTo}
+use Rattle.memory.specs.Laws.Blocks.{block-at, blocks-right}
+use Rattle.memory.specs.Laws.Costs.{row-length, words-first}
+use Rattle.memory.specs.Laws.Held.{held-dimension, held-ordered}
+use Rattle.memory.specs.Laws.Hiders.{some-any, some-ext, words-within}
+use Rattle.memory.specs.Laws.Lines.{movesIn-line}
+use Rattle.memory.specs.Laws.Places.{any-tab, anyTo-past}
+use Rattle.memory.specs.declared.search.Among.the-variants.{InBlocks}
+use Rattle.upkeep.specs.Planned.{foundMoves}
+use Rattle.upkeep.specs.Laws.Others.{own-place}
+use Rattle.hours.specs.Open.{OpenBlocks, movesInBlocks, shownFor}
+
+-- ---- one move
+
+module _ (c d n : ℕ) (m : List ℕ) (s : SoundAt c d n m) (b : Bytes m) (blocks i : ℕ) (l : i < n) where
+  abbrev openAt : ℕ → Bool
+  openAt j = inBlocks blocks c m (numberIn c m j)
+
+  -- Whether the move at place j is in an open block and hides that at i.
+  abbrev hidesAt : ℕ → Bool
+  hidesAt j = openAt j && hides d (moveIn c d m j) (moveIn c d m i)
+
+  -- An earlier move hides if it is nowhere greater.
+  fits-hides : (q : List ℕ) → Lanes (limit (isFirst d) (costsIn c rowCosts m (numberIn c m i))) q → (j : ℕ) → j < i → fits (InBlocks blocks) c m q j ≡ hidesAt j
+  unfolding fits looksAt looks seenAt seen moveIn
+  fits-hides q limits j k =
+      let few = held-dimension c d n m s in
+      ap (λ (t : Bool). openAt j && t)
+      (words-within c d m few b (numberIn c m j) (costsIn c rowCosts m (numberIn c m i)) q (row-length c rowCosts m (numberIn c m i) (omega arith)) limits
+      ∙ ap (nowhereGreater (take d (moveIn c d m j .costs))) (words-first c m (numberIn c m i) d few)
+      ∙ sym (earlier-hides d (moveIn c d m j) (moveIn c d m i) (held-ordered c d n m s j i k l) (row-length c d m (numberIn c m j) few ∙ sym (row-length c d m (numberIn c m i) few))))
+
+  hidden-places : hidden d (movesInBlocks c d n blocks m) (moveIn c d m i) ≡ anyTo hidesAt n
+  unfolding hidden moveIn
+  hidden-places =
+      any-select (λ p. hides d p (moveIn c d m i)) inOpen (movesIn (lineFrom c d n m))
+      ∙ ap (any (λ p. inOpen p && hides d p (moveIn c d m i))) (movesIn-line c d n m)
+      ∙ any-tab (moveIn c d m) (λ p. inOpen p && hides d p (moveIn c d m i)) n
+    where
+      inOpen : Move → Bool
+      inOpen p = inBlocks blocks c m (p .number)
+
+  -- A later move hides none.
+  earlier-places : anyTo hidesAt n ≡ anyTo hidesAt i
+  earlier-places =
+      let all : n ≡ i + (n - i) = omega arith in
+      ap (anyTo hidesAt) all
+      ∙ anyTo-past hidesAt i (n - i)
+      (λ j a g. and-false-right (openAt j) (hides d (moveIn c d m j) (moveIn c d m i)) (own-place c d n m s b i l .after j a (omega arith)))
+
+  own-found : (r : ℕ) → r ≤ i → eqb r i ≡ not (ltb r i)
+  own-found r most = go (decLt r i)
+    where
+      go : Dec (r < i) → eqb r i ≡ not (ltb r i)
+      go (yes k) = ne-eqb r i (λ e. omega arith) ∙ ap not (sym (lt-ltb r i k))
+      go (no k) = eq-eqb r i (omega arith) ∙ ap not (sym (le-ltb r i (omega arith)))
+
+  pub open-shown : (q : List ℕ) → Lanes (limit (isFirst d) (costsIn c rowCosts m (numberIn c m i))) q → (r : ℕ) → Some (fits (InBlocks blocks) c m q) i r
+      → inBlocks blocks c m (numberIn c m i) ≡ true → eqb r i ≡ shownFor c d n blocks m (numberIn c m i)
+  unfolding shownFor moveIn
+  open-shown q limits r found here =
+      own-found r (found .to)
+      ∙ ap not (sym (hidden-places ∙ earlier-places ∙ some-any hidesAt i r (some-ext (fits-hides q limits) found)))
+      ∙ ap (λ (t : Bool). t && not (hidden d (movesInBlocks c d n blocks m) (moveIn c d m i))) (sym here)
+
+  pub shut-unshown : inBlocks blocks c m (numberIn c m i) ≡ false → eqb n i ≡ shownFor c d n blocks m (numberIn c m i)
+  unfolding shownFor moveIn
+  shut-unshown shut =
+      ne-eqb n i (λ e. omega arith)
+      ∙ ap (λ (t : Bool). t && not (hidden d (movesInBlocks c d n blocks m) (moveIn c d m i))) (sym shut)
+
+-- ---- all moves
+
+module _ (c d n : ℕ) (m : List ℕ) where
+  abbrev ms : List Move
+  ms = movesIn (lineFrom c d n m)
+
+  each-move : (P : Move → Type 0) → ((i : ℕ) → i < n → P (moveIn c d m i)) → Each P ms
+  each-move P h = subst (Each P) (sym (movesIn-line c d n m)) (each-tab (moveIn c d m) P n h)
+
+  -- The moves shown are the list of those in open blocks.
+  shown-skyline : (blocks : ℕ) → foundMoves c d n (shownFor c d n blocks m) m ≡ skyline d (movesInBlocks c d n blocks m)
+  unfolding skyline shownFor moveIn
+  shown-skyline blocks =
+      select-ext (λ x. shownFor c d n blocks m (x .number)) (λ x. inOpen x && unhidden x) ms
+      (each-move (λ x. shownFor c d n blocks m (x .number) ≡ (inOpen x && unhidden x)) (λ i _. refl))
+      ∙ sym (select-select unhidden inOpen ms)
+    where
+      inOpen : Move → Bool
+      inOpen x = inBlocks blocks c m (x .number)
+
+      unhidden : Move → Bool
+      unhidden x = not (hidden d (movesInBlocks c d n blocks m) x)
+
+  module _ (s : SoundAt c d n m) where
+    blocks-fit : Each (λ x. blockBad (blocksOn (movesIn (lineFrom c d n m)) (blockIn c m) (x .number)) ≡ false) (movesIn (lineFrom c d n m))
+    unfolding boardIn lineIn
+    blocks-fit = subst (λ (T : Type 0). T) (λ j. Fit (sym (s .size) j) (sym (s .dimension) j) (sym (s .count) j)) (s .sound .blocks)
+      where
+        Fit : ℕ → ℕ → ℕ → Type 0
+        Fit c d n = Each (λ x. blockBad (blocksOn (movesIn (lineFrom c d n m)) (blockIn c m) (x .number)) ≡ false) (movesIn (lineFrom c d n m))
+
+    -- The block of a move on the board is at most 63, so the search takes it as it is.
+    block-open : {t blocks : ℕ} {hours : List Hours} → OpenBlocks t hours blocks → (i : ℕ) → i < n
+        → inBlocks blocks c m (numberIn c m i) ≡ blockOpen t hours (blocksOn ms (blockIn c m) (numberIn c m i))
+    unfolding inBlocks
+    block-open {t} {blocks} {hours} o i l =
+        let k = blockIn c m (numberIn c m i) in
+        let most = block-most k (blocks-right c d n m blocks-fit i l) in
+        let same : k % 64 ≡ k = omega arith in
+        ap (λ (j : ℕ). eqb (blocks / 2 ^ j % 2) 1) same
+        ∙ o .bits k (omega arith)
+        ∙ ap (blockOpen t hours) (sym (block-at c d n m (blockIn c m) i l))
+
+    open-selected : {t blocks : ℕ} {hours : List Hours} → OpenBlocks t hours blocks → movesInBlocks c d n blocks m ≡ openMoves t hours (boardIn m .blocks) (boardIn m .moves)
+    unfolding openMoves boardIn lineIn moveIn
+    open-selected {t} {blocks} {hours} o =
+        select-ext (λ x. inBlocks blocks c m (x .number)) (λ x. blockOpen t hours (blocksOn ms (blockIn c m) (x .number))) ms
+        (each-move (λ x. inBlocks blocks c m (x .number) ≡ blockOpen t hours (blocksOn ms (blockIn c m) (x .number))) (block-open o))
+        ∙ (λ j. chosen (s .size j) (s .dimension j) (s .count j))
+      where
+        chosen : ℕ → ℕ → ℕ → List Move
+        chosen c d n = select (λ x. blockOpen t hours (blocksOn (movesIn (lineFrom c d n m)) (blockIn c m) (x .number))) (movesIn (lineFrom c d n m))
+
+    pub hours-rows : {t blocks : ℕ} {hours : List Hours} → OpenBlocks t hours blocks
+        → listedRows (foundMoves c d n (shownFor c d n blocks m) m) ≡ queryRows (boardIn m) (hoursQuery t hours)
+    unfolding queryRows boardIn
+    hours-rows {blocks = blocks} o = ap listedRows (shown-skyline blocks ∙ (λ j. skyline (s .dimension j) (open-selected o j)))

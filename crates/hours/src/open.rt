@@ -1,0 +1,70 @@
+// The list over the moves in open blocks: each is held against those in open blocks that stand before it only. An earlier move
+// that is nowhere greater hides: of equal costs the lower number stands first.
+use dominance::limits_of;
+use memory::Among;
+use memory::Head;
+use memory::RUNS;
+use memory::corners_of;
+use memory::costs_of;
+use memory::in_blocks;
+use memory::kept;
+use memory::number_at;
+use memory::some_within;
+use numbers::add;
+use numbers::empty;
+use upkeep::Found;
+use zorder::COSTS;
+ghost use mathlib.Core.Path.{_≡_};
+ghost use Prim.Native.Nat.{_<_};
+ghost use lib.Dec.{eqb};
+ghost use Rattle.promises.specs.Layout.{numberIn};
+ghost use Rattle.memory.specs.Held.{SoundAt};
+ghost use Rattle.memory.specs.Search.{Corners};
+ghost use Rattle.memory.specs.declared.search.Among.the-variants.{InBlocks};
+ghost use Rattle.upkeep.specs.Planned.{Finds};
+ghost use Rattle.hours.specs.Open.{shownFor};
+
+// Of a move in an open block, a place before it with one that hides it, `last` if that does; its own place i if there is none.
+// Of a move in a shut block the number of moves, which is no place.
+fn hider_of(
+    m: &[u8],
+    h: Head,
+    blocks: u64,
+    i: usize,
+    last: usize,
+    corners: &[[u16; COSTS]; RUNS],
+) -> usize
+    requires { ⌜ SoundAt (h .size) (h .dimension) (h .count) (now m) × (i < h .count) ⌝ }
+    requires { ⌜ Corners (InBlocks blocks) (h .size) (now m) (h .count) (now corners) ⌝ }
+    ensures { λ r. ⌜ eqb r i ≡ shownFor (h .size) (h .dimension) (h .count) blocks (now (m .entry)) (numberIn (h .size) (now (m .entry)) i) ⌝ }
+{
+    let number = number_at(m, h.size, i);
+    if !in_blocks(m, h.size, number, blocks) {
+        return h.count;
+    }
+    let q = limits_of(h.dimension, costs_of(m, h.size, COSTS, number));
+    some_within(m, h, last, i, Among::InBlocks(blocks), corners, q)
+}
+
+// The moves in open blocks that none of them hides. What hid one move often hides the next.
+pub(crate) fn find_open(m: &[u8], h: Head, blocks: u64) -> Found
+    requires { ⌜ SoundAt (h .size) (h .dimension) (h .count) (now m) ⌝ }
+    ensures { λ r. ⌜ Finds (h .size) (h .count) (shownFor (h .size) (h .dimension) (h .count) blocks (now (m .entry))) (now (m .entry)) r ⌝ }
+{
+    let n = h.count;
+    let corners = corners_of(m, h, Among::InBlocks(blocks));
+    let mut numbers = empty();
+    let mut count: usize = 0;
+    let mut last = 0;
+    let mut i = 0;
+    while i < n {
+        let hider = hider_of(m, h, blocks, i, last, &corners);
+        if hider == i {
+            add(&mut numbers, number_at(m, h.size, i));
+            count += 1;
+        }
+        last = kept(hider, i, last);
+        i += 1;
+    }
+    Found { numbers, count }
+}

@@ -1,0 +1,78 @@
+// The windows of one block: whether they are refused, whether one is open.
+use crate::HOURS;
+ghost use mathlib.Core.Path.{_≡_};
+ghost use Prim.Native.Nat.{_≤_, _<_};
+ghost use Rattle.model.specs.Basics.{any};
+ghost use Rattle.model.specs.Hours.{windowsOf, windowBad, hoursBad, openIn};
+ghost use Rattle.promises.specs.Layout.{tab};
+ghost use Rattle.promises.specs.Answers.{windowAt, blockHours};
+
+const WINDOWS: u16 = 4;
+
+// The last minute of the week.
+const LAST: u16 = 10079;
+
+// How many slots hold a window.
+fn windows_in(entry: [u16; HOURS]) -> usize
+    ensures { λ r. ⌜ (windowsOf (blockHours entry) ≡ tab (windowAt entry) r) × (r ≤ 4) ⌝ }
+{
+    let n = entry[0];
+    if n < WINDOWS {
+        n as usize
+    } else {
+        WINDOWS as usize
+    }
+}
+
+fn window_bad(entry: [u16; HOURS], i: usize) -> bool
+    requires { ⌜ i < 4 ⌝ }
+    ensures { λ r. ⌜ r ≡ windowBad (windowAt entry i) ⌝ }
+{
+    let start = entry[1 + 2 * i];
+    let end = entry[2 + 2 * i];
+    (LAST < start) | (LAST < end) | (start == end)
+}
+
+// Start included, end not; an end below the start runs over the week's end.
+fn open_in(entry: [u16; HOURS], i: usize, minute: u16) -> bool
+    requires { ⌜ i < 4 ⌝ }
+    ensures { λ r. ⌜ r ≡ openIn minute (windowAt entry i) ⌝ }
+{
+    let start = entry[1 + 2 * i];
+    let end = entry[2 + 2 * i];
+    if end < start {
+        return (start <= minute) | (minute < end);
+    }
+    (start <= minute) & (minute < end)
+}
+
+pub(crate) fn hours_bad(entry: [u16; HOURS]) -> bool
+    ensures { λ r. ⌜ r ≡ hoursBad (blockHours entry) ⌝ }
+{
+    if WINDOWS < entry[0] {
+        return true;
+    }
+    let n = windows_in(entry);
+    let mut i = 0;
+    while i < n {
+        if window_bad(entry, i) {
+            return true;
+        }
+        i += 1;
+    }
+    false
+}
+
+pub(crate) fn open_at(entry: [u16; HOURS], minute: u16) -> bool
+    ensures { λ r. ⌜ r ≡ any (openIn minute) (windowsOf (blockHours entry)) ⌝ }
+{
+    let n = windows_in(entry);
+    let mut i = 0;
+    while i < n {
+        if open_in(entry, i, minute) {
+            return true;
+        }
+        i += 1;
+    }
+    false
+}
