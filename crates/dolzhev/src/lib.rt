@@ -4,6 +4,7 @@ mod answer;
 mod change;
 mod lists;
 mod load;
+mod open;
 mod ranked;
 
 pub use answer::Answer;
@@ -16,4 +17,5 @@ pub use lists::dolzhev_chosen;
 pub use lists::dolzhev_list;
 pub use lists::dolzhev_on_k;
 pub use load::dolzhev_load;
+pub use open::dolzhev_hours;
 pub use ranked::dolzhev_rank;

@@ -35,9 +35,11 @@ loop-again : tie.Need-loop-again Inv-loop μ-loop
 loop-again c =
     let a = c .before .before .before .before .before .before .before .args in
     let own = c .before .before .before .before .before .loop in
-    let number = c .before .before .before .number-at in
-    (omega arith, numbers-more (a .c) (a .m .now) (own .i) (own .inv .1) (omega arith)
-    (subst (λ (k : ℕ). blockIn (a .c) (a .m .now) k ≤ 63) (number .ensures) (omega arith)))
+    let number = c .before .before .before .number-at in (
+      omega arith,
+      numbers-more (a .c) (a .m .now) (own .i) (own .inv .1) (omega arith)
+          (subst (λ (k : ℕ). blockIn (a .c) (a .m .now) k ≤ 63) (number .ensures) (omega arith)),
+    )
 
 returns-3 : tie.Need-returns-3 Inv-loop μ-loop
 returns-3 c =
