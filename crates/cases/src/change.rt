@@ -17,11 +17,12 @@ fn planned(letter: u8, memory: &[u8], values: &[u64]) -> Plan
     if letter == b'W' {
         return board::plan_withdraw(memory, number, value(values, 1) as usize);
     }
-    let lent = value(values, 1 + COSTS) as usize;
+    let block = narrow(value(values, 1));
+    let lent = value(values, 2 + COSTS) as usize;
     if letter == b'C' {
-        return board::plan_recost(memory, number, costs(values, 1), lent);
+        return board::plan_recost(memory, number, block, costs(values, 2), lent);
     }
-    board::plan_enter(memory, number, costs(values, 1), lent)
+    board::plan_enter(memory, number, block, costs(values, 2), lent)
 }
 
 pub fn change(letter: u8, memory: &mut [u8], values: &[u64]) {

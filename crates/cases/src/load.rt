@@ -11,7 +11,7 @@ const ROWS: usize = 400;
 // The longest line is a load of so many rows.
 pub const VALUES: usize = 4 + INPUT * ROWS;
 
-// Row i of a load, below ROWS: its number and costs stand from place 4 + INPUT i on.
+// Row i of a load, below ROWS: its number, block and costs stand from place 4 + INPUT i on.
 fn row(values: &[u64], i: usize) -> [u16; INPUT] {
     let mut r = [0u16; INPUT];
     let mut j = 0;

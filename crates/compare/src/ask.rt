@@ -1,5 +1,8 @@
 // The public calls on the board's memory; their rows held against the wanted ones, and heard by the holder.
 use crate::expect::Call;
+use crate::week::bad_block;
+use crate::week::entries;
+use crate::week::minute_of;
 use crate::plain::Plain;
 use crate::plain::follow;
 use crate::table::RANKED;
@@ -85,8 +88,8 @@ fn plan_change(m: &[u8], k: Call) -> Plan
     let r = k.row;
     match letter {
         b'w' => board::plan_withdraw(m, k.number, k.lent),
-        b'e' => board::plan_enter(m, k.number, costs_of(r), k.lent),
-        _ => board::plan_recost(m, k.number, costs_of(r), k.lent),
+        b'e' => board::plan_enter(m, k.number, k.block, costs_of(r), k.lent),
+        _ => board::plan_recost(m, k.number, k.block, costs_of(r), k.lent),
     }
 }
 
@@ -100,6 +103,13 @@ fn change(m: &mut [u8], k: Call, t: &mut Table, b: Plain) -> Plain {
     said
 }
 
+fn plan_hours(m: &[u8], k: Call) -> Plan
+    ensures { λ r. ⌜ (0 < r .count → TellingAsked (r .telling) (now (m .entry))) ⌝ }
+{
+    let all = entries(bad_block(k.argument));
+    hours::plan_hours(m, minute_of(k.argument), &all, k.lent)
+}
+
 fn plan_query(m: &[u8], k: Call) -> Plan
     ensures { λ r. ⌜ (0 < r .count → TellingAsked (r .telling) (now (m .entry))) ⌝ }
 {
@@ -108,6 +118,7 @@ fn plan_query(m: &[u8], k: Call) -> Plan
         b'Q' => listing::plan_list(m, k.lent),
         b'B' => query::plan_band(m, k.argument, k.lent),
         b'K' => query::plan_on_k(m, k.argument, k.lent),
+        b'Y' => plan_hours(m, k),
         _ => query::plan_chosen(m, k.argument, k.lent),
     }
 }

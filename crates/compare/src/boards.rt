@@ -3,6 +3,7 @@ use crate::ask::load;
 use crate::ask::spoken;
 use crate::dice;
 use crate::expect::answer;
+use crate::week::block_of;
 use crate::plain::Plain;
 use crate::plain::bare;
 use crate::plain::listed;
@@ -11,6 +12,7 @@ use crate::runs::run;
 use crate::table::BOARD;
 use crate::table::Row;
 use crate::table::Table;
+use crate::table::number_of;
 use crate::table::put_in;
 use crate::tally::Tally;
 use crate::tally::add;
@@ -21,13 +23,11 @@ use zorder::COSTS;
 // The bytes that the largest board needs.
 pub const MEMORY: usize = 263168;
 
+// Number, block and costs.
 fn input_of(r: Row) -> [u16; INPUT] {
-    let mut q = [0u16; INPUT];
-    let mut i = 0;
-    while i < INPUT {
-        q[i] = r[1 + i];
-        i += 1;
-    }
+    let mut q = r;
+    q[0] = number_of(r);
+    q[1] = block_of(r);
     q
 }
 

@@ -1,6 +1,7 @@
 // Numbers that look random, the same at each run; costs made of them, and the calls that the runs make: most are accepted,
 // some are to be refused.
 use crate::expect::Call;
+use crate::week::block_of;
 use crate::plain::Plain;
 use crate::plain::find;
 use crate::table::BOARD;
@@ -82,34 +83,41 @@ fn lent(b: Plain, n: usize) -> usize {
 
 // One of the other lists, or at times a load.
 fn other(n: usize) -> u8 {
-    match n % 21 / 5 {
+    match n % 26 / 5 {
         0 => b'B',
         1 => b'R',
         2 => b'K',
         3 => b'S',
+        4 => b'Y',
         _ => b'L',
     }
 }
 
-// A change, at times with costs past d.
+// A change, at times with costs past d or a block past the last.
 fn change(b: Plain, t: &Table, s: usize, growing: bool) -> Call {
     let n = s / 65536;
     let number = number(b, t, n, growing);
     let letter = letter(s, mark_of(find(t, b.n, number)) != NONE, growing);
     let mark = if letter == b'w' { NONE } else { 0 };
     let d = if n % 24 == 0 { COSTS } else { b.d };
+    let r = row(s, mark, number, d, b.style);
+    let past = if n % 32 == 5 { 64 } else { 0 };
     Call {
         letter,
         number,
-        row: row(s, mark, number, d, b.style),
+        block: block_of(r) | past,
+        row: r,
         argument: 0,
         lent: lent(b, n / 32),
     }
 }
 
-// The argument is mostly small, at times at the ends of the range and past them; of chosen costs any set, none or one too many.
+// The argument is mostly small, at times at the ends of the range and past them; of chosen costs any set, none or one too many;
+// of hours a minute and a block.
 fn argument(b: Plain, n: usize, letter: u8) -> usize {
-    if n % 60 < 10 {
+    if letter == b'Y' {
+        n % 4096000
+    } else if n % 60 < 10 {
         4094 + n % 4
     } else if letter == b'S' {
         n / 64 % (1 + (1usize << (b.d % (COSTS + 1))) % 512)
@@ -123,6 +131,7 @@ fn reading(b: Plain, s: usize, letter: u8) -> Call {
     Call {
         letter,
         number: 0,
+        block: 0,
         row: [0u16; ROW],
         argument: argument(b, n, letter),
         lent: lent(b, s / 4096),

@@ -1,4 +1,7 @@
 // What each call is to answer, judged on the plain board and the rows lent.
+use crate::week;
+use crate::week::bad_block;
+use crate::week::minute_of;
 use crate::plain::Plain;
 use crate::plain::exchange;
 use crate::plain::find;
@@ -15,11 +18,12 @@ use crate::table::WANT;
 use crate::table::mark_of;
 use upkeep::ROW;
 
-// A call: e enter, w withdraw, c re-cost, with the row that is to stand; Q list, B band, R rank, K on k, S chosen, and L a load
-// to be refused, with an argument. Then the rows lent.
+// A call: e enter, w withdraw, c re-cost, with the block and the row that is to stand; Q list, B band, R rank, K on k, S chosen,
+// Y hours, and L a load to be refused, with an argument. Then the rows lent.
 pub struct Call {
     pub letter: u8,
     pub number: u16,
+    pub block: u16,
     pub row: Row,
     pub argument: usize,
     pub lent: usize,
@@ -49,6 +53,8 @@ fn judge(b: Plain, k: Call, present: bool) -> usize {
     let enters = k.letter == b'e';
     if b.c <= (k.number as usize) {
         4
+    } else if k.letter != b'w' && 63 < k.block {
+        11
     } else if k.letter != b'w' && costs_past(b.d, r) {
         7
     } else if enters != present {
@@ -91,6 +97,7 @@ fn is_bad(d: usize, letter: u8, x: usize) -> bool {
         b'R' => x < 1 || 4096 < x,
         b'K' => x < 1 || d < x,
         b'S' => x < 1 || (1usize << (d % 64)) <= x,
+        b'Y' => 10079 < minute_of(x),
         _ => false,
     }
 }
@@ -107,6 +114,8 @@ fn refused(b: Plain, k: Call) -> usize {
         3
     } else if is_bad(b.d, k.letter, k.argument) {
         7
+    } else if (k.letter == b'Y') & week::is_bad(k.argument) {
+        12
     } else {
         0
     }
@@ -117,6 +126,7 @@ fn test(d: usize, letter: u8, x: usize) -> Test {
         b'K' => Test::BeatsOn((x % 65536) as u32, d),
         b'S' => Test::Beats(x),
         b'B' => Test::Beats(ALL),
+        b'Y' => Test::HidesAt(minute_of(x)),
         _ => Test::Hides,
     }
 }
@@ -147,7 +157,9 @@ fn list(b: Plain, t: &mut Table, k: Call) -> Plain {
 // The plain board after the call, with its answer.
 pub fn expect(b: Plain, t: &mut Table, k: Call) -> Plain {
     let refusal = refused(b, k);
-    if 0 < refusal {
+    if refusal == 12 {
+        answer(b, 12, bad_block(k.argument), 0)
+    } else if 0 < refusal {
         answer(b, refusal, 0, 0)
     } else if b'Z' < k.letter {
         change(b, t, k)

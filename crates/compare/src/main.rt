@@ -12,6 +12,7 @@ mod rules;
 mod runs;
 mod table;
 mod tally;
+mod week;
 
 // The number of boards that the word asks for.
 fn boards_asked() -> usize {

@@ -1,4 +1,5 @@
 // Definitions 1, 5 and 7 and Card 4's rule on rows, and the rows selected by them.
+use crate::week::is_open;
 use crate::table::NONE;
 use crate::table::Row;
 use crate::table::Table;
@@ -13,11 +14,12 @@ use zorder::COSTS;
 pub const ALL: usize = (1 << COSTS) - 1;
 
 // How one row stands to another: it beats it on a set of costs, bit i for cost i; on some k of the first d costs; it keeps
-// it out of the list; it is beaten; it is the same.
+// it out of the list; it keeps it out of the list over open blocks at a minute; it is beaten; it is the same.
 pub enum Test {
     Beats(usize),
     BeatsOn(u32, usize),
     Hides,
+    HidesAt(usize),
     Beaten,
     Same,
 }
@@ -43,6 +45,11 @@ fn hides(p: Row, q: Row) -> bool {
     beats(ALL, p, q) || (same_costs(p, q) && number_of(p) < number_of(q))
 }
 
+// Card 8's words: a move in a shut block is not shown, and keeps no other out.
+fn hides_at(minute: usize, p: Row, q: Row) -> bool {
+    !is_open(minute, q) || (is_open(minute, p) && hides(p, q))
+}
+
 fn is_on(k: u32, set: usize, p: Row, q: Row) -> bool {
     usize::count_ones(set) == k && beats(set, p, q)
 }
@@ -61,6 +68,7 @@ fn stands(test: Test, p: Row, q: Row) -> bool {
         Test::Beats(set) => beats(set, p, q),
         Test::BeatsOn(k, d) => beats_on(k, d, p, q),
         Test::Hides => hides(p, q),
+        Test::HidesAt(minute) => hides_at(minute, p, q),
         Test::Beaten => beats(ALL, q, p),
         Test::Same => same_row(p, q),
     }

@@ -19,7 +19,7 @@ fn put(n: u64) {
 // The cell of a call by its answer; its rows have the cell of the other case, which may be one without a line.
 fn cell(letter: u8, refusal: usize) -> u8 {
     if 0 < refusal {
-        48 + (refusal % 9) as u8
+        48 + (refusal % 16) as u8
     } else if b'Z' < letter {
         b'c'
     } else {
@@ -81,7 +81,7 @@ pub fn put_all(u: &Tally) {
     );
     put_named(
         u,
-        b"qrows listed\nonodes opened\nBbands\nRranks\nKon k\nSchosen\n",
+        b"qrows listed\nonodes opened\nBbands\nRranks\nKon k\nSchosen\nYhours\n",
     );
     put_named(
         u,
@@ -89,6 +89,6 @@ pub fn put_all(u: &Tally) {
     );
     put_named(
         u,
-        b"5refused 5\n6refused 6\n7refused 7\n8refused 8\n!disagreements\n",
+        b"5refused 5\n6refused 6\n7refused 7\n8refused 8\n;refused 11\n<refused 12\n!disagreements\n",
     );
 }

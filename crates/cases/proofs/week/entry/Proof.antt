@@ -1,17 +1,17 @@
--- `boards::input_of` meets its contract: one entry after another. Assumes nothing.
+-- `week::entry` meets its contract: one number after another. Assumes nothing.
 use Prim.Native.Nat.{_-_}
 use borrow.Author.Needs.{needs}
-use Rattle.compare.proofs.boards.input_of.Statement.{statement}
-use Rattle.compare.proofs.boards.input_of.Tie as tie
+use Rattle.cases.proofs.week.entry.Statement.{statement}
+use Rattle.cases.proofs.week.entry.Tie as tie
 
 abbrev Inv-loop : tie.InvT-loop
-Inv-loop r q₀ i₀ q i = Unit {0}
+Inv-loop values i e₀ j₀ e j = Unit {0}
 
 abbrev μ-loop : tie.MeasureT-loop
-μ-loop r q₀ i₀ q i = 4096 - i
+μ-loop values i e₀ j₀ e j = 4096 - j
 
-pub input-of-spec : {M : Type 1} → statement M
-input-of-spec =
+pub entry-spec : {M : Type 1} → statement M
+entry-spec =
     tie.close
     (tie.spec
     Inv-loop
@@ -20,6 +20,8 @@ input-of-spec =
     (λ c. search needs)
     (λ c. search needs)
     (λ c. search needs)
+    (λ c κs. search needs)
+    (λ c κs. search needs)
     (λ c. search needs)
     (λ c. search needs)
     (λ c. search needs)
