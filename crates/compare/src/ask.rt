@@ -1,8 +1,5 @@
 // The public calls on the board's memory; their rows held against the wanted ones, and heard by the holder.
 use crate::expect::Call;
-use crate::week::bad_block;
-use crate::week::entries;
-use crate::week::minute_of;
 use crate::plain::Plain;
 use crate::plain::follow;
 use crate::table::RANKED;
@@ -12,6 +9,9 @@ use crate::table::WANT;
 use crate::table::row_at;
 use crate::table::same_row;
 use crate::table::same_rows;
+use crate::week::bad_block;
+use crate::week::entries;
+use crate::week::minute_of;
 use loading::INPUT;
 use promises::Verdict;
 use promises::detail_of;

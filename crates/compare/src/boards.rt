@@ -3,7 +3,6 @@ use crate::ask::load;
 use crate::ask::spoken;
 use crate::dice;
 use crate::expect::answer;
-use crate::week::block_of;
 use crate::plain::Plain;
 use crate::plain::bare;
 use crate::plain::listed;
@@ -17,6 +16,7 @@ use crate::table::put_in;
 use crate::tally::Tally;
 use crate::tally::add;
 use crate::tally::count;
+use crate::week::block_of;
 use loading::INPUT;
 use zorder::COSTS;
 

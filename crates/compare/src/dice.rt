@@ -1,7 +1,6 @@
 // Numbers that look random, the same at each run; costs made of them, and the calls that the runs make: most are accepted,
 // some are to be refused.
 use crate::expect::Call;
-use crate::week::block_of;
 use crate::plain::Plain;
 use crate::plain::find;
 use crate::table::BOARD;
@@ -11,6 +10,7 @@ use crate::table::Table;
 use crate::table::mark_of;
 use crate::table::number_of;
 use crate::table::row_at;
+use crate::week::block_of;
 use upkeep::ROW;
 use zorder::COSTS;
 

@@ -1,7 +1,4 @@
 // What each call is to answer, judged on the plain board and the rows lent.
-use crate::week;
-use crate::week::bad_block;
-use crate::week::minute_of;
 use crate::plain::Plain;
 use crate::plain::exchange;
 use crate::plain::find;
@@ -16,6 +13,9 @@ use crate::table::Row;
 use crate::table::Table;
 use crate::table::WANT;
 use crate::table::mark_of;
+use crate::week;
+use crate::week::bad_block;
+use crate::week::minute_of;
 use upkeep::ROW;
 
 // A call: e enter, w withdraw, c re-cost, with the block and the row that is to stand; Q list, B band, R rank, K on k, S chosen,

@@ -1,5 +1,4 @@
 // Definitions 1, 5 and 7 and Card 4's rule on rows, and the rows selected by them.
-use crate::week::is_open;
 use crate::table::NONE;
 use crate::table::Row;
 use crate::table::Table;
@@ -8,6 +7,7 @@ use crate::table::number_of;
 use crate::table::put_row;
 use crate::table::row_at;
 use crate::table::same_row;
+use crate::week::is_open;
 use zorder::COSTS;
 
 // The set of all costs.
