@@ -6,11 +6,12 @@ use super::upkeep::{upkeep_of, Change};
 use super::withdraw::withdraw_row;
 use super::{refused, told};
 use crate::address::costs_past;
-use crate::{Answer, Costs, Move, Row};
+use crate::{Answer, Given, Move, Row, BLOCKS};
 
 /// The notice told, the marks set, and then the rows changed.
-fn make(m: &mut [u8], head: Head, goes: Option<usize>, comes: Option<Move>, rows: &mut [Row]) -> Answer {
-    let change = Change { goes, comes: comes.map(|x| (place_for(m, head, &x), x)) };
+fn make(m: &mut [u8], head: Head, goes: Option<usize>, comes: Option<Given>, rows: &mut [Row]) -> Answer {
+    let coming = comes.map(Move::from);
+    let change = Change { goes, comes: coming.map(|x| (place_for(m, head, &x), x)) };
     let upkeep = upkeep_of(m, head, &change);
     if rows.len() < upkeep.need {
         return refused(8, upkeep.need);
@@ -22,27 +23,38 @@ fn make(m: &mut [u8], head: Head, goes: Option<usize>, comes: Option<Move>, rows
         withdraw_row(m, left, place);
         left = left.with_moves(left.n - 1);
     }
-    if let Some(x) = comes {
-        head.set_listed(m, x.number, upkeep.listed);
-        head.set_costs(m, x.number, x.costs);
-        enter_row(m, left, &x);
+    if let Some(given) = comes {
+        head.set_listed(m, given.number, upkeep.listed);
+        head.set_costs(m, given.number, given.costs);
+        head.set_block(m, given.number, given.block);
+        enter_row(m, left, &given.into());
         left = left.with_moves(left.n + 1);
     }
     left.write(m);
     told(upkeep.need)
 }
 
-pub fn enter(m: &mut [u8], head: Head, number: u16, costs: Costs, rows: &mut [Row]) -> Answer {
-    if number >= head.c {
-        return refused(4, 0);
+/// What turns a given move down before its number is looked for.
+fn bad(head: Head, given: &Given) -> Option<Answer> {
+    if given.number >= head.c {
+        Some(refused(4, 0))
+    } else if usize::from(given.block) >= BLOCKS {
+        Some(refused(11, 0))
+    } else if costs_past(head.d, &given.costs) {
+        Some(refused(7, 0))
+    } else {
+        None
     }
-    if costs_past(head.d, &costs) {
-        return refused(7, 0);
+}
+
+pub fn enter(m: &mut [u8], head: Head, given: Given, rows: &mut [Row]) -> Answer {
+    if let Some(refusal) = bad(head, &given) {
+        return refusal;
     }
-    if head.place_of(m, number).is_some() {
+    if head.place_of(m, given.number).is_some() {
         return refused(5, 0);
     }
-    make(m, head, None, Some(Move { number, costs }), rows)
+    make(m, head, None, Some(given), rows)
 }
 
 pub fn withdraw(m: &mut [u8], head: Head, number: u16, rows: &mut [Row]) -> Answer {
@@ -55,16 +67,17 @@ pub fn withdraw(m: &mut [u8], head: Head, number: u16, rows: &mut [Row]) -> Answ
     }
 }
 
-pub fn recost(m: &mut [u8], head: Head, number: u16, costs: Costs, rows: &mut [Row]) -> Answer {
-    if number >= head.c {
-        return refused(4, 0);
+/// With equal costs the block alone changes.
+pub fn recost(m: &mut [u8], head: Head, given: Given, rows: &mut [Row]) -> Answer {
+    if let Some(refusal) = bad(head, &given) {
+        return refusal;
     }
-    if costs_past(head.d, &costs) {
-        return refused(7, 0);
-    }
-    match head.place_of(m, number) {
+    match head.place_of(m, given.number) {
         None => refused(6, 0),
-        _ if head.costs(m, number) == costs => told(0),
-        goes => make(m, head, goes, Some(Move { number, costs }), rows),
+        _ if head.costs(m, given.number) == given.costs => {
+            head.set_block(m, given.number, given.block);
+            told(0)
+        }
+        goes => make(m, head, goes, Some(given), rows),
     }
 }

@@ -4,6 +4,7 @@ mod beats;
 mod bytes;
 mod change;
 mod enter;
+mod hours;
 mod lists;
 mod load;
 mod marks;
@@ -16,7 +17,7 @@ mod tell;
 mod upkeep;
 mod withdraw;
 
-use crate::{Answer, Call, Row};
+use crate::{Answer, Call, Given, Row};
 
 fn refused(refusal: usize, detail: usize) -> Answer {
     Answer { refusal, detail, ..Answer::default() }
@@ -35,13 +36,14 @@ pub fn ask(memory: &mut [u8], call: &Call, rows: &mut [Row]) -> Answer {
     };
     match *call {
         Call::Load { .. } => unreachable!("answered above"),
-        Call::Enter { number, costs } => change::enter(memory, head, number, costs, rows),
+        Call::Enter { number, block, costs } => change::enter(memory, head, Given { number, block, costs }, rows),
         Call::Withdraw { number } => change::withdraw(memory, head, number, rows),
-        Call::Recost { number, costs } => change::recost(memory, head, number, costs, rows),
+        Call::Recost { number, block, costs } => change::recost(memory, head, Given { number, block, costs }, rows),
         Call::List => lists::list(memory, head, rows),
         Call::Band(b) => lists::band(memory, head, b, rows),
         Call::Rank(t) => lists::rank(memory, head, t, rows),
         Call::OnK(k) => lists::on_k(memory, head, k, rows),
         Call::Chosen(set) => lists::chosen(memory, head, set, rows),
+        Call::Hours { minute, ref hours } => hours::hours(memory, head, minute, hours, rows),
     }
 }
