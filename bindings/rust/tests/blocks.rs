@@ -1,10 +1,10 @@
 //! The blocks that moves lie in (document 02, Card 8): given by load, enter and re-cost, and looked at by the hours call alone.
 use dolzhev::padded;
 use reference::against::Against;
+use reference::layout::blocks;
 use reference::library;
 use reference::random::{moves, Random, Shape};
 use reference::tries::used_board;
-use reference::written::blocks;
 use reference::{BlockHours, Call, Costs, Given, Row, Window, BLOCKS, COSTS};
 
 const C: usize = 16;
@@ -30,15 +30,14 @@ fn bounds() {
     for block in [0, 63, 64, 255, 256, u16::MAX] {
         let expected = |in_yard: usize| if block > 63 && in_yard != 4 { 11 } else { in_yard };
         for (number, costs, in_yard) in [(4, good, 0), (16, past, 4), (4, past, 7), (3, past, 7), (3, good, 5)] {
-            let refused = expected(in_yard);
-            let load = Call::Load { c: C, d: 2, rows: vec![three, Given { number, block, costs }] };
-            assert_eq!(refusal(&board, load), (refused, refused.min(1)), "load {number}, block {block}");
-            let enter = Call::Enter { number, block, costs };
-            assert_eq!(refusal(&board, enter), (refused, 0), "enter {number}, block {block}");
+            let (refused, given) = (expected(in_yard), Given { number, block, costs });
+            let load = Call::Load { c: C, d: 2, rows: vec![three, given] };
+            assert_eq!(refusal(&board, load), (refused, refused.min(1)), "load {given:?}");
+            assert_eq!(refusal(&board, Call::Enter(given)), (refused, 0), "enter {given:?}");
         }
         for (number, costs, in_yard) in [(3, good, 0), (16, past, 4), (3, past, 7), (4, past, 7), (4, good, 6)] {
-            let recost = Call::Recost { number, block, costs };
-            assert_eq!(refusal(&board, recost), (expected(in_yard), 0), "re-cost {number}, block {block}");
+            let given = Given { number, block, costs };
+            assert_eq!(refusal(&board, Call::Recost(given)), (expected(in_yard), 0), "re-cost {given:?}");
         }
     }
 }
@@ -58,7 +57,7 @@ fn block_alone() {
             let at = blocks(C) + usize::from(number);
             for other in [block, 0, 63, block ^ 1] {
                 let before = against.memory().to_vec();
-                let answer = against.check(&Call::Recost { number, block: other, costs }, 0).answer;
+                let answer = against.check(&Call::Recost(Given { number, block: other, costs }), 0).answer;
                 assert_eq!((answer.refusal, answer.count), (0, 0), "number {number}, block {other}");
                 let altered = if before[at] == other as u8 { vec![] } else { vec![at] };
                 assert_eq!(differing(&before, against.memory()), altered, "number {number}, block {other}");
@@ -87,7 +86,8 @@ fn other_blocks_stay() {
         for block in [random.block(), 0, 63] {
             let costs = padded([0; 2].map(|_: u16| random.below(6) as u16));
             let held = board.model().board.as_ref().unwrap().find(number).is_some();
-            let call = if held { Call::Recost { number, block, costs } } else { Call::Enter { number, block, costs } };
+            let given = Given { number, block, costs };
+            let call = if held { Call::Recost(given) } else { Call::Enter(given) };
             let [mut before, after] = blocks_around(&mut board, &call);
             before[usize::from(number)] = block as u8;
             assert_eq!(before, after, "{call:?}");
@@ -108,13 +108,13 @@ fn block_given() {
     let costs = padded([4, 4]);
     let mut board = board(2, vec![Given { number: 7, block: 63, costs }]);
     assert_eq!(open(&mut board, 63), [7]);
-    board.check(&Call::Enter { number: 8, block: 1, costs }, C);
+    board.check(&Call::Enter(Given { number: 8, block: 1, costs }), C);
     assert_eq!(open(&mut board, 1), [8]);
     for (block, costs) in [(2, costs), (3, padded([5, 5])), (4, padded([1, 1]))] {
-        board.check(&Call::Recost { number: 8, block, costs }, C + 1);
+        board.check(&Call::Recost(Given { number: 8, block, costs }), C + 1);
         assert_eq!([open(&mut board, block - 1), open(&mut board, block)], [vec![], vec![8]], "block {block}");
     }
-    board.check(&Call::Recost { number: 8, block: 5, costs: padded([9, 9]) }, 0);
+    board.check(&Call::Recost(Given { number: 8, block: 5, costs: padded([9, 9]) }), 0);
     assert_eq!([open(&mut board, 4), open(&mut board, 5)], [vec![8], vec![]], "8 changes nothing");
     board.check(&Call::Withdraw { number: 8 }, C);
     assert_eq!(open(&mut board, 4), []);
@@ -125,10 +125,10 @@ fn calls(random: &mut Random, d: usize) -> Vec<Call> {
     let mut number = || random.below(C) as u16;
     let (gone, other) = (number(), number());
     let costs: Costs = std::array::from_fn(|i| if i < d { random.below(6) as u16 } else { 0 });
-    let mut calls = vec![Call::Withdraw { number: gone }, Call::Recost { number: other, block: 9, costs }, Call::List];
-    calls.extend([Call::Band(1), Call::Rank(4), Call::OnK(d - 1), Call::Chosen(3)]);
-    calls.push(Call::Enter { number: gone, block: 9, costs });
-    calls
+    let [back, changed] = [gone, other].map(|number| Given { number, block: 9, costs });
+    let lists = [Call::List, Call::Band(1), Call::Rank(4), Call::OnK(d - 1), Call::Chosen(3)];
+    let changes = [Call::Withdraw { number: gone }, Call::Recost(changed), Call::Enter(back)];
+    changes.into_iter().chain(lists).collect()
 }
 
 /// The same moves in one block and in many: lists and notices are the same.

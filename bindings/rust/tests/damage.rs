@@ -2,12 +2,11 @@
 //! answers as on the board that stands there where they are sound after all, and writes nothing that it may not.
 use reference::against::{Against, Ask};
 use reference::draw::Draw;
-use reference::layout;
+use reference::layout::{self, blocks};
 use reference::library;
 use reference::plain;
 use reference::random::{Random, Shape};
 use reference::tries::{flipped, try_all, used_board, Seen};
-use reference::written::blocks;
 use reference::{Call, COSTS};
 
 /// The bytes of a board of size c that may decide: head, numbers, heights, marks, blocks, costs.

@@ -54,7 +54,8 @@ fn one_cost_keeps() {
             assert_eq!(told(&mut board, Call::List), [(0, 9)], "d {d}, cost {place}");
             let mut costs = level(d);
             costs[place] = 4;
-            assert_eq!(told(&mut board, Call::Recost { number: 4, block: 0, costs }), [(2, 4)], "d {d}, cost {place}");
+            let recost = Call::Recost(Given { number: 4, block: 0, costs });
+            assert_eq!(told(&mut board, recost), [(2, 4)], "d {d}, cost {place}");
         }
     }
 }

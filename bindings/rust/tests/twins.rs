@@ -49,12 +49,11 @@ fn one_after_another() {
 #[test]
 fn twins_that_come() {
     let mut board = loaded();
-    let (block, costs) = (0, twin(0).costs);
-    assert_eq!(change(&mut board, Call::Enter { number: 4, block, costs }), []);
-    assert_eq!(change(&mut board, Call::Enter { number: 2, block, costs }), [(1, 3), (2, 2)]);
-    assert_eq!(change(&mut board, Call::Recost { number: 1, block, costs }), [(1, 2), (2, 1)]);
-    assert_eq!(change(&mut board, Call::Recost { number: 0, block, costs }), [(1, 1), (1, 0), (2, 0)]);
-    assert_eq!(change(&mut board, Call::Recost { number: 0, block, costs: padded([2, 3]) }), [(1, 0), (2, 1)]);
+    assert_eq!(change(&mut board, Call::Enter(twin(4))), []);
+    assert_eq!(change(&mut board, Call::Enter(twin(2))), [(1, 3), (2, 2)]);
+    assert_eq!(change(&mut board, Call::Recost(twin(1))), [(1, 2), (2, 1)]);
+    assert_eq!(change(&mut board, Call::Recost(twin(0))), [(1, 1), (1, 0), (2, 0)]);
+    assert_eq!(change(&mut board, Call::Recost(given(0, [2, 3]))), [(1, 0), (2, 1)]);
 }
 
 /// Band, on k and chosen costs show every twin; rank takes the listed one and counts no twin as dominated.

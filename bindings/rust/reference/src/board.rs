@@ -15,21 +15,14 @@ pub struct PlainBoard {
     pub list: Vec<Move>,
 }
 
-/// Whether a block is none of the yard's.
-fn block_past(block: u16) -> bool {
-    usize::from(block) >= BLOCKS
-}
-
-/// What turns one row of a load down.
-fn row_refusal(c: usize, d: usize, seen: &[bool], x: &Given) -> usize {
-    if usize::from(x.number) >= c {
+/// What turns a given move down, whatever other moves there are; 0 where nothing does.
+pub fn given_refusal(c: usize, d: usize, given: &Given) -> usize {
+    if usize::from(given.number) >= c {
         4
-    } else if block_past(x.block) {
+    } else if usize::from(given.block) >= BLOCKS {
         11
-    } else if costs_past(d, &x.costs) {
+    } else if costs_past(d, &given.costs) {
         7
-    } else if seen[usize::from(x.number)] {
-        5
     } else {
         0
     }
@@ -64,12 +57,14 @@ pub fn foresee_load(bytes: usize, c: usize, d: usize, rows: &[Given]) -> Foresee
         return Foreseen::refused(1, 0);
     }
     let mut seen = vec![false; c];
-    for (place, x) in rows.iter().enumerate() {
-        let refusal = row_refusal(c, d, &seen, x);
+    for (place, given) in rows.iter().enumerate() {
+        let refusal = given_refusal(c, d, given);
         if refusal != 0 {
             return Foreseen::refused(refusal, place);
         }
-        seen[usize::from(x.number)] = true;
+        if std::mem::replace(&mut seen[usize::from(given.number)], true) {
+            return Foreseen::refused(5, place);
+        }
     }
     Foreseen::accepted(Vec::new(), Some(PlainBoard::new(c, d, rows)))
 }
@@ -102,19 +97,11 @@ impl PlainBoard {
         self.find(number).map(|x| x.costs)
     }
 
-    fn change_refusal(&self, number: u16, block: u16, costs: Costs, wants_it: bool) -> usize {
-        if usize::from(number) >= self.c {
-            4
-        } else if block_past(block) {
-            11
-        } else if costs_past(self.d, &costs) {
-            7
-        } else {
-            match (self.find(number).is_some(), wants_it) {
-                (true, false) => 5,
-                (false, true) => 6,
-                _ => 0,
-            }
+    fn change_refusal(&self, given: Given, wants_it: bool) -> usize {
+        match (given_refusal(self.c, self.d, &given), self.find(given.number).is_some(), wants_it) {
+            (0, true, false) => 5,
+            (0, false, true) => 6,
+            (refusal, _, _) => refusal,
         }
     }
 
@@ -123,9 +110,9 @@ impl PlainBoard {
         let outside = |fits: bool| if fits { 0 } else { 7 };
         let refusal = match *call {
             Call::Load { .. } | Call::List => 0,
-            Call::Enter { number, block, costs } => self.change_refusal(number, block, costs, false),
-            Call::Withdraw { number } => self.change_refusal(number, 0, [0; COSTS], true),
-            Call::Recost { number, block, costs } => self.change_refusal(number, block, costs, true),
+            Call::Enter(given) => self.change_refusal(given, false),
+            Call::Withdraw { number } => self.change_refusal(Given { number, ..Given::default() }, true),
+            Call::Recost(given) => self.change_refusal(given, true),
             Call::Band(b) => outside(b <= 4095),
             Call::Rank(t) => outside((1..=4096).contains(&t)),
             Call::OnK(k) => outside((1..=self.d).contains(&k)),
@@ -169,9 +156,7 @@ impl PlainBoard {
         let told = |rows| Foreseen::accepted(rows, None);
         match *call {
             Call::Load { .. } => unreachable!("a load does not depend on the board"),
-            Call::Enter { number, block, costs } | Call::Recost { number, block, costs } => {
-                self.foresee_change(number, Some(Given { number, block, costs }))
-            }
+            Call::Enter(given) | Call::Recost(given) => self.foresee_change(given.number, Some(given)),
             Call::Withdraw { number } => self.foresee_change(number, None),
             Call::List => told(listed(skyline(self.d, &self.moves))),
             Call::Band(b) => told(listed(band(self.d, &self.moves, b))),

@@ -1,12 +1,12 @@
 //! A call as a value: drawn, made, foreseen and compared.
-use crate::{BlockHours, Costs, Given};
+use crate::{BlockHours, Given};
 
 #[derive(Clone, Debug, PartialEq, Eq)]
 pub enum Call {
     Load { c: usize, d: usize, rows: Vec<Given> },
-    Enter { number: u16, block: u16, costs: Costs },
+    Enter(Given),
     Withdraw { number: u16 },
-    Recost { number: u16, block: u16, costs: Costs },
+    Recost(Given),
     List,
     Band(usize),
     Rank(usize),

@@ -2,7 +2,7 @@
 use super::board::PlainBoard;
 use super::drawn_hours;
 use super::random::{costs, moves, Random, Shape};
-use crate::{Call, Costs, BLOCKS, COSTS};
+use crate::{Call, Costs, Given, BLOCKS, COSTS};
 
 /// Blocks that the yard does not have; of one the lower byte would do.
 const NO_BLOCKS: [u16; 4] = [BLOCKS as u16, 255, 256, u16::MAX];
@@ -70,7 +70,7 @@ impl Draw {
     pub fn change(&mut self, board: &PlainBoard) -> Call {
         if self.random.percent(self.growth) {
             let number = self.number(board, false);
-            return Call::Enter { number, block: self.block(), costs: self.costs(board, number) };
+            return Call::Enter(Given { number, block: self.block(), costs: self.costs(board, number) });
         }
         let number = self.number(board, true);
         if self.random.percent(50) {
@@ -84,7 +84,7 @@ impl Draw {
         if let Some(x) = held.filter(|_| self.random.percent(40)) {
             block = board.block_of(&x);
         }
-        Call::Recost { number, block, costs }
+        Call::Recost(Given { number, block, costs })
     }
 
     /// A set of costs, most of them one that d costs have.

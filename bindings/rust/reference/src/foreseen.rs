@@ -1,5 +1,5 @@
 //! What a call must answer.
-use crate::board::PlainBoard;
+use super::board::PlainBoard;
 use crate::{Answer, Row};
 
 /// What a call answers, given rows enough; `after` is the board where the call changes it.

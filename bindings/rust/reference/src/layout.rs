@@ -3,7 +3,6 @@
 use super::address::key;
 use super::lists::skyline;
 use super::node::{Node, LEAST_ENTRIES, MOST_ENTRIES};
-use super::written::blocks;
 use crate::{Given, Move, BLOCKS, COSTS};
 
 /// What the bytes in use say, judged only as far as reading needs it.
@@ -20,6 +19,11 @@ pub struct Content {
 
 fn word(bytes: &[u8], at: usize) -> u16 {
     u16::from_le_bytes([bytes[at], bytes[at + 1]])
+}
+
+/// Where the blocks of a board of size c start, a byte for each number.
+pub fn blocks(c: usize) -> usize {
+    16 + 4 * c
 }
 
 fn stored_move(bytes: &[u8], c: usize, d: usize, number: u16) -> Move {

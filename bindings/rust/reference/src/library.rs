@@ -1,14 +1,14 @@
 //! The library, asked by a value: the one file here that calls it.
-use crate::{Answer, Call, Given, Row};
+use crate::{Answer, Call, Row};
 use dolzhev_sys as raw;
 
 /// The call that a value names. Load is lent no rows.
 pub fn ask(memory: &mut [u8], call: &Call, rows: &mut [Row]) -> Answer {
     match *call {
         Call::Load { c, d, rows: ref loaded } => raw::load(memory, c, d, loaded),
-        Call::Enter { number, block, costs } => raw::enter(memory, Given { number, block, costs }, rows),
+        Call::Enter(given) => raw::enter(memory, given, rows),
         Call::Withdraw { number } => raw::withdraw(memory, number, rows),
-        Call::Recost { number, block, costs } => raw::recost(memory, Given { number, block, costs }, rows),
+        Call::Recost(given) => raw::recost(memory, given, rows),
         Call::List => raw::list(memory, rows),
         Call::Band(b) => raw::band(memory, b, rows),
         Call::Rank(t) => raw::rank(memory, t, rows),

@@ -6,7 +6,7 @@ use super::layout;
 use super::loading::load;
 use super::node::Node;
 use super::withdrawing::{recost, withdraw};
-use crate::{Call, Costs, Move};
+use crate::{Call, Costs, Given, Move};
 
 /// `board` is none until a load is accepted.
 #[derive(Clone, Debug, Default)]
@@ -46,9 +46,9 @@ impl Model {
         };
         self.tree = match *call {
             Call::Load { .. } => load(&after.moves),
-            Call::Enter { number, costs, .. } => Some(enter(after.d, self.tree.take(), &Move { number, costs })),
+            Call::Enter(given) => Some(enter(after.d, self.tree.take(), &given.into())),
             Call::Withdraw { number } => self.without(number),
-            Call::Recost { number, costs, .. } => self.recosted(number, costs),
+            Call::Recost(Given { number, costs, .. }) => self.recosted(number, costs),
             _ => unreachable!("a list call changes nothing"),
         };
         self.board = Some(after.clone());

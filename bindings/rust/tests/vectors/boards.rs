@@ -1,10 +1,9 @@
 //! Who answers the lines on boards, and the lines put to them.
 use crate::lines::{call_of, is_load, joined, kind, lines, words};
 use reference::against::Ask;
-use reference::layout;
+use reference::layout::{self, blocks};
 use reference::model::Model;
 use reference::node::written;
-use reference::written::blocks;
 use reference::{Answer, Call, Row};
 
 /// The words of calls that are not here yet: their lines are passed by.

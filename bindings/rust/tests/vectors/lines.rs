@@ -5,6 +5,9 @@ use std::fs;
 /// What stands in the windows past a block's count, which nobody looks at.
 const RUBBISH: Window = Window { start: 0xA5A5, end: 0xA5A5 };
 
+/// The words of lines whose moves have a block; in the others they lie in block 0.
+const WITH_BLOCK: [&str; 3] = ["LB", "EB", "CB"];
+
 /// The lines of a file, each in two: what is asked and what is answered.
 pub fn lines(name: &str, count: usize) -> Vec<(String, String)> {
     let path = format!("{}/../vectors/{name}", env!("CARGO_MANIFEST_DIR"));
@@ -33,7 +36,6 @@ pub fn is_load(asked: &str) -> bool {
     ["L", "LB"].contains(&kind(asked))
 }
 
-/// A move, with a block or, in the lines of older files, in block 0.
 fn given(words: &[u64], with_block: bool) -> Given {
     let number = words[0] as u16;
     match with_block {
@@ -71,19 +73,13 @@ pub fn call_of(asked: &str) -> (Call, usize) {
     let lent = w.last().map_or(0, |&lent| lent as usize);
     let argument = w.first().map_or(0, |&word| word as usize);
     let number = argument as u16;
-    let with_block = kind(asked).ends_with('B') && kind(asked) != "B";
+    let with_block = WITH_BLOCK.contains(&kind(asked));
     let call = match kind(asked) {
         "L" | "LB" => return (load(&w, with_block), 0),
         "HO" => return (Call::Hours { minute: argument, hours: hours(w[2], &w[3..]) }, w[1] as usize),
-        "E" | "EB" => {
-            let Given { number, block, costs } = given(&w, with_block);
-            Call::Enter { number, block, costs }
-        }
+        "E" | "EB" => Call::Enter(given(&w, with_block)),
         "W" | "X" => Call::Withdraw { number },
-        "C" | "CB" => {
-            let Given { number, block, costs } = given(&w, with_block);
-            Call::Recost { number, block, costs }
-        }
+        "C" | "CB" => Call::Recost(given(&w, with_block)),
         "Q" => Call::List,
         "B" => Call::Band(argument),
         "K" => Call::Rank(argument),

@@ -5,8 +5,8 @@ use super::tell::{set_marks, tell};
 use super::upkeep::{upkeep_of, Change};
 use super::withdraw::withdraw_row;
 use super::{refused, told};
-use crate::address::costs_past;
-use crate::{Answer, Given, Move, Row, BLOCKS};
+use crate::board::given_refusal;
+use crate::{Answer, Given, Move, Row};
 
 /// The notice told, the marks set, and then the rows changed.
 fn make(m: &mut [u8], head: Head, goes: Option<usize>, comes: Option<Given>, rows: &mut [Row]) -> Answer {
@@ -34,22 +34,10 @@ fn make(m: &mut [u8], head: Head, goes: Option<usize>, comes: Option<Given>, row
     told(upkeep.need)
 }
 
-/// What turns a given move down before its number is looked for.
-fn bad(head: Head, given: &Given) -> Option<Answer> {
-    if given.number >= head.c {
-        Some(refused(4, 0))
-    } else if usize::from(given.block) >= BLOCKS {
-        Some(refused(11, 0))
-    } else if costs_past(head.d, &given.costs) {
-        Some(refused(7, 0))
-    } else {
-        None
-    }
-}
-
 pub fn enter(m: &mut [u8], head: Head, given: Given, rows: &mut [Row]) -> Answer {
-    if let Some(refusal) = bad(head, &given) {
-        return refusal;
+    let refusal = given_refusal(head.c.into(), head.d, &given);
+    if refusal != 0 {
+        return refused(refusal, 0);
     }
     if head.place_of(m, given.number).is_some() {
         return refused(5, 0);
@@ -69,8 +57,9 @@ pub fn withdraw(m: &mut [u8], head: Head, number: u16, rows: &mut [Row]) -> Answ
 
 /// With equal costs the block alone changes.
 pub fn recost(m: &mut [u8], head: Head, given: Given, rows: &mut [Row]) -> Answer {
-    if let Some(refusal) = bad(head, &given) {
-        return refusal;
+    let refusal = given_refusal(head.c.into(), head.d, &given);
+    if refusal != 0 {
+        return refused(refusal, 0);
     }
     match head.place_of(m, given.number) {
         None => refused(6, 0),

@@ -4,6 +4,7 @@ use super::search::{Listed, Search};
 
 struct Marking {
     search: Search<Listed>,
+    /// The place of the last hider found.
     last: usize,
 }
 

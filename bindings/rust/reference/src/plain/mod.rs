@@ -17,7 +17,7 @@ mod tell;
 mod upkeep;
 mod withdraw;
 
-use crate::{Answer, Call, Given, Row};
+use crate::{Answer, Call, Row};
 
 fn refused(refusal: usize, detail: usize) -> Answer {
     Answer { refusal, detail, ..Answer::default() }
@@ -36,9 +36,9 @@ pub fn ask(memory: &mut [u8], call: &Call, rows: &mut [Row]) -> Answer {
     };
     match *call {
         Call::Load { .. } => unreachable!("answered above"),
-        Call::Enter { number, block, costs } => change::enter(memory, head, Given { number, block, costs }, rows),
+        Call::Enter(given) => change::enter(memory, head, given, rows),
         Call::Withdraw { number } => change::withdraw(memory, head, number, rows),
-        Call::Recost { number, block, costs } => change::recost(memory, head, Given { number, block, costs }, rows),
+        Call::Recost(given) => change::recost(memory, head, given, rows),
         Call::List => lists::list(memory, head, rows),
         Call::Band(b) => lists::band(memory, head, b, rows),
         Call::Rank(t) => lists::rank(memory, head, t, rows),

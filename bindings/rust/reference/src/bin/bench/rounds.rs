@@ -1,7 +1,7 @@
 //! What is asked of a board: a round loads it and has each call once.
 use crate::boards::{Board, TOP, UNDER};
 use reference::random::Random;
-use reference::{BlockHours, Call, Costs, Window, BLOCKS};
+use reference::{BlockHours, Call, Costs, Given, Window, BLOCKS};
 
 pub struct Rounds {
     random: Random,
@@ -62,8 +62,8 @@ impl Rounds {
         }
         let costs = self.costs(number);
         let [block, moved] = [(); 2].map(|()| self.random.block());
-        let recost = Call::Recost { number: other, block: moved, costs: new };
-        [Call::Withdraw { number }, Call::Enter { number, block, costs }, recost]
+        let recost = Call::Recost(Given { number: other, block: moved, costs: new });
+        [Call::Withdraw { number }, Call::Enter(Given { number, block, costs }), recost]
     }
 
     /// The calls by name.
