@@ -89,8 +89,8 @@ impl<'m> Board<'m> {
     }
 
     /// The list worked out over the moves in open blocks only, in Z-order: what lies in a shut block is not shown, and hides
-    /// none. The minute is one of the week, 0 to 10,079. Entry k is block k's; a block past the last entry is shut, and entries
-    /// past the 64th are not looked at.
+    /// none. The minute is one of the week, 0 to 10,079. Entry k is block k's; a block past the last entry is shut, and
+    /// entries past the 64th are not looked at.
     pub fn hours<'r>(&self, minute: usize, hours: &[BlockHours], rows: &'r mut [Row]) -> Result<&'r [Row], Refusal> {
         told(raw::hours(self.memory, minute, hours, Row::lend(rows)), rows)
     }

@@ -1,4 +1,4 @@
-//! The blocks that moves lie in (document 02, Card 8): given by load, enter and re-cost, and looked at by the hours call alone.
+//! The blocks that moves lie in (document 02, Card 8): given by load, enter and re-cost, looked at by the hours call alone.
 use dolzhev::padded;
 use reference::against::Against;
 use reference::layout::blocks;

@@ -56,7 +56,7 @@ fn mark_minutes(window: Window, open: &mut [bool]) {
     }
 }
 
-/// Each minute of the week, for windows with borders everywhere: alone, over the week's end, one in another, one after another.
+/// Each minute of the week, for windows with borders everywhere: alone, over the week's end, one in or after another.
 #[test]
 fn each_minute_of_the_week() {
     let mut board = board(C, 2, vec![given(3, 5, [1, 1])]);

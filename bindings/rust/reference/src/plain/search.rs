@@ -123,8 +123,8 @@ impl<A: Among> Search<A> {
         successors(self.first(m, head, places, &limits), move |&last| self.first(m, head, last + 1..end, &limits))
     }
 
-    /// A place with a move that hides the one at `place`: of earlier moves those do that are nowhere greater. `last`, the place
-    /// found before, is tried first.
+    /// A place with a move that hides the one at `place`: of earlier moves those do that are nowhere greater. `last`, the
+    /// place found before, is tried first.
     pub fn hider(&self, m: &[u8], head: Head, place: usize, last: usize) -> Option<usize> {
         let q = limits(&head.used, &head.costs_at(m, place));
         if last < place && self.fits(m, head, head.number(m, last), &q) {
