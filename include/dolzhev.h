@@ -1,27 +1,35 @@
 /* The move board: the moves that no other move dominates, equal ones once, in Z-order. Link libdolzhev.a; where functions of
  * dolzhev_zorder.h, which this header includes, are called, libdolzhev_zorder.a too.
  *
- * The caller lends all memory. No call allocates, blocks, or keeps a state of its own (no thread-local either): what a call
+ * The caller lends all memory. No call allocates, waits, or keeps a state of its own (no thread-local either): what a call
  * does depends on its arguments and the lent bytes alone, and each call ends on every content of the lent memory. Calls on
  * different memory may run at the same time; calls on the same memory must not, except that any number of list, band, rank,
- * on_k and chosen calls may. x86-64 only.
+ * on_k, chosen and hours calls may. x86-64 only.
  *
  * What is lent
  *   memory   at least 64 * C + 1024 bytes (DOLZHEV_MEMORY_BYTES) for a board of size C, of any alignment. Bytes past these
  *            are never written. Only dolzhev_load, dolzhev_enter, dolzhev_withdraw and dolzhev_recost write it at all, and
  *            only where they are accepted.
  *   rows     a multiple of 2 as address. For a notice C + 1 rows always suffice (DOLZHEV_NOTICE_ROWS), for a list C rows do.
- *   `memory_len` counts bytes, `rows_len` rows. Buffers of one call must not overlap. A pointer whose length is 0 is not read
- *   or written, but must be all the same non-null and aligned (any such address serves); NULL is never allowed.
+ *   hours    a multiple of 2 as address. Only read.
+ *   `memory_len` counts bytes, `rows_len` rows, `hours_len` entries. Buffers of one call must not overlap. A pointer whose
+ *   length is 0 is not read or written, but must be all the same non-null and aligned (any such address serves); NULL is never
+ *   allowed.
  *
  * What is answered
- *   refusal  0 where the call is accepted, else one of DOLZHEV_SHORT_MEMORY to DOLZHEV_FEW_ROWS; dolzhev_refusal_text has it
+ *   refusal  0 where the call is accepted, else one of DOLZHEV_SHORT_MEMORY to DOLZHEV_BAD_HOURS; dolzhev_refusal_text has it
  *            in words. The checks run in the order given with each call.
- *   detail   of 8 the rows needed; of the 4, 5 and 7 of dolzhev_load the place, from 0, of the first row that fails; else 0.
+ *   detail   of 8 the rows needed; of the 4, 5, 7 and 11 of dolzhev_load the place, from 0, of the first row that fails; of 12
+ *            the lowest block with bad hours; else 0.
  *   count    the rows written, at the start of the lent ones. Rows past them are untouched.
  *   opened   of dolzhev_list the nodes opened; else 0.
  *   A refused call has count and opened zero and alters no lent byte.
  *   8 is given exactly if more rows are needed than lent.
+ *
+ * What is sound
+ *   Memory that holds a board, each move of it in a block of 0 to 63. Accepted loads and changes leave such memory; every call
+ *   but dolzhev_load refuses any other with 3. The version before this one had no blocks and never wrote the bytes that they
+ *   have now: memory that it left is to be loaded again, also where these bytes happen to be in range.
  *
  * What it takes
  *   stack    at most 12 KB in every call; measured, 5,528 bytes.
@@ -42,6 +50,9 @@ extern "C" {
 #define DOLZHEV_GREATEST_SIZE 4096
 #define DOLZHEV_MEMORY_BYTES(c) (64 * (size_t)(c) + 1024)
 #define DOLZHEV_NOTICE_ROWS(c) ((size_t)(c) + 1)
+#define DOLZHEV_BLOCKS 64
+#define DOLZHEV_WINDOWS 4
+#define DOLZHEV_WEEK_MINUTES 10080
 
 /* The marks of told rows. */
 enum {
@@ -50,18 +61,33 @@ enum {
     DOLZHEV_ENTERED = 2
 };
 
-/* A move: a number from 0 to C - 1, and its costs, those past d zero. Less is better. */
+/* A move: a number from 0 to C - 1, its yard block, 0 to 63, and its costs, those past d zero. Less is better. */
 typedef struct {
     uint16_t number;
+    uint16_t block;
     uint16_t costs[DOLZHEV_COSTS];
 } dolzhev_move;
 
-/* A row told. dolzhev_rank puts the number of moves dominated in place of a mark. */
+/* A row told, without the block. dolzhev_rank puts the number of moves dominated in place of a mark. */
 typedef struct {
     uint16_t mark;
     uint16_t number;
     uint16_t costs[DOLZHEV_COSTS];
 } dolzhev_row;
+
+/* Minutes of the week, each 0 to 10,079: from start up to end, end not included. An end below the start runs over the week's
+ * end, so to the week's end is end 0. Start and end must differ: a whole week takes two windows. */
+typedef struct {
+    uint16_t start;
+    uint16_t end;
+} dolzhev_window;
+
+/* The hours of a block: it is open in each of its first `count` windows, 4 at most, and without one shut. Windows past the
+ * count are not looked at. */
+typedef struct {
+    uint16_t count;
+    dolzhev_window windows[DOLZHEV_WINDOWS];
+} dolzhev_block_hours;
 
 typedef struct {
     size_t refusal;
@@ -70,23 +96,26 @@ typedef struct {
     size_t opened;
 } dolzhev_answer;
 
-DOLZHEV_HOLDS(sizeof(dolzhev_move) == 18, "nine numbers of two bytes");
+DOLZHEV_HOLDS(sizeof(dolzhev_move) == 20, "ten numbers of two bytes");
 DOLZHEV_HOLDS(sizeof(dolzhev_row) == 20, "ten numbers of two bytes");
+DOLZHEV_HOLDS(sizeof(dolzhev_window) == 4, "two numbers of two bytes");
+DOLZHEV_HOLDS(sizeof(dolzhev_block_hours) == 18, "nine numbers of two bytes");
 DOLZHEV_HOLDS(sizeof(dolzhev_answer) == 32, "four words");
 
 /* Overwrites what the memory held with a board of size c (16 to 4,096) and d costs (2 to 8) that holds the rows; none is
  * allowed.
  * Refusals, in order: 2 if c or d is out of range, 1 if the memory is under 64 * c + 1024 bytes; then the rows in turn, each
- * for 4 (number at or above c), 7 (a cost past d not zero), 5 (number in an earlier row). */
+ * for 4 (number at or above c), 11 (block above 63), 7 (a cost past d not zero), 5 (number in an earlier row). */
 dolzhev_answer dolzhev_load(uint8_t *memory, size_t memory_len, size_t c, size_t d, const dolzhev_move *rows,
                             size_t rows_len);
 
 /* The three changes. Each writes the notice: first the rows that leave the list (mark 1), then those that enter it (mark 2),
- * each part in Z-order. Who holds the list, takes out the former and puts in the latter, holds the new list. */
+ * each part in Z-order. Who holds the list, takes out the former and puts in the latter, holds the new list. Notices concern
+ * the whole board, whatever blocks are open, and no change gives another move than its own a block. */
 
-/* Adds a move.
- * Refusals, in order: 3 if the memory is not sound, 4 if the number is at or above C, 7 if a cost past d is not zero, 5 if
- * the number is on the board, 8. */
+/* Adds a move, in its block.
+ * Refusals, in order: 3 if the memory is not sound, 4 if the number is at or above C, 11 if the block is above 63, 7 if a cost
+ * past d is not zero, 5 if the number is on the board, 8. */
 dolzhev_answer dolzhev_enter(uint8_t *memory, size_t memory_len, dolzhev_move move, dolzhev_row *rows, size_t rows_len);
 
 /* Takes the move of that number away.
@@ -94,12 +123,13 @@ dolzhev_answer dolzhev_enter(uint8_t *memory, size_t memory_len, dolzhev_move mo
  * 8. */
 dolzhev_answer dolzhev_withdraw(uint8_t *memory, size_t memory_len, uint16_t number, dolzhev_row *rows, size_t rows_len);
 
-/* Gives the move of that number new costs. Costs equal to the old ones are accepted, need no row and change nothing.
- * Refusals, in order: 3 if the memory is not sound, 4 if the number is at or above C, 7 if a cost past d is not zero, 6 if
- * the number is not on the board, 8. */
+/* Gives the move of that number the costs and the block. Costs equal to the old ones are accepted and need no row: then the
+ * block alone changes, by its one byte, and with an equal block nothing does.
+ * Refusals, in order: 3 if the memory is not sound, 4 if the number is at or above C, 11 if the block is above 63, 7 if a cost
+ * past d is not zero, 6 if the number is not on the board, 8. */
 dolzhev_answer dolzhev_recost(uint8_t *memory, size_t memory_len, dolzhev_move move, dolzhev_row *rows, size_t rows_len);
 
-/* The lists. Each writes rows with mark 0, in Z-order, but for dolzhev_rank. */
+/* The lists. Each writes rows with mark 0, in Z-order, but for dolzhev_rank. None but dolzhev_hours looks at blocks. */
 
 /* The moves that no move dominates, of those with equal costs the one of lowest number alone; `opened` is the number of nodes
  * whose near corner no move dominates.
@@ -122,6 +152,15 @@ dolzhev_answer dolzhev_on_k(const uint8_t *memory, size_t memory_len, size_t k, 
 /* The moves that no move dominates on the chosen costs: bit i of the set stands for cost i.
  * Refusals, in order: 3 if the memory is not sound, 7 if the set is empty or has a bit past cost d - 1, 8. */
 dolzhev_answer dolzhev_chosen(const uint8_t *memory, size_t memory_len, size_t set, dolzhev_row *rows, size_t rows_len);
+
+/* The list worked out over the moves in open blocks only: those that no move in an open block dominates, of those with equal
+ * costs the one of lowest number alone. A move in a shut block is not shown and hides none. The minute is one of the week, 0
+ * to 10,079. hours[k] is the entry of block k; a block past hours_len is shut, entries past the 64th are not looked at.
+ * Refusals, in order: 3 if the memory is not sound, 7 if the minute is above 10,079, 12 if an entry has a count above 4 or, in
+ * a window that it counts, a start equal to its end or either above 10,079 (detail: the lowest such block, whether a move lies
+ * in it or not), 8. */
+dolzhev_answer dolzhev_hours(const uint8_t *memory, size_t memory_len, size_t minute, const dolzhev_block_hours *hours,
+                             size_t hours_len, dolzhev_row *rows, size_t rows_len);
 
 #ifdef __cplusplus
 }

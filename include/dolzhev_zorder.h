@@ -30,24 +30,28 @@ enum {
     DOLZHEV_NUMBER_TWICE = 5,
     DOLZHEV_NUMBER_ABSENT = 6,
     DOLZHEV_BAD_ARGUMENT = 7,
-    DOLZHEV_FEW_ROWS = 8
+    DOLZHEV_FEW_ROWS = 8,
+    DOLZHEV_BLOCK_TOO_LARGE = 11,
+    DOLZHEV_BAD_HOURS = 12
 };
 
 /* A refusal in words. */
 static inline const char *dolzhev_refusal_text(size_t refusal)
 {
-    static const char *const texts[] = {
-        "accepted",
-        "the memory is too short",
-        "the board's size or the number of costs is out of range",
-        "the memory is not sound",
-        "the number is at or above the board's size",
-        "the number is taken",
-        "the number is not on the board",
-        "a cost past d is not zero, or an argument is out of range",
-        "more rows are needed than lent",
-    };
-    return refusal < sizeof texts / sizeof texts[0] ? texts[refusal] : "no refusal has this number";
+    switch (refusal) {
+    case DOLZHEV_ACCEPTED: return "accepted";
+    case DOLZHEV_SHORT_MEMORY: return "the memory is too short";
+    case DOLZHEV_OUT_OF_RANGE: return "the board's size or the number of costs is out of range";
+    case DOLZHEV_UNSOUND: return "the memory is not sound";
+    case DOLZHEV_NUMBER_TOO_LARGE: return "the number is at or above the board's size";
+    case DOLZHEV_NUMBER_TWICE: return "the number is taken";
+    case DOLZHEV_NUMBER_ABSENT: return "the number is not on the board";
+    case DOLZHEV_BAD_ARGUMENT: return "a cost past d is not zero, or an argument is out of range";
+    case DOLZHEV_FEW_ROWS: return "more rows are needed than lent";
+    case DOLZHEV_BLOCK_TOO_LARGE: return "the block is above 63";
+    case DOLZHEV_BAD_HOURS: return "a block's hours have a fifth window, a start equal to its end, or a minute past the week";
+    default: return "no refusal has this number";
+    }
 }
 
 /* The costs of a row, whatever d is. */

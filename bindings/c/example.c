@@ -1,4 +1,5 @@
-/* A board from C, to start from: load, list and changes on document 01's worked board, then addresses and a region.
+/* A board from C, to start from: load, list and changes on document 01's worked board, what is open at a minute of the week,
+ * then addresses and a region.
  * bindings/c/check has the line that compiles it. */
 #include <inttypes.h>
 #include <stdio.h>
@@ -8,9 +9,9 @@
 #define SIZE 16
 #define D 2
 
-/* Costs that are not named are zero, as those past d must be. */
+/* Number, block and costs of each move. Costs that are not named are zero, as those past d must be. */
 static const dolzhev_move worked[] = {
-    {0, {1, 6}}, {1, {3, 7}}, {2, {2, 2}}, {3, {5, 1}}, {4, {6, 2}}, {5, {2, 2}},
+    {0, 7, {1, 6}}, {1, 7, {3, 7}}, {2, 12, {2, 2}}, {3, 7, {5, 1}}, {4, 7, {6, 2}}, {5, 30, {2, 2}},
 };
 
 /* All that a board needs: the caller lends it to every call. */
@@ -44,9 +45,37 @@ static void print_list(void)
         printf("  nodes opened: %zu\n", answer.opened);
 }
 
+/* Block 7 is always open, block 12 from 6:00 to 22:00 of the first day, block 30 from the last day's 22:00 to the first day's
+ * 6:00, over the week's end. Blocks without an entry, and those with a count of 0, are shut. */
+static const dolzhev_block_hours hours[] = {
+    [7] = {2, {{0, 5040}, {5040, 0}}},
+    [12] = {1, {{6 * 60, 22 * 60}}},
+    [30] = {1, {{(6 * 24 + 22) * 60, 6 * 60}}},
+};
+static const size_t hours_len = sizeof hours / sizeof hours[0];
+
+static void print_open(const char *call, size_t minute)
+{
+    print_answer(call, dolzhev_hours(memory, sizeof memory, minute, hours, hours_len, rows, rows_len));
+}
+
+/* The list follows by the minute; a move that is shut hides none. */
+static void ask_hours(void)
+{
+    dolzhev_move five = {5, 64, {2, 2}};
+    print_open("open on the first day at 5:59", 5 * 60 + 59);
+    print_open("open on the first day at 6:00", 6 * 60);
+    print_open("open on the first day at 22:00", 22 * 60);
+    print_open("open past the week", DOLZHEV_WEEK_MINUTES);
+    print_answer("re-cost 5 into block 64", dolzhev_recost(memory, sizeof memory, five, rows, rows_len));
+    five.block = 7;
+    print_answer("re-cost 5 into block 7, no row lent", dolzhev_recost(memory, sizeof memory, five, rows, 0));
+    print_open("open on the first day at 22:00", 22 * 60);
+}
+
 static void change(void)
 {
-    dolzhev_move six = {6, {4, 1}}, one = {1, {0, 1}};
+    dolzhev_move six = {6, 7, {4, 1}}, one = {1, 7, {0, 1}};
     print_answer("enter 6 (4, 1)", dolzhev_enter(memory, sizeof memory, six, rows, rows_len));
     print_answer("enter 6 again", dolzhev_enter(memory, sizeof memory, six, rows, rows_len));
     print_answer("withdraw 6", dolzhev_withdraw(memory, sizeof memory, 6, rows, rows_len));
@@ -83,6 +112,7 @@ int main(void)
     print_list();
     print_answer("load", dolzhev_load(memory, sizeof memory, SIZE, D, worked, sizeof worked / sizeof worked[0]));
     print_list();
+    ask_hours();
     change();
     print_list();
     print_first_address();

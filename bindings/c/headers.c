@@ -1,20 +1,29 @@
-/* What the C compiler makes of the headers: a line for each struct, field and refusal, held against Rust's by a test. */
+/* What the C compiler makes of the headers: a line for each struct, field, number of the yard and refusal, held against Rust's
+ * by a test. */
 #include <stdio.h>
 
 #include "dolzhev.h"
 
 #define SIZE(type) printf(#type " %zu %zu\n", sizeof(type), _Alignof(type))
+#define NUMBER(name) printf(#name " %d\n", name)
 #define FIELD(type, field) printf(#type "." #field " %zu %zu\n", offsetof(type, field), sizeof(((type *)0)->field))
 
 static void board_structs(void)
 {
     SIZE(dolzhev_move);
     FIELD(dolzhev_move, number);
+    FIELD(dolzhev_move, block);
     FIELD(dolzhev_move, costs);
     SIZE(dolzhev_row);
     FIELD(dolzhev_row, mark);
     FIELD(dolzhev_row, number);
     FIELD(dolzhev_row, costs);
+    SIZE(dolzhev_window);
+    FIELD(dolzhev_window, start);
+    FIELD(dolzhev_window, end);
+    SIZE(dolzhev_block_hours);
+    FIELD(dolzhev_block_hours, count);
+    FIELD(dolzhev_block_hours, windows);
     SIZE(dolzhev_answer);
     FIELD(dolzhev_answer, refusal);
     FIELD(dolzhev_answer, detail);
@@ -44,9 +53,16 @@ static void zorder_structs(void)
     FIELD(dolzhev_region_answer, side);
 }
 
+static void numbers(void)
+{
+    NUMBER(DOLZHEV_BLOCKS);
+    NUMBER(DOLZHEV_WINDOWS);
+    NUMBER(DOLZHEV_WEEK_MINUTES);
+}
+
 static void refusals(void)
 {
-    for (size_t refusal = DOLZHEV_ACCEPTED; refusal <= DOLZHEV_FEW_ROWS + 1; refusal++)
+    for (size_t refusal = DOLZHEV_ACCEPTED; refusal <= DOLZHEV_BAD_HOURS + 1; refusal++)
         printf("%zu %s\n", refusal, dolzhev_refusal_text(refusal));
 }
 
@@ -54,6 +70,7 @@ int main(void)
 {
     board_structs();
     zorder_structs();
+    numbers();
     refusals();
     return 0;
 }

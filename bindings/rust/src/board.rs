@@ -1,5 +1,5 @@
 //! A board over borrowed memory.
-use crate::{Move, Ranked, Refusal, Row};
+use crate::{BlockHours, Move, Ranked, Refusal, Row};
 use dolzhev_sys as raw;
 
 /// The rows of a list, and the nodes opened for it.
@@ -46,7 +46,7 @@ impl<'m> Board<'m> {
         Refusal::judge(answer.refusal, answer.detail, Some(answer.detail))
     }
 
-    /// Adds a move. The notice: first the rows that left the list, then those that entered it, each part in Z-order.
+    /// Adds a move, in its block. The notice: first the rows that left the list, then those that entered it, each part in Z-order.
     pub fn enter<'r>(&mut self, x: Move, rows: &'r mut [Row]) -> Result<&'r [Row], Refusal> {
         told(raw::enter(self.memory, x, Row::lend(rows)), rows)
     }
@@ -56,7 +56,8 @@ impl<'m> Board<'m> {
         told(raw::withdraw(self.memory, number, Row::lend(rows)), rows)
     }
 
-    /// Gives the move of that number new costs, and tells the notice. Equal costs change nothing.
+    /// Gives the move of that number the costs and the block, and tells the notice. With equal costs the block alone changes,
+    /// and no row is needed.
     pub fn recost<'r>(&mut self, x: Move, rows: &'r mut [Row]) -> Result<&'r [Row], Refusal> {
         told(raw::recost(self.memory, x, Row::lend(rows)), rows)
     }
@@ -85,5 +86,12 @@ impl<'m> Board<'m> {
     /// The moves that no move dominates on the chosen costs, bit i of the set standing for cost i, in Z-order.
     pub fn chosen<'r>(&self, set: usize, rows: &'r mut [Row]) -> Result<&'r [Row], Refusal> {
         told(raw::chosen(self.memory, set, Row::lend(rows)), rows)
+    }
+
+    /// The list worked out over the moves in open blocks only, in Z-order: what lies in a shut block is not shown, and hides
+    /// none. The minute is one of the week, 0 to 10,079. Entry k is block k's; a block past the last entry is shut, and
+    /// entries past the 64th are not looked at.
+    pub fn hours<'r>(&self, minute: usize, hours: &[BlockHours], rows: &'r mut [Row]) -> Result<&'r [Row], Refusal> {
+        told(raw::hours(self.memory, minute, hours, Row::lend(rows)), rows)
     }
 }

@@ -11,12 +11,32 @@
 //! let mut memory = [0; Board::bytes(16)];
 //! let mut rows = [Row::default(); Board::notice_rows(16)];
 //! let mut board = Board::over(&mut memory);
-//! board.load(16, 2, &[Move { number: 0, costs: padded([1, 6]) }, Move { number: 1, costs: padded([3, 7]) }])?;
+//! let first = Move { number: 0, block: 5, costs: padded([1, 6]) };
+//! board.load(16, 2, &[first, Move { number: 1, block: 8, costs: padded([3, 7]) }])?;
 //!
-//! let notice = board.enter(Move { number: 2, costs: padded([2, 2]) }, &mut rows)?;
+//! let notice = board.enter(Move { number: 2, block: 5, costs: padded([2, 2]) }, &mut rows)?;
 //! assert_eq!((notice[0].mark(), notice[0].number), (Mark::Entered, 2));
 //! assert_eq!(board.list(&mut rows)?.rows.len(), 2);
 //! assert_eq!(board.withdraw(9, &mut rows), Err(Refusal::NumberAbsent));
+//! # Ok::<(), Refusal>(())
+//! ```
+//!
+//! Each move lies in a yard block. [`Board::hours`] tells the list over the moves in the blocks that are open at a minute of
+//! the week; no other call looks at blocks.
+//!
+//! ```
+//! # use dolzhev::{padded, Board, Move, Refusal, Row};
+//! use dolzhev::{BlockHours, Window, BLOCKS};
+//!
+//! # let mut memory = [0; Board::bytes(16)];
+//! # let mut rows = [Row::default(); Board::notice_rows(16)];
+//! # let mut board = Board::over(&mut memory);
+//! # let first = Move { number: 0, block: 5, costs: padded([1, 6]) };
+//! # board.load(16, 2, &[first, Move { number: 1, block: 8, costs: padded([3, 7]) }])?;
+//! let mut hours = [BlockHours::default(); BLOCKS];
+//! hours[8] = BlockHours::of([Window { start: 360, end: 1_320 }]);
+//! assert_eq!(board.hours(600, &hours, &mut rows)?[0].number, 1);
+//! assert_eq!(board.hours(1_320, &hours, &mut rows)?, []);
 //! # Ok::<(), Refusal>(())
 //! ```
 #![deny(missing_docs)]
@@ -26,6 +46,6 @@ mod row;
 pub mod zorder;
 
 pub use board::{Board, Listed};
-pub use dolzhev_sys::{Costs, Move, COSTS};
+pub use dolzhev_sys::{BlockHours, Costs, Move, Window, BLOCKS, COSTS, WEEK_MINUTES, WINDOWS};
 pub use refusal::Refusal;
 pub use row::{padded, Mark, Ranked, Row};

@@ -2,7 +2,7 @@
 use std::error::Error;
 use std::fmt;
 
-/// What turned a call down, in the order of document 01's numbers.
+/// What turned a call down, in the order of the documents' numbers.
 #[derive(Clone, Copy, Debug, PartialEq, Eq)]
 pub enum Refusal {
     /// 1: the memory is under 64·C + 1,024 bytes.
@@ -33,10 +33,20 @@ pub enum Refusal {
         /// How many.
         needed: usize,
     },
+    /// 11: the block is above 63.
+    BlockTooLarge {
+        /// Of a load the first row that fails, from 0.
+        place: Option<usize>,
+    },
+    /// 12: a block's hours have a fifth window, a start equal to its end, or a minute past the week.
+    BadHours {
+        /// The lowest such block.
+        block: usize,
+    },
 }
 
 impl Refusal {
-    /// What the numbers of an answer say. A number that document 01 does not name comes from an archive that does not fit
+    /// What the numbers of an answer say. A number that no document names comes from an archive that does not fit
     /// this crate, and is not hidden.
     pub(crate) fn judge(refusal: usize, detail: usize, place: Option<usize>) -> Result<(), Refusal> {
         Err(match refusal {
@@ -49,11 +59,13 @@ impl Refusal {
             6 => Refusal::NumberAbsent,
             7 => Refusal::BadArgument { place },
             8 => Refusal::FewRows { needed: detail },
-            other => panic!("the linked archive refused with {other}, which document 01 does not name"),
+            11 => Refusal::BlockTooLarge { place },
+            12 => Refusal::BadHours { block: detail },
+            other => panic!("the linked archive refused with {other}, which no document names"),
         })
     }
 
-    /// Document 01's number.
+    /// The documents' number.
     pub fn number(&self) -> usize {
         match self {
             Refusal::ShortMemory => 1,
@@ -64,6 +76,8 @@ impl Refusal {
             Refusal::NumberAbsent => 6,
             Refusal::BadArgument { .. } => 7,
             Refusal::FewRows { .. } => 8,
+            Refusal::BlockTooLarge { .. } => 11,
+            Refusal::BadHours { .. } => 12,
         }
     }
 
@@ -78,21 +92,27 @@ impl Refusal {
             Refusal::NumberAbsent => "the number is not on the board",
             Refusal::BadArgument { .. } => "a cost past d is not zero, or an argument is out of range",
             Refusal::FewRows { .. } => "more rows are needed than lent",
+            Refusal::BlockTooLarge { .. } => "the block is above 63",
+            Refusal::BadHours { .. } => {
+                "a block's hours have a fifth window, a start equal to its end, or a minute past the week"
+            }
         }
     }
 }
 
 impl fmt::Display for Refusal {
     fn fmt(&self, f: &mut fmt::Formatter) -> fmt::Result {
-        use Refusal::{BadArgument, FewRows, NumberTooLarge, NumberTwice};
+        use Refusal::{BadArgument, BadHours, BlockTooLarge, FewRows, NumberTooLarge, NumberTwice};
         f.write_str(self.text())?;
         match *self {
             NumberTooLarge { place: Some(place) }
             | NumberTwice { place: Some(place) }
-            | BadArgument { place: Some(place) } => {
+            | BadArgument { place: Some(place) }
+            | BlockTooLarge { place: Some(place) } => {
                 write!(f, " (row {place})")
             }
             FewRows { needed } => write!(f, " ({needed})"),
+            BadHours { block } => write!(f, " (block {block})"),
             _ => Ok(()),
         }
     }
@@ -107,7 +127,7 @@ mod tests {
     #[test]
     fn each_number_and_back() {
         assert_eq!(Refusal::judge(0, 0, None), Ok(()));
-        for number in 1..=8 {
+        for number in (1..=8).chain(11..=12) {
             let refusal = Refusal::judge(number, 5, Some(5)).unwrap_err();
             assert_eq!(refusal.number(), number);
         }

@@ -9,13 +9,35 @@ const NEEDED: [&str; 2] = ["memcpy", "memset"];
 const WRITABLE: &str = "DdBbCcGgSs";
 const WRITABLE_SECTIONS: [&str; 4] = [".data", ".bss", ".tdata", ".tbss"];
 
-/// The archives that the tests are linked to.
-fn archives() -> Vec<PathBuf> {
-    let bindings = PathBuf::from(env!("CARGO_MANIFEST_DIR")).join("..");
-    let built = bindings.join("../target/staticlib");
+fn bindings() -> PathBuf {
+    PathBuf::from(env!("CARGO_MANIFEST_DIR")).join("..")
+}
+
+/// The names of the archives, which are those of the headers too.
+fn archive_names() -> Vec<String> {
+    let names = std::fs::read_to_string(bindings().join("archives")).unwrap();
+    names.split_whitespace().map(str::to_string).collect()
+}
+
+/// The archive that the tests are linked to.
+fn archive(name: &str) -> PathBuf {
+    let built = bindings().join("../target/staticlib");
     let folder = std::env::var_os("DOLZHEV_LIBS").map_or(built, PathBuf::from);
-    let names = std::fs::read_to_string(bindings.join("archives")).unwrap();
-    names.split_whitespace().map(|name| folder.join(format!("lib{name}.a"))).collect()
+    folder.join(format!("lib{name}.a"))
+}
+
+fn archives() -> Vec<PathBuf> {
+    archive_names().iter().map(|name| archive(name)).collect()
+}
+
+/// The functions that a header declares: each starts a line, after its type.
+fn declared(name: &str) -> BTreeSet<String> {
+    let header = std::fs::read_to_string(bindings().join(format!("../include/{name}.h"))).unwrap();
+    let function = |line: &str| {
+        let (before, _) = line.strip_prefix("dolzhev_")?.split_once('(')?;
+        Some(before.split_once(' ')?.1.to_string())
+    };
+    header.lines().filter_map(function).collect()
 }
 
 fn said(program: &str, words: &[&str], archive: &PathBuf) -> String {
@@ -38,6 +60,21 @@ fn symbols(archive: &PathBuf) -> Vec<(char, String)> {
 /// The names of the symbols of some kinds.
 fn names(symbols: &[(char, String)], kind: impl Fn(char) -> bool) -> BTreeSet<&str> {
     symbols.iter().filter(|symbol| kind(symbol.0)).map(|symbol| symbol.1.as_str()).collect()
+}
+
+/// The calls of the headers, and no other.
+#[test]
+fn calls_of_the_headers() {
+    let mut calls = 0;
+    for name in archive_names() {
+        let symbols = symbols(&archive(&name));
+        let mut exported = names(&symbols, |kind| kind == 'T');
+        exported.retain(|name| name.starts_with("dolzhev_") && !name.contains(':'));
+        let declared = declared(&name);
+        assert!(exported.iter().eq(&declared), "{name} has {exported:?}");
+        calls += declared.len();
+    }
+    assert_eq!(calls, 13);
 }
 
 #[test]

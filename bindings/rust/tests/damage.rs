@@ -2,15 +2,16 @@
 //! answers as on the board that stands there where they are sound after all, and writes nothing that it may not.
 use reference::against::{Against, Ask};
 use reference::draw::Draw;
+use reference::layout::{self, blocks};
 use reference::library;
 use reference::plain;
 use reference::random::{Random, Shape};
 use reference::tries::{flipped, try_all, used_board, Seen};
 use reference::{Call, COSTS};
 
-/// The bytes of a board of size c that may decide: head, numbers, heights, marks, costs.
+/// The bytes of a board of size c that may decide: head, numbers, heights, marks, blocks, costs.
 fn fields(c: usize) -> Vec<usize> {
-    (0..16 + 4 * c).chain(16 + 5 * c..16 + 21 * c).collect()
+    (0..16 + 21 * c).collect()
 }
 
 fn damage_fields(ask: Ask, seed: u64) -> Seen {
@@ -67,6 +68,42 @@ fn every_byte_three_ways() {
         }
     }
     assert!(seen.sound > 1000 && seen.unsound > 1000, "{seen:?}");
+}
+
+/// Every value of every block: 3 exactly where the number is on the board and the value above 63.
+#[test]
+fn every_value_of_a_block() {
+    for mut bytes in [2, COSTS].map(board_of_forty) {
+        let board = layout::content(&bytes).unwrap();
+        for number in 0..48 {
+            let on_board = board.moves.iter().any(|x| x.number == number);
+            let at = blocks(48) + usize::from(number);
+            let old = bytes[at];
+            for value in 0..=255 {
+                bytes[at] = value;
+                assert_eq!(list_as_checked(&bytes), !(on_board && value > 63), "number {number}, value {value}");
+            }
+            bytes[at] = old;
+        }
+    }
+}
+
+/// Every call on boards of which one block is wrong or just right.
+#[test]
+fn damaged_blocks() {
+    let mut random = Random::new(23);
+    let mut seen = Seen::default();
+    let bytes = used_board(library::ask, 16, 3, 12, 8);
+    let (board, _) = layout::sound(&bytes).unwrap();
+    for at in blocks(16)..blocks(16) + 16 {
+        for value in [63, 64, 128, 255] {
+            let mut damaged = bytes.clone();
+            damaged[at] = value;
+            try_all(library::ask, &damaged, &mut random, &mut seen);
+            try_all(plain::ask, &damaged, &mut random, &mut seen);
+        }
+    }
+    assert_eq!(seen.unsound, 2 * 3 * board.moves.len());
 }
 
 /// Several bytes at once, and a whole field copied over another.

@@ -2,14 +2,14 @@
 //! address decides the order.
 use reference::against::Against;
 use reference::library;
-use reference::{Call, Costs, Move, Row, COSTS};
+use reference::{Call, Costs, Given, Row, COSTS};
 
 const C: usize = 16;
 
 /// A board of two moves, number 9 loaded before number 4.
 fn board(d: usize, [nine, four]: [Costs; 2]) -> Against {
     let mut board = Against::over(library::ask, &[0xFF; 64 * C + 1024]);
-    let rows = vec![Move { number: 9, costs: nine }, Move { number: 4, costs: four }];
+    let rows = vec![Given { number: 9, block: 0, costs: nine }, Given { number: 4, block: 0, costs: four }];
     assert_eq!(board.check(&Call::Load { c: C, d, rows }, 0).answer.refusal, 0);
     board
 }
@@ -54,7 +54,8 @@ fn one_cost_keeps() {
             assert_eq!(told(&mut board, Call::List), [(0, 9)], "d {d}, cost {place}");
             let mut costs = level(d);
             costs[place] = 4;
-            assert_eq!(told(&mut board, Call::Recost { number: 4, costs }), [(2, 4)], "d {d}, cost {place}");
+            let recost = Call::Recost(Given { number: 4, block: 0, costs });
+            assert_eq!(told(&mut board, recost), [(2, 4)], "d {d}, cost {place}");
         }
     }
 }

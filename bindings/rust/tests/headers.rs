@@ -1,6 +1,7 @@
 //! The structs and the words of Rust are those of the headers: bindings/c/headers.c, compiled here, prints them.
 use dolzhev::Refusal;
-use dolzhev_sys::{AddressAnswer, AddressWords, Answer, Costs, CostsAnswer, Move, RegionAnswer, Row};
+use dolzhev_sys::{AddressAnswer, AddressWords, Answer, BlockHours, Costs, CostsAnswer, Move, RegionAnswer, Row};
+use dolzhev_sys::{Window, BLOCKS, WEEK_MINUTES, WINDOWS};
 use std::mem::{align_of, offset_of, size_of};
 use std::path::Path;
 use std::process::{Command, Output};
@@ -17,11 +18,18 @@ fn board_structs() -> Vec<String> {
     vec![
         size::<Move>("dolzhev_move"),
         field::<u16>("dolzhev_move.number", offset_of!(Move, number)),
+        field::<u16>("dolzhev_move.block", offset_of!(Move, block)),
         field::<Costs>("dolzhev_move.costs", offset_of!(Move, costs)),
         size::<Row>("dolzhev_row"),
         field::<u16>("dolzhev_row.mark", offset_of!(Row, mark)),
         field::<u16>("dolzhev_row.number", offset_of!(Row, number)),
         field::<Costs>("dolzhev_row.costs", offset_of!(Row, costs)),
+        size::<Window>("dolzhev_window"),
+        field::<u16>("dolzhev_window.start", offset_of!(Window, start)),
+        field::<u16>("dolzhev_window.end", offset_of!(Window, end)),
+        size::<BlockHours>("dolzhev_block_hours"),
+        field::<u16>("dolzhev_block_hours.count", offset_of!(BlockHours, count)),
+        field::<[Window; WINDOWS]>("dolzhev_block_hours.windows", offset_of!(BlockHours, windows)),
         size::<Answer>("dolzhev_answer"),
         field::<usize>("dolzhev_answer.refusal", offset_of!(Answer, refusal)),
         field::<usize>("dolzhev_answer.detail", offset_of!(Answer, detail)),
@@ -53,7 +61,12 @@ fn zorder_structs() -> Vec<String> {
     ]
 }
 
-/// The words of each refusal, with no detail; those of 8 always have one.
+fn numbers() -> Vec<String> {
+    let numbers = [("DOLZHEV_BLOCKS", BLOCKS), ("DOLZHEV_WINDOWS", WINDOWS), ("DOLZHEV_WEEK_MINUTES", WEEK_MINUTES)];
+    numbers.map(|(name, number)| format!("{name} {number}")).to_vec()
+}
+
+/// The words of each refusal, with no detail; those of 8 and 12 always have one.
 fn refusals() -> Vec<String> {
     let place = None;
     let refusals = [
@@ -65,12 +78,15 @@ fn refusals() -> Vec<String> {
         Refusal::NumberAbsent,
         Refusal::BadArgument { place },
         Refusal::FewRows { needed: 5 },
+        Refusal::BlockTooLarge { place },
+        Refusal::BadHours { block: 5 },
     ];
-    let line = |refusal: Refusal| format!("{} {refusal}", refusal.number()).replace(" (5)", "");
-    let mut lines: Vec<String> = refusals.into_iter().map(line).collect();
-    lines.insert(0, "0 accepted".to_string());
-    lines.push("9 no refusal has this number".to_string());
-    lines
+    let words = |number: usize| match refusals.iter().find(|refusal| refusal.number() == number) {
+        Some(refusal) => refusal.to_string().replace(" (5)", "").replace(" (block 5)", ""),
+        None if number == 0 => "accepted".to_string(),
+        None => "no refusal has this number".to_string(),
+    };
+    (0..=13).map(|number| format!("{number} {}", words(number))).collect()
 }
 
 fn succeeded(output: Output) -> String {
@@ -92,7 +108,7 @@ fn printed(source: &str) -> String {
 
 #[test]
 fn structs_and_words_of_the_headers() {
-    let expected = [board_structs(), zorder_structs(), refusals()].concat();
+    let expected = [board_structs(), zorder_structs(), numbers(), refusals()].concat();
     let printed = printed("headers.c");
     assert_eq!(printed.lines().collect::<Vec<_>>(), expected);
 }
@@ -100,9 +116,10 @@ fn structs_and_words_of_the_headers() {
 /// The header's own table.
 #[test]
 fn sizes_as_documented() {
-    assert_eq!([size_of::<Move>(), size_of::<Row>(), size_of::<Answer>(), size_of::<Costs>()], [18, 20, 32, 16]);
+    assert_eq!([size_of::<Move>(), size_of::<Row>(), size_of::<Answer>(), size_of::<Costs>()], [20, 20, 32, 16]);
+    assert_eq!([size_of::<Window>(), size_of::<BlockHours>()], [4, 18]);
     assert_eq!([size_of::<AddressAnswer>(), size_of::<CostsAnswer>(), size_of::<RegionAnswer>()], [32, 32, 56]);
-    assert_eq!([align_of::<Move>(), align_of::<Row>()], [2, 2]);
+    assert_eq!([align_of::<Move>(), align_of::<Row>(), align_of::<BlockHours>()], [2, 2, 2]);
 }
 
 /// The detail, where there is one.
@@ -111,4 +128,6 @@ fn words_with_a_detail() {
     let taken = Refusal::NumberTwice { place: Some(3) };
     assert_eq!(taken.to_string(), "the number is taken (row 3)");
     assert_eq!(Refusal::FewRows { needed: 4 }.to_string(), "more rows are needed than lent (4)");
+    assert_eq!(Refusal::BlockTooLarge { place: Some(3) }.to_string(), "the block is above 63 (row 3)");
+    assert!(Refusal::BadHours { block: 9 }.to_string().ends_with(" (block 9)"));
 }

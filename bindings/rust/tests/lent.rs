@@ -4,7 +4,11 @@ use reference::against::Against;
 use reference::draw::Draw;
 use reference::library;
 use reference::random::Shape;
-use reference::{Call, Move, COSTS};
+use reference::{BlockHours, Call, Given, Window, BLOCKS, COSTS};
+
+fn row<const D: usize>(number: u16, costs: [u16; D]) -> Given {
+    Given { number, block: 0, costs: padded(costs) }
+}
 
 fn loaded(c: usize, d: usize, shape: Shape, n: usize, seed: u64) -> Against {
     let mut draw = Draw::new(seed, shape, 65536, c);
@@ -30,19 +34,28 @@ fn lend_each(against: &Against, call: &Call) -> usize {
     need
 }
 
+/// An hours call with every so many-th block open.
+fn hours(steps: usize) -> Call {
+    let entry = |block| match block % steps {
+        0 => BlockHours::of([Window { start: 7, end: 3 }]),
+        _ => BlockHours::default(),
+    };
+    Call::Hours { minute: 2, hours: (0..BLOCKS).map(entry).collect() }
+}
+
 fn calls_on(against: &Against, free: u16) -> Vec<Call> {
     let board = against.model().board.as_ref().unwrap();
     let (first, last) = (board.moves[0], board.moves[board.moves.len() - 1]);
     let listed = board.list[board.list.len() / 2];
-    let least = [0; COSTS];
+    let (least, block) = ([0; COSTS], 9);
     vec![
-        Call::Enter { number: free, costs: least },
-        Call::Enter { number: free, costs: last.costs },
+        Call::Enter(Given { number: free, block, costs: least }),
+        Call::Enter(Given { number: free, block, costs: last.costs }),
         Call::Withdraw { number: first.number },
         Call::Withdraw { number: listed.number },
-        Call::Recost { number: listed.number, costs: last.costs },
-        Call::Recost { number: last.number, costs: least },
-        Call::Recost { number: listed.number, costs: listed.costs },
+        Call::Recost(Given { number: listed.number, block, costs: last.costs }),
+        Call::Recost(Given { number: last.number, block, costs: least }),
+        Call::Recost(listed.in_block(block)),
         Call::List,
         Call::Band(0),
         Call::Band(3),
@@ -53,6 +66,9 @@ fn calls_on(against: &Against, free: u16) -> Vec<Call> {
         Call::OnK(1),
         Call::Chosen(1),
         Call::Chosen(3),
+        hours(1),
+        hours(2),
+        hours(5),
     ]
 }
 
@@ -76,14 +92,10 @@ fn four_numbers_of_rows() {
 #[test]
 fn notice_of_one_row_more_than_the_board() {
     let against = loaded(64, 2, Shape::AllListed, 64, 9);
-    assert_eq!(lend_each(&against, &Call::Recost { number: 5, costs: [0; COSTS] }), 65);
+    assert_eq!(lend_each(&against, &Call::Recost(row(5, [0, 0]))), 65);
 }
 
-fn row<const D: usize>(number: u16, costs: [u16; D]) -> Move {
-    Move { number, costs: padded(costs) }
-}
-
-fn load_answer(bytes: usize, c: usize, d: usize, rows: Vec<Move>) -> (usize, usize) {
+fn load_answer(bytes: usize, c: usize, d: usize, rows: Vec<Given>) -> (usize, usize) {
     let answer = Against::over(library::ask, &vec![7; bytes]).check(&Call::Load { c, d, rows }, 0).answer;
     (answer.refusal, answer.detail)
 }
@@ -113,13 +125,13 @@ fn numbers_at_the_bound() {
     let mut against = Against::over(library::ask, &[0; 2048]);
     against.check(&Call::Load { c: 16, d: 2, rows: vec![] }, 0);
     for (number, refusal) in [(15, 0), (16, 4), (15, 5), (65535, 4)] {
-        assert_eq!(against.check(&Call::Enter { number, costs: padded([3, 3]) }, 17).answer.refusal, refusal);
+        assert_eq!(against.check(&Call::Enter(row(number, [3, 3])), 17).answer.refusal, refusal);
     }
     assert_eq!(against.check(&Call::Withdraw { number: 16 }, 17).answer.refusal, 4);
     assert_eq!(against.check(&Call::Withdraw { number: 14 }, 17).answer.refusal, 6);
-    assert_eq!(against.check(&Call::Recost { number: 16, costs: padded([0, 0, 0, 1]) }, 17).answer.refusal, 4);
-    assert_eq!(against.check(&Call::Recost { number: 14, costs: padded([0, 0, 0, 1]) }, 17).answer.refusal, 7);
-    assert_eq!(against.check(&Call::Recost { number: 14, costs: padded([0, 0]) }, 17).answer.refusal, 6);
+    assert_eq!(against.check(&Call::Recost(row(16, [0, 0, 0, 1])), 17).answer.refusal, 4);
+    assert_eq!(against.check(&Call::Recost(row(14, [0, 0, 0, 1])), 17).answer.refusal, 7);
+    assert_eq!(against.check(&Call::Recost(row(14, [0, 0])), 17).answer.refusal, 6);
 }
 
 /// What a call on a copy of the board is refused with.
@@ -134,15 +146,15 @@ fn costs_past_d() {
         let mut against = Against::over(library::ask, &[0; 2048]);
         let mut costs = [1; COSTS];
         costs[d..].fill(0);
-        against.check(&Call::Load { c: 16, d, rows: vec![Move { number: 3, costs }] }, 0);
-        assert_eq!(refusal(&against, Call::Enter { number: 4, costs }), 0);
+        against.check(&Call::Load { c: 16, d, rows: vec![row(3, costs)] }, 0);
+        assert_eq!(refusal(&against, Call::Enter(row(4, costs))), 0);
         for place in d..COSTS {
             let mut costs = costs;
             costs[place] = 1;
-            let rows = vec![row(4, []), Move { number: 3, costs }];
+            let rows = vec![row(4, []), row(3, costs)];
             assert_eq!(load_answer(2048, 16, d, rows), (7, 1), "d {d}: cost {place}");
-            assert_eq!(refusal(&against, Call::Enter { number: 4, costs }), 7, "d {d}: cost {place}");
-            assert_eq!(refusal(&against, Call::Recost { number: 3, costs }), 7, "d {d}: cost {place}");
+            assert_eq!(refusal(&against, Call::Enter(row(4, costs))), 7, "d {d}: cost {place}");
+            assert_eq!(refusal(&against, Call::Recost(row(3, costs))), 7, "d {d}: cost {place}");
         }
     }
 }

@@ -6,7 +6,7 @@ use reference::layout;
 use reference::library;
 use reference::node::Node;
 use reference::random::Shape;
-use reference::{Call, Move, COSTS};
+use reference::{Call, Given, COSTS};
 
 fn leaf_sizes(node: &Node) -> Vec<usize> {
     match node {
@@ -42,9 +42,12 @@ fn groups_of_a_load() {
 }
 
 /// 40 rows whose numbers below c go round in steps of seven.
-fn rows(c: usize) -> Vec<Move> {
-    let row =
-        |i: usize| Move { number: ((7 * i + 3) % c) as u16, costs: padded([i % 8, i % 5].map(|cost| cost as u16)) };
+fn rows(c: usize) -> Vec<Given> {
+    let row = |i: usize| Given {
+        number: ((7 * i + 3) % c) as u16,
+        block: i as u16,
+        costs: padded([i % 8, i % 5].map(|cost| cost as u16)),
+    };
     (0..40).map(row).collect()
 }
 
@@ -56,7 +59,7 @@ fn standing() -> Vec<u8> {
 }
 
 /// What a load on the board's first bytes is refused with; every byte stays.
-fn refused(bytes: usize, c: usize, d: usize, rows: Vec<Move>) -> (usize, usize) {
+fn refused(bytes: usize, c: usize, d: usize, rows: Vec<Given>) -> (usize, usize) {
     let memory = &standing()[..bytes];
     let mut against = Against::over(library::ask, memory);
     let answer = against.check(&Call::Load { c, d, rows }, 0).answer;
@@ -65,19 +68,21 @@ fn refused(bytes: usize, c: usize, d: usize, rows: Vec<Move>) -> (usize, usize) 
 }
 
 /// The load with another row at a place.
-fn with_row<const D: usize>(place: usize, number: u16, costs: [u16; D]) -> (usize, usize) {
+fn with_row<const D: usize>(place: usize, number: u16, block: u16, costs: [u16; D]) -> (usize, usize) {
     let mut altered = rows(40);
-    altered[place] = Move { number, costs: padded(costs) };
+    altered[place] = Given { number, block, costs: padded(costs) };
     refused(3584, 40, 2, altered)
 }
 
 #[test]
 fn rows_refused() {
-    assert_eq!(with_row(5, 3, [1, 1]), (5, 5));
-    assert_eq!(with_row(7, 40, [1, 1]), (4, 7));
-    assert_eq!(with_row(9, 26, [1, 1, 1]), (7, 9));
-    assert_eq!(with_row(39, 36, [1, 1, 0, 0, 0, 0, 0, 1]), (7, 39));
-    assert_eq!(with_row(0, u16::MAX, [0, 0, 0, 1]), (4, 0));
+    assert_eq!(with_row(5, 3, 63, [1, 1]), (5, 5));
+    assert_eq!(with_row(5, 3, 64, [1, 1, 1]), (11, 5));
+    assert_eq!(with_row(7, 40, 64, [1, 1]), (4, 7));
+    assert_eq!(with_row(9, 26, 0, [1, 1, 1]), (7, 9));
+    assert_eq!(with_row(39, 36, 63, [1, 1, 0, 0, 0, 0, 0, 1]), (7, 39));
+    assert_eq!(with_row(39, 36, 256, [1, 1]), (11, 39));
+    assert_eq!(with_row(0, u16::MAX, 0, [0, 0, 0, 1]), (4, 0));
     assert_eq!(refused(8192, 16, 2, rows(16)), (5, 16));
 }
 

@@ -19,7 +19,7 @@ struct Run {
 }
 
 /// How often each refusal was answered.
-type Seen = [usize; 9];
+type Seen = [usize; 13];
 
 /// Who read the list once and sees notices only; none before, and after the next load.
 #[derive(Default)]
@@ -30,7 +30,7 @@ impl Holder {
         match (call, &mut self.0) {
             (Call::Load { .. }, held) => *held = None,
             (Call::List, held @ None) => *held = Some(rows.iter().map(moved).collect()),
-            (Call::Enter { .. } | Call::Withdraw { .. } | Call::Recost { .. }, Some(held)) => follow(d, held, rows),
+            (Call::Enter(_) | Call::Withdraw { .. } | Call::Recost(_), Some(held)) => follow(d, held, rows),
             _ => {}
         }
     }
@@ -85,7 +85,7 @@ fn go_on(run: &Run, draw: &mut Draw, against: &mut Against, seen: &mut Seen) -> 
 fn play(ask: Ask, run: &Run, seed: u64) -> Seen {
     let mut draw = Draw::new(seed, run.shape, run.span, run.c);
     let mut against = Against::over(ask, &garbage(&mut draw.random, run.c));
-    let mut seen = [0; 9];
+    let mut seen = [0; 13];
     seen[against.check(&Call::List, 5).answer.refusal] += 1;
     against.check(&draw.load(run.c, run.d, run.start), 0);
     let followed = go_on(run, &mut draw, &mut against, &mut seen);
@@ -95,7 +95,7 @@ fn play(ask: Ask, run: &Run, seed: u64) -> Seen {
 }
 
 fn play_all(ask: Ask, runs: &[Run]) -> Seen {
-    let mut seen = [0; 9];
+    let mut seen = [0; 13];
     for (seed, run) in runs.iter().enumerate() {
         for (sum, more) in seen.iter_mut().zip(play(ask, run, seed as u64)) {
             *sum += more;
@@ -118,7 +118,7 @@ fn runs(c: usize, start: usize, steps: usize) -> Vec<Run> {
 }
 
 fn assert_each_refusal(seen: Seen) {
-    for refusal in [0, 2, 3, 4, 5, 6, 7, 8] {
+    for refusal in [0, 2, 3, 4, 5, 6, 7, 8, 11, 12] {
         assert!(seen[refusal] > 0, "the answer {refusal} never came up: {seen:?}");
     }
 }

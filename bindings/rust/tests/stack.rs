@@ -2,7 +2,7 @@
 //! `cargo test --release --test stack -- --nocapture` prints the figures; they count the few frames of Rust above the call.
 use dolzhev_sys::{address, costs_of, region, AddressWords};
 use reference::random::{costs, moves, Random, Shape};
-use reference::{library, Call, Row, COSTS};
+use reference::{library, BlockHours, Call, Given, Row, Window, BLOCKS, COSTS, WEEK_MINUTES, WINDOWS};
 use std::arch::asm;
 use std::collections::BTreeMap;
 use std::ffi::c_void;
@@ -42,14 +42,15 @@ fn depth<F: FnMut()>(mut work: F) -> usize {
 fn name(call: &Call) -> &'static str {
     match call {
         Call::Load { .. } => "load",
-        Call::Enter { .. } => "enter",
+        Call::Enter(_) => "enter",
         Call::Withdraw { .. } => "withdraw",
-        Call::Recost { .. } => "recost",
+        Call::Recost(_) => "recost",
         Call::List => "list",
         Call::Band(_) => "band",
         Call::Rank(_) => "rank",
         Call::OnK(_) => "on_k",
         Call::Chosen(_) => "chosen",
+        Call::Hours { .. } => "hours",
     }
 }
 
@@ -80,8 +81,15 @@ impl Depths {
     }
 }
 
-fn queries(d: usize) -> [Call; 5] {
-    [Call::List, Call::Band(2), Call::Rank(10), Call::OnK(d), Call::Chosen((1 << d) - 1)]
+/// An hours call with every block open by the last of four windows.
+fn hours(minute: usize) -> Call {
+    let mut windows = [Window { start: 7, end: 8 }; WINDOWS];
+    windows[WINDOWS - 1] = Window { start: 5000, end: 3 };
+    Call::Hours { minute, hours: vec![BlockHours::of(windows); BLOCKS] }
+}
+
+fn queries(d: usize) -> [Call; 6] {
+    [Call::List, Call::Band(2), Call::Rank(10), Call::OnK(d), Call::Chosen((1 << d) - 1), hours(2)]
 }
 
 /// Moves taken away, put back and changed: of many some take nodes out of the tree and some cut them.
@@ -91,35 +99,40 @@ fn changes(depths: &mut Depths, random: &mut Random, memory: &mut [u8], shape: S
         depths.ask(memory, &Call::Withdraw { number }, C + 1, 0);
     }
     for &number in &numbers {
-        let costs = costs(random, shape, d, SPAN, number.into(), C);
-        depths.ask(memory, &Call::Enter { number, costs }, C + 1, 0);
+        let (block, costs) = (random.block(), costs(random, shape, d, SPAN, number.into(), C));
+        depths.ask(memory, &Call::Enter(Given { number, block, costs }), C + 1, 0);
     }
     for number in random.numbers(C, 50) {
-        let costs = costs(random, shape, d, SPAN, number.into(), C);
-        depths.ask(memory, &Call::Recost { number, costs }, C + 1, 0);
+        let (block, costs) = (random.block(), costs(random, shape, d, SPAN, number.into(), C));
+        depths.ask(memory, &Call::Recost(Given { number, block, costs }), C + 1, 0);
+        depths.ask(memory, &Call::Recost(Given { number, block: 63 - block, costs }), 0, 0);
     }
 }
 
 /// On a full board, and then without one move.
 fn refused(depths: &mut Depths, memory: &mut [u8], d: usize) {
-    let costs = [0; COSTS];
+    let (block, costs) = (0, [0; COSTS]);
     let (taken, outside) = (7, C as u16);
     for (number, refusal) in [(outside, 4), (taken, 5)] {
-        depths.ask(memory, &Call::Enter { number, costs }, C + 1, refusal);
+        depths.ask(memory, &Call::Enter(Given { number, block, costs }), C + 1, refusal);
     }
-    depths.ask(memory, &Call::Recost { number: taken, costs }, 0, 8);
+    depths.ask(memory, &Call::Recost(Given { number: taken, block, costs }), 0, 8);
     depths.ask(memory, &Call::Withdraw { number: taken }, C + 1, 0);
-    depths.ask(memory, &Call::Enter { number: taken, costs }, 0, 8);
+    depths.ask(memory, &Call::Enter(Given { number: taken, block, costs }), 0, 8);
     for (number, refusal) in [(outside, 4), (taken, 6)] {
         depths.ask(memory, &Call::Withdraw { number }, C + 1, refusal);
-        depths.ask(memory, &Call::Recost { number, costs }, C + 1, refusal);
+        depths.ask(memory, &Call::Recost(Given { number, block, costs }), C + 1, refusal);
     }
+    depths.ask(memory, &Call::Enter(Given { number: taken, block: 64, costs }), C + 1, 11);
+    depths.ask(memory, &Call::Recost(Given { number: taken, block: 64, costs }), C + 1, 11);
     if d < COSTS {
-        depths.ask(memory, &Call::Enter { number: taken, costs: [1; COSTS] }, C + 1, 7);
+        depths.ask(memory, &Call::Enter(Given { number: taken, block, costs: [1; COSTS] }), C + 1, 7);
     }
-    for call in [Call::Band(C), Call::Rank(0), Call::OnK(0), Call::Chosen(0)] {
+    for call in [Call::Band(C), Call::Rank(0), Call::OnK(0), Call::Chosen(0), hours(WEEK_MINUTES)] {
         depths.ask(memory, &call, C + 1, 7);
     }
+    let fifth = BlockHours { count: 5, ..BlockHours::default() };
+    depths.ask(memory, &Call::Hours { minute: 2, hours: vec![fifth] }, C + 1, 12);
     for call in queries(d) {
         depths.ask(memory, &call, 0, 8);
     }
@@ -127,9 +140,9 @@ fn refused(depths: &mut Depths, memory: &mut [u8], d: usize) {
 
 /// Every call on memory of which one mark is wrong.
 fn unsound(depths: &mut Depths, memory: &mut [u8], d: usize) {
-    let costs = [0; COSTS];
+    let given = Given { number: 7, ..Given::default() };
     memory[16 + 3 * C] ^= 1;
-    for call in [Call::Enter { number: 7, costs }, Call::Withdraw { number: 7 }, Call::Recost { number: 7, costs }] {
+    for call in [Call::Enter(given), Call::Withdraw { number: 7 }, Call::Recost(given)] {
         depths.ask(memory, &call, C + 1, 3);
     }
     for call in queries(d) {
@@ -164,7 +177,7 @@ fn calls_on_a_board() {
             unsound(&mut depths, &mut memory, d);
         }
     }
-    assert_eq!(depths.0.len(), 9, "a call was not made");
+    assert_eq!(depths.0.len(), 10, "a call was not made");
     depths.check();
 }
 

@@ -4,18 +4,22 @@ use reference::against::Against;
 use reference::library;
 use reference::random::Random;
 use reference::tries::{try_all, Seen};
-use reference::{Call, Move, Row};
+use reference::{Call, Given, Row};
 
 const C: usize = 16;
 const TWINS: [u16; 4] = [3, 7, 9, 14];
 
-fn twin(number: u16) -> Move {
-    Move { number, costs: padded([2, 2]) }
+fn given(number: u16, costs: [u16; 2]) -> Given {
+    Given { number, block: 0, costs: padded(costs) }
+}
+
+fn twin(number: u16) -> Given {
+    given(number, [2, 2])
 }
 
 /// Four twins, a move beside them in the list and one that they dominate.
 fn loaded() -> Against {
-    let others = [Move { number: 0, costs: padded([1, 6]) }, Move { number: 1, costs: padded([3, 3]) }];
+    let others = [given(0, [1, 6]), given(1, [3, 3])];
     let rows = TWINS.map(twin).into_iter().chain(others).collect();
     let mut board = Against::over(library::ask, &[0; 64 * (C + 1) + 1024]);
     board.check(&Call::Load { c: C, d: 2, rows }, 0);
@@ -45,12 +49,11 @@ fn one_after_another() {
 #[test]
 fn twins_that_come() {
     let mut board = loaded();
-    let costs = twin(0).costs;
-    assert_eq!(change(&mut board, Call::Enter { number: 4, costs }), []);
-    assert_eq!(change(&mut board, Call::Enter { number: 2, costs }), [(1, 3), (2, 2)]);
-    assert_eq!(change(&mut board, Call::Recost { number: 1, costs }), [(1, 2), (2, 1)]);
-    assert_eq!(change(&mut board, Call::Recost { number: 0, costs }), [(1, 1), (1, 0), (2, 0)]);
-    assert_eq!(change(&mut board, Call::Recost { number: 0, costs: padded([2, 3]) }), [(1, 0), (2, 1)]);
+    assert_eq!(change(&mut board, Call::Enter(twin(4))), []);
+    assert_eq!(change(&mut board, Call::Enter(twin(2))), [(1, 3), (2, 2)]);
+    assert_eq!(change(&mut board, Call::Recost(twin(1))), [(1, 2), (2, 1)]);
+    assert_eq!(change(&mut board, Call::Recost(twin(0))), [(1, 1), (1, 0), (2, 0)]);
+    assert_eq!(change(&mut board, Call::Recost(given(0, [2, 3]))), [(1, 0), (2, 1)]);
 }
 
 /// Band, on k and chosen costs show every twin; rank takes the listed one and counts no twin as dominated.

@@ -43,6 +43,7 @@ fn nearly(random: &mut Random) -> Vec<u8> {
         bytes[16 + 2 * place..][..2].copy_from_slice(&number.to_le_bytes());
         bytes[16 + 2 * c + place] = if place == 0 { 1 } else { random.one_of(&[0, 0, 0, 0, 0, 0, 1]) };
         bytes[16 + 3 * c + usize::from(number)] = random.one_of(&[0, 1, 1, 2]);
+        bytes[16 + 4 * c + usize::from(number)] = random.one_of(&[0, 1, 5, 7, 31, 32, 62, 63, 63, 64]);
         let costs = &mut bytes[16 + 5 * c + 16 * usize::from(number)..][..2 * COSTS];
         for (i, byte) in costs.iter_mut().enumerate() {
             *byte = if i % 2 == 0 { (place + random.below(3)) as u8 } else { 0 };

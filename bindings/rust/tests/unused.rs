@@ -8,9 +8,8 @@ use std::ops::Range;
 
 /// The bytes that the layout names as not in use whatever the board holds.
 fn unused(c: usize) -> Vec<usize> {
-    let blocks: [Range<usize>; 5] =
-        [3..4, 6..16, 16 + 4 * c..16 + 5 * c, 16 + 21 * c..16 + 23 * c, 16 + 23 * c..64 * c + 1064];
-    blocks.into_iter().flatten().collect()
+    let parts: [Range<usize>; 3] = [3..4, 6..16, 16 + 21 * c..64 * c + 1064];
+    parts.into_iter().flatten().collect()
 }
 
 /// One at a time.
@@ -27,7 +26,7 @@ fn damaged_unused_bytes() {
     }
 }
 
-/// The bytes not in use on this board: rows past the last, marks and costs of numbers not on it, costs past d.
+/// The bytes not in use on this board: rows past the last, marks, blocks and costs of numbers not on it, costs past d.
 fn stale(bytes: &[u8]) -> Vec<usize> {
     let (content, _) = layout::sound(bytes).unwrap();
     let (c, d, n) = (content.c, content.d, content.moves.len());
@@ -37,7 +36,9 @@ fn stale(bytes: &[u8]) -> Vec<usize> {
         let costs = 16 + 5 * c + 16 * number;
         let used = if on_board { 2 * d } else { 0 };
         stale.extend(costs + used..costs + 16);
-        stale.extend(Some(16 + 3 * c + number).filter(|_| !on_board));
+        if !on_board {
+            stale.extend([16 + 3 * c + number, 16 + 4 * c + number]);
+        }
     }
     stale
 }

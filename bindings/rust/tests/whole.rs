@@ -3,7 +3,7 @@ use reference::against::Against;
 use reference::draw::Draw;
 use reference::library;
 use reference::random::{costs, Random, Shape};
-use reference::{Call, COSTS};
+use reference::{Call, Given, COSTS};
 
 fn empty_board(c: usize, d: usize) -> Against {
     let mut against = Against::over(library::ask, &vec![0xFF; 64 * c + 1024]);
@@ -14,8 +14,8 @@ fn empty_board(c: usize, d: usize) -> Against {
 /// Every number entered in any order, with C + 1 rows lent; then every number withdrawn.
 fn fill_and_empty(against: &mut Against, random: &mut Random, c: usize, d: usize, shape: Shape) {
     for number in random.numbers(c, c) {
-        let costs = costs(random, shape, d, 4096, usize::from(number), c);
-        assert_eq!(against.check(&Call::Enter { number, costs }, c + 1).answer.refusal, 0);
+        let (block, costs) = (random.block(), costs(random, shape, d, 4096, usize::from(number), c));
+        assert_eq!(against.check(&Call::Enter(Given { number, block, costs }), c + 1).answer.refusal, 0);
     }
     assert_eq!(against.check(&Call::List, c).answer.refusal, 0);
     for number in random.numbers(c, c) {

@@ -1,12 +1,16 @@
-//! Document 01's worked board, with Card 4's list, through the wrapper.
+//! Document 01's worked board, with Card 4's list and Card 8's blocks, through the wrapper.
 use dolzhev::zorder::{self, Region};
 use dolzhev::Mark::{Entered, Left, Listed};
-use dolzhev::{padded, Board, Mark, Move, Ranked, Refusal, Row, COSTS};
+use dolzhev::{padded, BlockHours, Board, Mark, Move, Ranked, Refusal, Row, Window, BLOCKS, COSTS};
 
 const WORKED: [[u16; 2]; 6] = [[1, 6], [3, 7], [2, 2], [5, 1], [6, 2], [2, 2]];
 
+fn given<const D: usize>(number: u16, costs: [u16; D]) -> Move {
+    Move { number, block: 0, costs: padded(costs) }
+}
+
 fn moves() -> Vec<Move> {
-    WORKED.map(padded).into_iter().zip(0..).map(|(costs, number)| Move { number, costs }).collect()
+    WORKED.into_iter().zip(0..).map(|(costs, number)| given(number, costs)).collect()
 }
 
 fn numbers(rows: &[Row]) -> Vec<u16> {
@@ -63,21 +67,38 @@ fn refusals() {
     assert_eq!(board.load(17, 2, &[]), Err(Refusal::ShortMemory));
     board.load(16, 2, &moves()).unwrap();
     assert_eq!(board.list(&mut rows), Err(Refusal::FewRows { needed: 3 }));
-    assert_eq!(
-        board.enter(Move { number: 5, costs: padded([1, 1]) }, &mut rows),
-        Err(Refusal::NumberTwice { place: None })
-    );
+    assert_eq!(board.enter(given(5, [1, 1]), &mut rows), Err(Refusal::NumberTwice { place: None }));
+    let outside = Move { block: 64, ..given(5, [1, 1]) };
+    assert_eq!(board.enter(outside, &mut rows), Err(Refusal::BlockTooLarge { place: None }));
     assert_eq!(board.withdraw(9, &mut rows), Err(Refusal::NumberAbsent));
-    assert_eq!(
-        board.recost(Move { number: 0, costs: padded([1, 1, 1]) }, &mut rows),
-        Err(Refusal::BadArgument { place: None })
-    );
-    assert_eq!(
-        marked(board.recost(Move { number: 0, costs: padded([0, 0]) }, &mut [Row::default(); 17]).unwrap())[3],
-        (Entered, 0)
-    );
+    assert_eq!(board.recost(given(0, [1, 1, 1]), &mut rows), Err(Refusal::BadArgument { place: None }));
+    assert_eq!(marked(board.recost(given(0, [0, 0]), &mut [Row::default(); 17]).unwrap())[3], (Entered, 0));
     assert_eq!(board.load(16, 2, &[moves()[0], moves()[0]]), Err(Refusal::NumberTwice { place: Some(1) }));
+    assert_eq!(board.load(16, 2, &[moves()[0], outside]), Err(Refusal::BlockTooLarge { place: Some(1) }));
     assert_eq!(numbers(board.list(&mut rows).unwrap().rows), [0]);
+}
+
+/// Each move in the block of its number; the first blocks are open, so many, from Monday 6:00 to 22:00.
+#[test]
+fn hours() {
+    let mut memory = vec![0; Board::bytes(16)];
+    let mut rows = [Row::default(); Board::notice_rows(16)];
+    let mut board = Board::over(&mut memory);
+    board.load(16, 2, &moves().into_iter().map(|x| Move { block: x.number, ..x }).collect::<Vec<_>>()).unwrap();
+    let open = BlockHours::of([Window { start: 360, end: 1320 }]);
+    let mut shown = |minute, hours: &[BlockHours]| board.hours(minute, hours, &mut rows).map(numbers);
+    assert_eq!(shown(360, &[open; BLOCKS]), Ok(vec![2, 0, 3]));
+    assert_eq!(shown(360, &[open; 2]), Ok(vec![0]));
+    assert_eq!(shown(1320, &[open; BLOCKS]), Ok(vec![]));
+    let mut hours = [open; BLOCKS];
+    hours[2] = BlockHours::default();
+    assert_eq!(shown(1319, &hours), Ok(vec![5, 0, 3]));
+    hours[40] = BlockHours::of([Window { start: 9, end: 9 }]);
+    assert_eq!(shown(1319, &hours), Err(Refusal::BadHours { block: 40 }));
+    assert_eq!(shown(10_080, &hours), Err(Refusal::BadArgument { place: None }));
+    let moved = Move { block: 40, ..moves()[3] };
+    assert_eq!(board.recost(moved, &mut []), Ok(&[][..]));
+    assert_eq!(numbers(board.hours(400, &[open; 40], &mut rows).unwrap()), [2, 0]);
 }
 
 /// A board may lie over memory that another one filled.
@@ -86,7 +107,7 @@ fn the_memory_is_the_board() {
     let mut memory = vec![0; Board::bytes(16)];
     let mut rows = [Row::default(); 17];
     Board::over(&mut memory).load(16, 2, &[]).unwrap();
-    let notice = Board::over(&mut memory).enter(Move { number: 3, costs: padded([4, 4]) }, &mut rows).unwrap();
+    let notice = Board::over(&mut memory).enter(given(3, [4, 4]), &mut rows).unwrap();
     assert_eq!(marked(notice), [(Entered, 3)]);
     let mut moved = memory.clone();
     assert_eq!(numbers(Board::over(&mut moved).list(&mut rows).unwrap().rows), [3]);

@@ -3,7 +3,7 @@ use dolzhev::{Board, Mark, Ranked, Refusal, Row};
 use reference::against::Against;
 use reference::draw::Draw;
 use reference::random::Shape;
-use reference::{library, Call, Costs, Move};
+use reference::{library, Call, Costs};
 
 /// A row with its mark as a number, or with the number of moves dominated.
 type Told = (u16, u16, Costs);
@@ -26,9 +26,9 @@ fn ask(board: &mut Board, call: &Call, lent: usize) -> Result<(Vec<Told>, usize)
     let rows = &mut vec![Row::default(); lent][..];
     let rows = match *call {
         Call::Load { c, d, rows: ref moves } => return board.load(c, d, moves).map(|()| (Vec::new(), 0)),
-        Call::Enter { number, costs } => board.enter(Move { number, costs }, rows)?,
+        Call::Enter(given) => board.enter(given, rows)?,
         Call::Withdraw { number } => board.withdraw(number, rows)?,
-        Call::Recost { number, costs } => board.recost(Move { number, costs }, rows)?,
+        Call::Recost(given) => board.recost(given, rows)?,
         Call::List => return board.list(rows).map(|list| (list.rows.iter().map(told).collect(), list.opened)),
         Call::Band(b) => board.band(b, rows)?,
         Call::Rank(t) => {
@@ -37,25 +37,27 @@ fn ask(board: &mut Board, call: &Call, lent: usize) -> Result<(Vec<Told>, usize)
         }
         Call::OnK(k) => board.on_k(k, rows)?,
         Call::Chosen(set) => board.chosen(set, rows)?,
+        Call::Hours { minute, ref hours } => board.hours(minute, hours, rows)?,
     };
     Ok((rows.iter().map(told).collect(), 0))
 }
 
 /// A refusal's number and detail; a place is a load's alone.
 fn numbers(call: &Call, refusal: Refusal) -> (usize, usize) {
-    use Refusal::{BadArgument, FewRows, NumberTooLarge, NumberTwice};
+    use Refusal::{BadArgument, BadHours, BlockTooLarge, FewRows, NumberTooLarge, NumberTwice};
     let detail = match refusal {
-        NumberTooLarge { place } | NumberTwice { place } | BadArgument { place } => {
+        NumberTooLarge { place } | NumberTwice { place } | BadArgument { place } | BlockTooLarge { place } => {
             assert_eq!(place.is_some(), matches!(call, Call::Load { .. }), "{call:?}");
             place.unwrap_or(0)
         }
         FewRows { needed } => needed,
+        BadHours { block } => block,
         _ => 0,
     };
     (refusal.number(), detail)
 }
 
-fn play(draw: &mut Draw, against: &mut Against, memory: &mut [u8], c: usize, seen: &mut [usize; 9]) {
+fn play(draw: &mut Draw, against: &mut Against, memory: &mut [u8], c: usize, seen: &mut [usize; 13]) {
     let call = match &against.model().board {
         Some(board) => draw.call(&board.clone()),
         None => draw.load(c, 2, 9),
@@ -77,7 +79,7 @@ fn play(draw: &mut Draw, against: &mut Against, memory: &mut [u8], c: usize, see
 
 #[test]
 fn board_hands_on_what_the_archive_answers() {
-    let mut seen = [0; 9];
+    let mut seen = [0; 13];
     for (seed, c) in [16, 17, 40].into_iter().enumerate() {
         let mut memory = vec![0; Board::bytes(c)];
         assert_eq!(Board::over(&mut memory).list(&mut []), Err(Refusal::Unsound));
@@ -87,7 +89,7 @@ fn board_hands_on_what_the_archive_answers() {
             play(&mut draw, &mut against, &mut memory, c, &mut seen);
         }
     }
-    for refusal in [0, 1, 2, 4, 5, 6, 7, 8] {
+    for refusal in [0, 1, 2, 4, 5, 6, 7, 8, 11, 12] {
         assert!(seen[refusal] > 20, "the answer {refusal} hardly came up: {seen:?}");
     }
 }

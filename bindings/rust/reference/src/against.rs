@@ -1,8 +1,9 @@
 //! One memory and the model of it: every call is made on the memory and held against what the model foresees.
-use super::board::Foreseen;
+use super::foreseen::Foreseen;
 use super::layout;
 use super::lent::Lent;
 use super::model::Model;
+use super::written::written;
 use crate::{Answer, Call, Row, COSTS};
 
 /// A board's calls, as the library or another program answers them.
@@ -63,8 +64,11 @@ impl Against {
             assert!(self.memory() == before, "{call:?} wrote the memory");
             return;
         };
-        let needed = 64 * after.c + 1024;
-        assert!(self.memory()[needed..] == before[needed..], "{call:?} wrote past what the board needs");
+        let mut others = before.to_vec();
+        for part in written(call, self.model.board.as_ref(), after.c) {
+            others[part.clone()].copy_from_slice(&self.memory()[part]);
+        }
+        assert!(self.memory() == others, "{call:?} wrote a byte that it may not");
         self.model.follow(call, expected);
         self.check_content();
     }
@@ -74,7 +78,7 @@ impl Against {
         let board = self.model.board.as_ref().expect("a change leaves a board");
         let content = layout::content(self.memory()).expect("a change leaves fields in range");
         assert_eq!((content.c, content.d), (board.c, board.d));
-        assert!(content.moves == board.moves, "the moves in memory differ");
+        assert!(content.given() == board.given(), "the moves or blocks in memory differ");
         assert!(content.listed == board.list, "the kept list differs");
         assert!(content.tree() == Some(self.model.tree.clone()), "the tree in memory differs");
     }

@@ -1,50 +1,28 @@
 //! Document 01's plain board: the moves in Z-order and, after every change, the list worked out afresh by all pairs.
 use super::address::{costs_past, key};
+use super::foreseen::Foreseen;
+use super::hours;
 use super::lists::{band, chosen, on_k, rank, row, skyline};
-use crate::{Answer, Call, Costs, Move, Row, COSTS};
+use crate::{BlockHours, Call, Costs, Given, Move, Row, BLOCKS, COSTS};
 
 #[derive(Clone, Debug, PartialEq, Eq)]
 pub struct PlainBoard {
     pub c: usize,
     pub d: usize,
     pub moves: Vec<Move>,
+    /// By number, 0 where there is no move.
+    pub blocks: Vec<u16>,
     pub list: Vec<Move>,
 }
 
-/// What a call answers, given rows enough; `after` is the board where the call changes it.
-#[derive(Clone, Debug)]
-pub struct Foreseen {
-    pub answer: Answer,
-    pub rows: Vec<Row>,
-    pub after: Option<PlainBoard>,
-}
-
-impl Foreseen {
-    pub fn refused(refusal: usize, detail: usize) -> Self {
-        Foreseen { answer: Answer { refusal, detail, ..Answer::default() }, rows: Vec::new(), after: None }
-    }
-
-    pub fn accepted(rows: Vec<Row>, after: Option<PlainBoard>) -> Self {
-        Foreseen { answer: Answer { count: rows.len(), ..Answer::default() }, rows, after }
-    }
-
-    /// The same with that many rows lent.
-    pub fn with_rows(self, lent: usize) -> Self {
-        match self.rows.len() {
-            need if need > lent => Foreseen::refused(8, need),
-            _ => self,
-        }
-    }
-}
-
-/// What turns one row of a load down.
-fn row_refusal(c: usize, d: usize, seen: &[bool], x: &Move) -> usize {
-    if usize::from(x.number) >= c {
+/// What turns a given move down, whatever other moves there are; 0 where nothing does.
+pub fn given_refusal(c: usize, d: usize, given: &Given) -> usize {
+    if usize::from(given.number) >= c {
         4
-    } else if costs_past(d, &x.costs) {
+    } else if usize::from(given.block) >= BLOCKS {
+        11
+    } else if costs_past(d, &given.costs) {
         7
-    } else if seen[usize::from(x.number)] {
-        5
     } else {
         0
     }
@@ -71,7 +49,7 @@ fn listed(moves: Vec<Move>) -> Vec<Row> {
 }
 
 /// What a load answers, for memory of that many bytes.
-pub fn foresee_load(bytes: usize, c: usize, d: usize, rows: &[Move]) -> Foreseen {
+pub fn foresee_load(bytes: usize, c: usize, d: usize, rows: &[Given]) -> Foreseen {
     if !(16..=4096).contains(&c) || !(2..=COSTS).contains(&d) {
         return Foreseen::refused(2, 0);
     }
@@ -79,88 +57,113 @@ pub fn foresee_load(bytes: usize, c: usize, d: usize, rows: &[Move]) -> Foreseen
         return Foreseen::refused(1, 0);
     }
     let mut seen = vec![false; c];
-    for (place, x) in rows.iter().enumerate() {
-        let refusal = row_refusal(c, d, &seen, x);
+    for (place, given) in rows.iter().enumerate() {
+        let refusal = given_refusal(c, d, given);
         if refusal != 0 {
             return Foreseen::refused(refusal, place);
         }
-        seen[usize::from(x.number)] = true;
+        if std::mem::replace(&mut seen[usize::from(given.number)], true) {
+            return Foreseen::refused(5, place);
+        }
     }
-    Foreseen::accepted(Vec::new(), Some(PlainBoard::new(c, d, rows.to_vec())))
+    Foreseen::accepted(Vec::new(), Some(PlainBoard::new(c, d, rows)))
 }
 
 impl PlainBoard {
-    pub fn new(c: usize, d: usize, mut moves: Vec<Move>) -> Self {
+    pub fn new(c: usize, d: usize, rows: &[Given]) -> Self {
+        let mut moves: Vec<Move> = rows.iter().map(|&given| given.into()).collect();
         moves.sort_by_cached_key(|x| key(d, x));
-        PlainBoard { c, d, list: skyline(d, &moves), moves }
+        let mut blocks = vec![0; c];
+        for given in rows {
+            blocks[usize::from(given.number)] = given.block;
+        }
+        PlainBoard { c, d, list: skyline(d, &moves), moves, blocks }
+    }
+
+    pub fn block_of(&self, x: &Move) -> u16 {
+        self.blocks[usize::from(x.number)]
+    }
+
+    /// The moves in Z-order, as a load would be given them.
+    pub fn given(&self) -> Vec<Given> {
+        self.moves.iter().map(|x| x.in_block(self.block_of(x))).collect()
     }
 
     pub fn find(&self, number: u16) -> Option<&Move> {
         self.moves.iter().find(|x| x.number == number)
     }
 
-    fn change_refusal(&self, number: u16, costs: Costs, wants_it: bool) -> usize {
-        if usize::from(number) >= self.c {
-            4
-        } else if costs_past(self.d, &costs) {
-            7
-        } else {
-            match (self.find(number).is_some(), wants_it) {
-                (true, false) => 5,
-                (false, true) => 6,
-                _ => 0,
-            }
+    pub fn costs_of(&self, number: u16) -> Option<Costs> {
+        self.find(number).map(|x| x.costs)
+    }
+
+    fn change_refusal(&self, given: Given, wants_it: bool) -> usize {
+        match (given_refusal(self.c, self.d, &given), self.find(given.number).is_some(), wants_it) {
+            (0, true, false) => 5,
+            (0, false, true) => 6,
+            (refusal, _, _) => refusal,
         }
     }
 
-    /// What turns a call other than load down, but for 3 and 8.
-    fn refusal(&self, call: &Call) -> usize {
+    /// What turns a call other than load down, and its detail, but for 3 and 8; zeros where nothing does.
+    fn refusal(&self, call: &Call) -> (usize, usize) {
         let outside = |fits: bool| if fits { 0 } else { 7 };
-        match *call {
+        let refusal = match *call {
             Call::Load { .. } | Call::List => 0,
-            Call::Enter { number, costs } => self.change_refusal(number, costs, false),
-            Call::Withdraw { number } => self.change_refusal(number, [0; COSTS], true),
-            Call::Recost { number, costs } => self.change_refusal(number, costs, true),
+            Call::Enter(given) => self.change_refusal(given, false),
+            Call::Withdraw { number } => self.change_refusal(Given { number, ..Given::default() }, true),
+            Call::Recost(given) => self.change_refusal(given, true),
             Call::Band(b) => outside(b <= 4095),
             Call::Rank(t) => outside((1..=4096).contains(&t)),
             Call::OnK(k) => outside((1..=self.d).contains(&k)),
             Call::Chosen(set) => outside(set != 0 && set < 1 << self.d),
-        }
+            Call::Hours { minute, ref hours } => return hours::refusal(minute, hours),
+        };
+        (refusal, 0)
     }
 
-    /// The moves without one number, and with a move where one comes.
-    fn replaced(&self, number: u16, coming: Option<Costs>) -> PlainBoard {
-        let mut moves = self.moves.clone();
-        moves.retain(|x| x.number != number);
-        if let Some(costs) = coming {
-            let x = Move { number, costs };
-            let place = moves.partition_point(|y| key(self.d, y) < key(self.d, &x));
-            moves.insert(place, x);
+    /// The board without one number, and with a move where one comes.
+    fn replaced(&self, number: u16, coming: Option<Given>) -> PlainBoard {
+        let mut after = self.clone();
+        after.moves.retain(|x| x.number != number);
+        after.blocks[usize::from(number)] = coming.map_or(0, |given| given.block);
+        if let Some(given) = coming {
+            let x = Move::from(given);
+            let place = after.moves.partition_point(|y| key(self.d, y) < key(self.d, &x));
+            after.moves.insert(place, x);
         }
-        PlainBoard { c: self.c, d: self.d, list: skyline(self.d, &moves), moves }
+        after.list = skyline(self.d, &after.moves);
+        after
     }
 
-    fn foresee_change(&self, number: u16, coming: Option<Costs>) -> Foreseen {
+    fn foresee_change(&self, number: u16, coming: Option<Given>) -> Foreseen {
         let after = self.replaced(number, coming);
         Foreseen::accepted(notice(self.c, &self.list, &after.list), Some(after))
     }
 
+    /// The moves in the blocks that are open at a minute.
+    fn open(&self, minute: usize, hours: &[BlockHours]) -> Vec<Move> {
+        let open = |x: &&Move| hours::open(minute, hours, self.block_of(x).into());
+        self.moves.iter().filter(open).copied().collect()
+    }
+
     /// What a call other than load answers.
     pub fn foresee(&self, call: &Call) -> Foreseen {
-        let refusal = self.refusal(call);
+        let (refusal, detail) = self.refusal(call);
         if refusal != 0 {
-            return Foreseen::refused(refusal, 0);
+            return Foreseen::refused(refusal, detail);
         }
         let told = |rows| Foreseen::accepted(rows, None);
         match *call {
             Call::Load { .. } => unreachable!("a load does not depend on the board"),
-            Call::Enter { number, costs } | Call::Recost { number, costs } => self.foresee_change(number, Some(costs)),
+            Call::Enter(given) | Call::Recost(given) => self.foresee_change(given.number, Some(given)),
             Call::Withdraw { number } => self.foresee_change(number, None),
             Call::List => told(listed(skyline(self.d, &self.moves))),
             Call::Band(b) => told(listed(band(self.d, &self.moves, b))),
             Call::Rank(t) => told(rank(self.d, &self.moves, t)),
             Call::OnK(k) => told(listed(on_k(self.d, &self.moves, k))),
             Call::Chosen(set) => told(listed(chosen(self.d, &self.moves, set))),
+            Call::Hours { minute, ref hours } => told(listed(skyline(self.d, &self.open(minute, hours)))),
         }
     }
 }

@@ -1,15 +1,16 @@
 //! A call as a value: drawn, made, foreseen and compared.
-use crate::{Costs, Move};
+use crate::{BlockHours, Given};
 
 #[derive(Clone, Debug, PartialEq, Eq)]
 pub enum Call {
-    Load { c: usize, d: usize, rows: Vec<Move> },
-    Enter { number: u16, costs: Costs },
+    Load { c: usize, d: usize, rows: Vec<Given> },
+    Enter(Given),
     Withdraw { number: u16 },
-    Recost { number: u16, costs: Costs },
+    Recost(Given),
     List,
     Band(usize),
     Rank(usize),
     OnK(usize),
     Chosen(usize),
+    Hours { minute: usize, hours: Vec<BlockHours> },
 }

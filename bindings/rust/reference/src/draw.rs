@@ -1,7 +1,11 @@
 //! Calls drawn at random for a board as it stands: most can be accepted, each refusal comes up.
 use super::board::PlainBoard;
+use super::drawn_hours;
 use super::random::{costs, moves, Random, Shape};
-use crate::{Call, Costs, COSTS};
+use crate::{Call, Costs, Given, BLOCKS, COSTS};
+
+/// Blocks that the yard does not have; of one the lower byte would do.
+const NO_BLOCKS: [u16; 4] = [BLOCKS as u16, 255, 256, u16::MAX];
 
 pub struct Draw {
     pub random: Random,
@@ -24,6 +28,14 @@ impl Draw {
             drawn[2 + self.random.below(COSTS - 2)] = 1 + self.random.below(9) as u16;
         }
         drawn
+    }
+
+    fn block(&mut self) -> u16 {
+        if self.random.percent(4) {
+            self.random.one_of(&NO_BLOCKS)
+        } else {
+            self.random.block()
+        }
     }
 
     /// A number on the board, if there is one.
@@ -58,16 +70,21 @@ impl Draw {
     pub fn change(&mut self, board: &PlainBoard) -> Call {
         if self.random.percent(self.growth) {
             let number = self.number(board, false);
-            return Call::Enter { number, costs: self.costs(board, number) };
+            return Call::Enter(Given { number, block: self.block(), costs: self.costs(board, number) });
         }
         let number = self.number(board, true);
         if self.random.percent(50) {
             return Call::Withdraw { number };
         }
-        let held = board.find(number).map(|x| x.costs);
-        let drawn = self.costs(board, number);
-        let costs = held.filter(|_| self.random.percent(5)).unwrap_or(drawn);
-        Call::Recost { number, costs }
+        let held = board.find(number).copied();
+        let (mut block, mut costs) = (self.block(), self.costs(board, number));
+        if let Some(x) = held.filter(|_| self.random.percent(10)) {
+            costs = x.costs;
+        }
+        if let Some(x) = held.filter(|_| self.random.percent(40)) {
+            block = board.block_of(&x);
+        }
+        Call::Recost(Given { number, block, costs })
     }
 
     /// A set of costs, most of them one that d costs have.
@@ -83,12 +100,13 @@ impl Draw {
 
     pub fn query(&mut self, board: &PlainBoard) -> Call {
         let n = board.moves.len();
-        match self.random.below(6) {
+        match self.random.below(8) {
             0 | 1 => Call::List,
             2 => Call::Band(self.random.one_of(&[0, 1, 2, 5, n, 4095, 4096, usize::MAX])),
             3 => Call::Rank(self.random.one_of(&[0, 1, 2, 7, n, 4096, 4097, usize::MAX])),
             4 => Call::OnK(self.random.below(board.d + 2)),
-            _ => Call::Chosen(self.set(board.d)),
+            5 => Call::Chosen(self.set(board.d)),
+            _ => drawn_hours::call(&mut self.random),
         }
     }
 
@@ -98,12 +116,13 @@ impl Draw {
         let n = 1 + self.random.below(board.c);
         let mut rows = moves(&mut self.random, self.shape, d, self.span, c, n);
         let place = self.random.below(n);
-        match self.random.below(6) {
+        match self.random.below(7) {
             0 => c = self.random.one_of(&[0, 15, 4097, usize::MAX]),
             1 => d = self.random.one_of(&[0, 1, COSTS + 1, usize::MAX]),
             2 => rows[place].number = c as u16,
             3 => rows.push(rows[place]),
-            4 if d < COSTS => rows[place].costs[d + self.random.below(COSTS - d)] = 1,
+            4 => rows[place].block = self.random.one_of(&NO_BLOCKS),
+            5 if d < COSTS => rows[place].costs[d + self.random.below(COSTS - d)] = 1,
             _ => c = self.size + 1,
         }
         Call::Load { c, d, rows }

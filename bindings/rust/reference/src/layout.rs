@@ -3,7 +3,7 @@
 use super::address::key;
 use super::lists::skyline;
 use super::node::{Node, LEAST_ENTRIES, MOST_ENTRIES};
-use crate::{Move, COSTS};
+use crate::{Given, Move, BLOCKS, COSTS};
 
 /// What the bytes in use say, judged only as far as reading needs it.
 #[derive(Clone, Debug)]
@@ -12,11 +12,18 @@ pub struct Content {
     pub d: usize,
     pub moves: Vec<Move>,
     pub heights: Vec<u8>,
+    /// Of each move, in the same order.
+    pub blocks: Vec<u8>,
     pub listed: Vec<Move>,
 }
 
 fn word(bytes: &[u8], at: usize) -> u16 {
     u16::from_le_bytes([bytes[at], bytes[at + 1]])
+}
+
+/// Where the blocks of a board of size c start, a byte for each number.
+pub fn blocks(c: usize) -> usize {
+    16 + 4 * c
 }
 
 fn stored_move(bytes: &[u8], c: usize, d: usize, number: u16) -> Move {
@@ -43,7 +50,8 @@ pub fn content(bytes: &[u8]) -> Option<Content> {
     let moves: Vec<Move> = numbers.iter().map(|&number| stored_move(bytes, c, d, number)).collect();
     let marked = |x: &&Move| bytes[16 + 3 * c + usize::from(x.number)] == 1;
     let listed = moves.iter().filter(marked).copied().collect();
-    Some(Content { c, d, heights: bytes[16 + 2 * c..][..n].to_vec(), moves, listed })
+    let blocks = moves.iter().map(|x| bytes[blocks(c) + usize::from(x.number)]).collect();
+    Some(Content { c, d, heights: bytes[16 + 2 * c..][..n].to_vec(), moves, blocks, listed })
 }
 
 /// Where the entries of a node at a level start, counted from its first place: every move of a leaf, and in an upper node
@@ -68,6 +76,11 @@ fn node(level: u8, least: usize, moves: &[Move], heights: &[u8]) -> Option<Node>
 }
 
 impl Content {
+    /// The moves as a load would be given them.
+    pub fn given(&self) -> Vec<Given> {
+        self.moves.iter().zip(&self.blocks).map(|(x, &block)| x.in_block(block.into())).collect()
+    }
+
     /// The tree that the heights make, or none where they make none; within, none stands for the empty board.
     pub fn tree(&self) -> Option<Option<Node>> {
         let Some((&top, others)) = self.heights.split_first() else {
@@ -93,6 +106,7 @@ impl Content {
 pub fn sound(bytes: &[u8]) -> Option<(Content, Option<Node>)> {
     let content = content(bytes)?;
     let tree = content.tree()?;
-    let stands = content.in_order() && content.listed == skyline(content.d, &content.moves);
+    let in_yard = content.blocks.iter().all(|&block| usize::from(block) < BLOCKS);
+    let stands = in_yard && content.in_order() && content.listed == skyline(content.d, &content.moves);
     stands.then_some((content, tree))
 }

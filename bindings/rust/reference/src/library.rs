@@ -1,18 +1,19 @@
 //! The library, asked by a value: the one file here that calls it.
-use crate::{Answer, Call, Move, Row};
+use crate::{Answer, Call, Row};
 use dolzhev_sys as raw;
 
 /// The call that a value names. Load is lent no rows.
 pub fn ask(memory: &mut [u8], call: &Call, rows: &mut [Row]) -> Answer {
     match *call {
         Call::Load { c, d, rows: ref loaded } => raw::load(memory, c, d, loaded),
-        Call::Enter { number, costs } => raw::enter(memory, Move { number, costs }, rows),
+        Call::Enter(given) => raw::enter(memory, given, rows),
         Call::Withdraw { number } => raw::withdraw(memory, number, rows),
-        Call::Recost { number, costs } => raw::recost(memory, Move { number, costs }, rows),
+        Call::Recost(given) => raw::recost(memory, given, rows),
         Call::List => raw::list(memory, rows),
         Call::Band(b) => raw::band(memory, b, rows),
         Call::Rank(t) => raw::rank(memory, t, rows),
         Call::OnK(k) => raw::on_k(memory, k, rows),
         Call::Chosen(set) => raw::chosen(memory, set, rows),
+        Call::Hours { minute, ref hours } => raw::hours(memory, minute, hours, rows),
     }
 }

@@ -1,11 +1,12 @@
 //! The plain board with document 01's tree beside it.
-use super::board::{foresee_load, Foreseen, PlainBoard};
+use super::board::{foresee_load, PlainBoard};
 use super::entering::enter;
+use super::foreseen::Foreseen;
 use super::layout;
 use super::loading::load;
 use super::node::Node;
 use super::withdrawing::{recost, withdraw};
-use crate::{Call, Costs, Move};
+use crate::{Call, Costs, Given, Move};
 
 /// `board` is none until a load is accepted.
 #[derive(Clone, Debug, Default)]
@@ -20,8 +21,7 @@ impl Model {
         let Some((content, tree)) = layout::sound(bytes) else {
             return Model::default();
         };
-        let moves = tree.as_ref().map_or(Vec::new(), Node::moves);
-        Model { board: Some(PlainBoard::new(content.c, content.d, moves)), tree }
+        Model { board: Some(PlainBoard::new(content.c, content.d, &content.given())), tree }
     }
 
     /// What a call answers on memory of that many bytes, given rows enough.
@@ -46,9 +46,9 @@ impl Model {
         };
         self.tree = match *call {
             Call::Load { .. } => load(&after.moves),
-            Call::Enter { number, costs } => Some(enter(after.d, self.tree.take(), &Move { number, costs })),
+            Call::Enter(given) => Some(enter(after.d, self.tree.take(), &given.into())),
             Call::Withdraw { number } => self.without(number),
-            Call::Recost { number, costs } => self.recosted(number, costs),
+            Call::Recost(Given { number, costs, .. }) => self.recosted(number, costs),
             _ => unreachable!("a list call changes nothing"),
         };
         self.board = Some(after.clone());

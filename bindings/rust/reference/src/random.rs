@@ -1,5 +1,5 @@
 //! Numbers that look random and are the same on every run, and boards made of them.
-use crate::{Costs, Move, COSTS};
+use crate::{Costs, Given, BLOCKS, COSTS};
 
 /// Steele, Lea and Flood's SplitMix64.
 pub struct Random(u64);
@@ -32,6 +32,10 @@ impl Random {
         for byte in bytes {
             *byte = self.word() as u8;
         }
+    }
+
+    pub fn block(&mut self) -> u16 {
+        self.below(BLOCKS) as u16
     }
 
     /// n different numbers below c.
@@ -79,8 +83,12 @@ pub fn costs(random: &mut Random, shape: Shape, d: usize, span: usize, number: u
     costs
 }
 
-pub fn moves(random: &mut Random, shape: Shape, d: usize, span: usize, c: usize, n: usize) -> Vec<Move> {
+/// n moves of a board of size c, in any blocks.
+pub fn moves(random: &mut Random, shape: Shape, d: usize, span: usize, c: usize, n: usize) -> Vec<Given> {
     let numbers = random.numbers(c, n);
-    let row = |number: u16| Move { number, costs: costs(random, shape, d, span, usize::from(number), c) };
+    let row = |number: u16| {
+        let costs = costs(random, shape, d, span, usize::from(number), c);
+        Given { number, block: random.block(), costs }
+    };
     numbers.into_iter().map(row).collect()
 }

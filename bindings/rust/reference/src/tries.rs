@@ -1,9 +1,10 @@
 //! Every call tried on bytes that may hold a board or not, and boards to damage.
 use super::against::{Against, Ask};
 use super::draw::Draw;
+use super::drawn_hours;
 use super::layout;
 use super::random::{Random, Shape};
-use crate::Call;
+use crate::{Call, Given};
 
 /// How many memories were sound and how many were not.
 #[derive(Debug, Default)]
@@ -24,14 +25,15 @@ fn each_call(random: &mut Random, d: usize) -> Vec<Call> {
     let number = random.below(20) as u16;
     let costs = std::array::from_fn(|i| if i < d { random.below(8) as u16 } else { 0 });
     vec![
-        Call::Enter { number, costs },
+        Call::Enter(Given { number, block: random.block(), costs }),
         Call::Withdraw { number },
-        Call::Recost { number, costs },
+        Call::Recost(Given { number, block: random.block(), costs }),
         Call::List,
         Call::Band(random.below(4)),
         Call::Rank(1 + random.below(8)),
         Call::OnK(1 + random.below(d + 1)),
         Call::Chosen(1 + random.below(1 << d)),
+        drawn_hours::call(random),
     ]
 }
 

@@ -1,5 +1,6 @@
 //! The board's calls as safe functions. A slice of Rust is what the calls ask of a pointer and a length: not null, aligned
 //! and, where one of two is written, apart from the other.
+use crate::hours::BlockHours;
 use crate::raw;
 use crate::types::{Answer, Move, Row};
 
@@ -8,7 +9,7 @@ pub fn load(memory: &mut [u8], c: usize, d: usize, rows: &[Move]) -> Answer {
     unsafe { raw::dolzhev_load(memory.as_mut_ptr(), memory.len(), c, d, rows.as_ptr(), rows.len()) }
 }
 
-/// Adds a move; tells the notice.
+/// Adds a move, in its block; tells the notice.
 pub fn enter(memory: &mut [u8], x: Move, rows: &mut [Row]) -> Answer {
     unsafe { raw::dolzhev_enter(memory.as_mut_ptr(), memory.len(), x, rows.as_mut_ptr(), rows.len()) }
 }
@@ -18,7 +19,7 @@ pub fn withdraw(memory: &mut [u8], number: u16, rows: &mut [Row]) -> Answer {
     unsafe { raw::dolzhev_withdraw(memory.as_mut_ptr(), memory.len(), number, rows.as_mut_ptr(), rows.len()) }
 }
 
-/// Gives the move of that number new costs; tells the notice.
+/// Gives the move of that number the costs and the block; tells the notice.
 pub fn recost(memory: &mut [u8], x: Move, rows: &mut [Row]) -> Answer {
     unsafe { raw::dolzhev_recost(memory.as_mut_ptr(), memory.len(), x, rows.as_mut_ptr(), rows.len()) }
 }
@@ -46,4 +47,10 @@ pub fn on_k(memory: &[u8], k: usize, rows: &mut [Row]) -> Answer {
 /// The moves that no move dominates on the chosen costs, bit i of the set standing for cost i.
 pub fn chosen(memory: &[u8], set: usize, rows: &mut [Row]) -> Answer {
     unsafe { raw::dolzhev_chosen(memory.as_ptr(), memory.len(), set, rows.as_mut_ptr(), rows.len()) }
+}
+
+/// The list over the moves in the blocks that are open at a minute of the week, entry k being block k's.
+pub fn hours(memory: &[u8], minute: usize, hours: &[BlockHours], rows: &mut [Row]) -> Answer {
+    let (entries, len) = (hours.as_ptr(), hours.len());
+    unsafe { raw::dolzhev_hours(memory.as_ptr(), memory.len(), minute, entries, len, rows.as_mut_ptr(), rows.len()) }
 }

@@ -3,10 +3,12 @@
 //! tests use this one too, to see every number that is answered.
 #![deny(missing_docs)]
 mod calls;
+mod hours;
 mod raw;
 mod types;
 mod zorder;
 
-pub use calls::{band, chosen, enter, list, load, on_k, rank, recost, withdraw};
+pub use calls::{band, chosen, enter, hours, list, load, on_k, rank, recost, withdraw};
+pub use hours::{BlockHours, Window, BLOCKS, WEEK_MINUTES, WINDOWS};
 pub use types::{AddressAnswer, AddressWords, Answer, Costs, CostsAnswer, Move, RegionAnswer, Row, COSTS};
 pub use zorder::{address, costs_of, region};

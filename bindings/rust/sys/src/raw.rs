@@ -1,4 +1,5 @@
 //! The exported functions, as `include/dolzhev.h` and `include/dolzhev_zorder.h` declare them.
+use crate::hours::BlockHours;
 use crate::types::{AddressAnswer, AddressWords, Answer, Costs, CostsAnswer, Move, RegionAnswer, Row};
 
 /// C passes an array by value in a struct only.
@@ -19,6 +20,8 @@ extern "C" {
     pub fn dolzhev_rank(memory: *const u8, memory_len: usize, t: usize, rows: *mut Row, rows_len: usize) -> Answer;
     pub fn dolzhev_on_k(memory: *const u8, memory_len: usize, k: usize, rows: *mut Row, rows_len: usize) -> Answer;
     pub fn dolzhev_chosen(memory: *const u8, memory_len: usize, set: usize, rows: *mut Row, rows_len: usize) -> Answer;
+    pub fn dolzhev_hours(memory: *const u8, memory_len: usize, minute: usize, hours: *const BlockHours, hours_len: usize,
+                         rows: *mut Row, rows_len: usize) -> Answer;
     pub fn dolzhev_address(d: usize, costs: ByValue) -> AddressAnswer;
     pub fn dolzhev_costs_of(d: usize, address: AddressWords) -> CostsAnswer;
     pub fn dolzhev_region(d: usize, a: AddressWords, b: AddressWords) -> RegionAnswer;

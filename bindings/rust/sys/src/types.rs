@@ -28,17 +28,19 @@ impl From<AddressWords> for u128 {
     }
 }
 
-/// A move: a number below the board's size, and its costs.
+/// A move: a number below the board's size, its yard block, and its costs.
 #[repr(C)]
 #[derive(Clone, Copy, Debug, Default, PartialEq, Eq)]
 pub struct Move {
     /// From 0 to C - 1.
     pub number: u16,
+    /// From 0 to 63.
+    pub block: u16,
     /// Those past d zero.
     pub costs: Costs,
 }
 
-/// A row told.
+/// A row told, without the block.
 #[repr(C)]
 #[derive(Clone, Copy, Debug, Default, PartialEq, Eq)]
 pub struct Row {
@@ -56,7 +58,8 @@ pub struct Row {
 pub struct Answer {
     /// 0 where the call is accepted.
     pub refusal: usize,
-    /// Of 8 the rows needed; of a load's 4, 5 and 7 the place of the first row that fails; else 0.
+    /// Of 8 the rows needed; of a load's 4, 5, 7 and 11 the place of the first row that fails; of 12 the lowest block with
+    /// bad hours; else 0.
     pub detail: usize,
     /// The rows told.
     pub count: usize,

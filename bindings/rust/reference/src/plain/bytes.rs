@@ -96,6 +96,14 @@ impl Head {
         m[self.field(3) + usize::from(number)] = listed.into();
     }
 
+    pub fn block(self, m: &[u8], number: u16) -> u8 {
+        m[self.field(4) + usize::from(number)]
+    }
+
+    pub fn set_block(self, m: &mut [u8], number: u16, block: u16) {
+        m[self.field(4) + usize::from(number)] = block as u8;
+    }
+
     /// All costs of a row as they are stored: those past d are any.
     pub fn stored(self, m: &[u8], number: u16) -> Costs {
         let at = self.field(5) + 16 * usize::from(number);

@@ -5,12 +5,13 @@ use super::tell::{set_marks, tell};
 use super::upkeep::{upkeep_of, Change};
 use super::withdraw::withdraw_row;
 use super::{refused, told};
-use crate::address::costs_past;
-use crate::{Answer, Costs, Move, Row};
+use crate::board::given_refusal;
+use crate::{Answer, Given, Move, Row};
 
 /// The notice told, the marks set, and then the rows changed.
-fn make(m: &mut [u8], head: Head, goes: Option<usize>, comes: Option<Move>, rows: &mut [Row]) -> Answer {
-    let change = Change { goes, comes: comes.map(|x| (place_for(m, head, &x), x)) };
+fn make(m: &mut [u8], head: Head, goes: Option<usize>, comes: Option<Given>, rows: &mut [Row]) -> Answer {
+    let coming = comes.map(Move::from);
+    let change = Change { goes, comes: coming.map(|x| (place_for(m, head, &x), x)) };
     let upkeep = upkeep_of(m, head, &change);
     if rows.len() < upkeep.need {
         return refused(8, upkeep.need);
@@ -22,27 +23,26 @@ fn make(m: &mut [u8], head: Head, goes: Option<usize>, comes: Option<Move>, rows
         withdraw_row(m, left, place);
         left = left.with_moves(left.n - 1);
     }
-    if let Some(x) = comes {
-        head.set_listed(m, x.number, upkeep.listed);
-        head.set_costs(m, x.number, x.costs);
-        enter_row(m, left, &x);
+    if let Some(given) = comes {
+        head.set_listed(m, given.number, upkeep.listed);
+        head.set_costs(m, given.number, given.costs);
+        head.set_block(m, given.number, given.block);
+        enter_row(m, left, &given.into());
         left = left.with_moves(left.n + 1);
     }
     left.write(m);
     told(upkeep.need)
 }
 
-pub fn enter(m: &mut [u8], head: Head, number: u16, costs: Costs, rows: &mut [Row]) -> Answer {
-    if number >= head.c {
-        return refused(4, 0);
+pub fn enter(m: &mut [u8], head: Head, given: Given, rows: &mut [Row]) -> Answer {
+    let refusal = given_refusal(head.c.into(), head.d, &given);
+    if refusal != 0 {
+        return refused(refusal, 0);
     }
-    if costs_past(head.d, &costs) {
-        return refused(7, 0);
-    }
-    if head.place_of(m, number).is_some() {
+    if head.place_of(m, given.number).is_some() {
         return refused(5, 0);
     }
-    make(m, head, None, Some(Move { number, costs }), rows)
+    make(m, head, None, Some(given), rows)
 }
 
 pub fn withdraw(m: &mut [u8], head: Head, number: u16, rows: &mut [Row]) -> Answer {
@@ -55,16 +55,18 @@ pub fn withdraw(m: &mut [u8], head: Head, number: u16, rows: &mut [Row]) -> Answ
     }
 }
 
-pub fn recost(m: &mut [u8], head: Head, number: u16, costs: Costs, rows: &mut [Row]) -> Answer {
-    if number >= head.c {
-        return refused(4, 0);
+/// With equal costs the block alone changes.
+pub fn recost(m: &mut [u8], head: Head, given: Given, rows: &mut [Row]) -> Answer {
+    let refusal = given_refusal(head.c.into(), head.d, &given);
+    if refusal != 0 {
+        return refused(refusal, 0);
     }
-    if costs_past(head.d, &costs) {
-        return refused(7, 0);
-    }
-    match head.place_of(m, number) {
+    match head.place_of(m, given.number) {
         None => refused(6, 0),
-        _ if head.costs(m, number) == costs => told(0),
-        goes => make(m, head, goes, Some(Move { number, costs }), rows),
+        _ if head.costs(m, given.number) == given.costs => {
+            head.set_block(m, given.number, given.block);
+            told(0)
+        }
+        goes => make(m, head, goes, Some(given), rows),
     }
 }

@@ -1,24 +1,20 @@
 //! The marks, from the first place on: a move is hidden if a listed one before it is nowhere greater.
-use super::bytes::{limits, Head};
+use super::bytes::Head;
 use super::search::{Listed, Search};
 
 struct Marking {
     search: Search<Listed>,
-    /// The place of the last hider found, which is tried first.
+    /// The place of the last hider found.
     last: usize,
 }
 
 impl Marking {
     fn new() -> Marking {
-        Marking { search: Search::empty(), last: 0 }
+        Marking { search: Search::empty(Listed), last: 0 }
     }
 
     fn is_hidden(&mut self, m: &[u8], head: Head, place: usize) -> bool {
-        let q = limits(&head.used, &head.costs_at(m, place));
-        if self.last < place && Search::<Listed>::fits(m, head, head.number(m, self.last), &q) {
-            return true;
-        }
-        let hider = self.search.first(m, head, 0..place, &q);
+        let hider = self.search.hider(m, head, place, self.last);
         self.last = hider.unwrap_or(self.last);
         hider.is_some()
     }

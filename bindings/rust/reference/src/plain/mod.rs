@@ -4,6 +4,7 @@ mod beats;
 mod bytes;
 mod change;
 mod enter;
+mod hours;
 mod lists;
 mod load;
 mod marks;
@@ -35,13 +36,14 @@ pub fn ask(memory: &mut [u8], call: &Call, rows: &mut [Row]) -> Answer {
     };
     match *call {
         Call::Load { .. } => unreachable!("answered above"),
-        Call::Enter { number, costs } => change::enter(memory, head, number, costs, rows),
+        Call::Enter(given) => change::enter(memory, head, given, rows),
         Call::Withdraw { number } => change::withdraw(memory, head, number, rows),
-        Call::Recost { number, costs } => change::recost(memory, head, number, costs, rows),
+        Call::Recost(given) => change::recost(memory, head, given, rows),
         Call::List => lists::list(memory, head, rows),
         Call::Band(b) => lists::band(memory, head, b, rows),
         Call::Rank(t) => lists::rank(memory, head, t, rows),
         Call::OnK(k) => lists::on_k(memory, head, k, rows),
         Call::Chosen(set) => lists::chosen(memory, head, set, rows),
+        Call::Hours { minute, ref hours } => hours::hours(memory, head, minute, hours, rows),
     }
 }

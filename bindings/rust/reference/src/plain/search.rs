@@ -1,48 +1,59 @@
 //! The search that the calls share. The places stand in runs of 64, each with the least costs of its moves: a run whose least
 //! costs exceed the limits has no move within them.
 use super::beats::{exceeds, least};
-use super::bytes::Head;
+use super::bytes::{limits, Head};
 use crate::{Costs, COSTS};
 use std::iter::successors;
-use std::marker::PhantomData;
 use std::ops::Range;
 
 const RUN: usize = 64;
 
 /// Which moves a search looks at.
-pub trait Among {
-    fn looks(listed: bool) -> bool;
+pub trait Among: Copy {
+    fn looks(self, m: &[u8], head: Head, number: u16) -> bool;
 
     /// The costs that it goes by.
-    fn costs(stored: Costs) -> Costs {
+    fn costs(self, stored: Costs) -> Costs {
         stored
     }
 }
 
+#[derive(Clone, Copy)]
 pub struct All;
+#[derive(Clone, Copy)]
 pub struct Listed;
 /// By turned costs: the search then finds the moves that are nowhere below.
+#[derive(Clone, Copy)]
 pub struct Hidden;
+/// Bit k stands for block k.
+#[derive(Clone, Copy)]
+pub struct InBlocks(pub u64);
 
 impl Among for All {
-    fn looks(_: bool) -> bool {
+    fn looks(self, _: &[u8], _: Head, _: u16) -> bool {
         true
     }
 }
 
 impl Among for Listed {
-    fn looks(listed: bool) -> bool {
-        listed
+    fn looks(self, m: &[u8], head: Head, number: u16) -> bool {
+        head.listed(m, number)
     }
 }
 
 impl Among for Hidden {
-    fn looks(listed: bool) -> bool {
-        !listed
+    fn looks(self, m: &[u8], head: Head, number: u16) -> bool {
+        !head.listed(m, number)
     }
 
-    fn costs(stored: Costs) -> Costs {
+    fn costs(self, stored: Costs) -> Costs {
         turned(&stored)
+    }
+}
+
+impl Among for InBlocks {
+    fn looks(self, m: &[u8], head: Head, number: u16) -> bool {
+        self.0 >> (head.block(m, number) % 64) & 1 == 1
     }
 }
 
@@ -53,34 +64,34 @@ pub fn turned(costs: &Costs) -> Costs {
 
 pub struct Search<A> {
     corners: [Costs; 4096 / RUN],
-    among: PhantomData<A>,
+    among: A,
 }
 
 impl<A: Among> Search<A> {
-    pub fn empty() -> Self {
-        Search { corners: [[u16::MAX; COSTS]; 4096 / RUN], among: PhantomData }
+    pub fn empty(among: A) -> Self {
+        Search { corners: [[u16::MAX; COSTS]; 4096 / RUN], among }
     }
 
-    pub fn over(m: &[u8], head: Head) -> Self {
-        let mut search = Search::empty();
+    pub fn over(among: A, m: &[u8], head: Head) -> Self {
+        let mut search = Search::empty(among);
         (0..head.n).for_each(|place| search.add(m, head, place));
         search
     }
 
-    fn looked_at(m: &[u8], head: Head, number: u16) -> Option<Costs> {
-        A::looks(head.listed(m, number)).then(|| A::costs(head.stored(m, number)))
+    fn looked_at(&self, m: &[u8], head: Head, number: u16) -> Option<Costs> {
+        self.among.looks(m, head, number).then(|| self.among.costs(head.stored(m, number)))
     }
 
     pub fn add(&mut self, m: &[u8], head: Head, place: usize) {
-        if let Some(costs) = Self::looked_at(m, head, head.number(m, place)) {
+        if let Some(costs) = self.looked_at(m, head, head.number(m, place)) {
             let corner = &mut self.corners[place / RUN];
             *corner = least(corner, &costs);
         }
     }
 
     /// Whether a move is looked at and nowhere above the limits.
-    pub fn fits(m: &[u8], head: Head, number: u16, limits: &Costs) -> bool {
-        Self::looked_at(m, head, number).is_some_and(|costs| !exceeds(&costs, limits))
+    fn fits(&self, m: &[u8], head: Head, number: u16, limits: &Costs) -> bool {
+        self.looked_at(m, head, number).is_some_and(|costs| !exceeds(&costs, limits))
     }
 
     /// The first of some places with such a move.
@@ -90,7 +101,7 @@ impl<A: Among> Search<A> {
             let run = from / RUN;
             let to = places.end.min(RUN * run + RUN);
             if !exceeds(&self.corners[run], limits) {
-                let found = head.numbers(m, from..to).position(|number| Self::fits(m, head, number, limits));
+                let found = head.numbers(m, from..to).position(|number| self.fits(m, head, number, limits));
                 if let Some(ahead) = found {
                     return Some(from + ahead);
                 }
@@ -110,5 +121,15 @@ impl<A: Among> Search<A> {
     ) -> impl Iterator<Item = usize> + 'a {
         let end = places.end;
         successors(self.first(m, head, places, &limits), move |&last| self.first(m, head, last + 1..end, &limits))
+    }
+
+    /// A place with a move that hides the one at `place`: of earlier moves those do that are nowhere greater. `last`, the
+    /// place found before, is tried first.
+    pub fn hider(&self, m: &[u8], head: Head, place: usize, last: usize) -> Option<usize> {
+        let q = limits(&head.used, &head.costs_at(m, place));
+        if last < place && self.fits(m, head, head.number(m, last), &q) {
+            return Some(last);
+        }
+        self.first(m, head, 0..place, &q)
     }
 }

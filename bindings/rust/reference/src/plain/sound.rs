@@ -2,7 +2,7 @@
 use super::bytes::Head;
 use super::marks::marks_right;
 use super::order::stands_before;
-use crate::COSTS;
+use crate::{BLOCKS, COSTS};
 
 fn head(m: &[u8]) -> Option<Head> {
     if m.len() < 2048 {
@@ -14,7 +14,7 @@ fn head(m: &[u8]) -> Option<Head> {
 }
 
 fn numbers_right(m: &[u8], head: Head) -> bool {
-    head.numbers(m, 0..head.n).all(|number| number < head.c)
+    head.numbers(m, 0..head.n).all(|number| number < head.c && usize::from(head.block(m, number)) < BLOCKS)
 }
 
 fn order_right(m: &[u8], head: Head) -> bool {

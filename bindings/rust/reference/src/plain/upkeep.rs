@@ -51,7 +51,7 @@ impl Change {
 }
 
 pub fn upkeep_of(m: &[u8], head: Head, change: &Change) -> Upkeep {
-    let all = Search::over(m, head);
+    let all = Search::over(All, m, head);
     let leaving = change.leaving(m, head);
     let entering = change.entering(m, head, &all);
     let listed = change.comes.is_some_and(|(place, x)| !change.hidden_by_others(m, head, &all, place, &x.costs));

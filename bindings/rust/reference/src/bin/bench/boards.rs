@@ -1,6 +1,6 @@
 //! The boards that are timed, all of them full.
 use reference::random::{costs, Random, Shape};
-use reference::{Costs, Move, COSTS};
+use reference::{Costs, Given, COSTS};
 
 const SPAN: usize = 65536;
 /// The places of a run, as the library searches them.
@@ -63,8 +63,10 @@ impl Board {
         }
     }
 
-    pub fn moves(self, random: &mut Random, d: usize, c: usize) -> Vec<Move> {
+    /// A move for each number, in any block.
+    pub fn moves(self, random: &mut Random, d: usize, c: usize) -> Vec<Given> {
         let numbers = random.numbers(c, c);
-        numbers.into_iter().map(|number| Move { number, costs: self.costs(random, d, number, c) }).collect()
+        let given = |number| Given { number, block: random.block(), costs: self.costs(random, d, number, c) };
+        numbers.into_iter().map(given).collect()
     }
 }

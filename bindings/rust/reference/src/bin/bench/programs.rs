@@ -51,6 +51,6 @@ pub const PROGRAMS: usize = 3;
 
 pub fn programs(c: usize, d: usize) -> [Box<dyn Program>; PROGRAMS] {
     let on_memory = |ask: Ask| OnMemory { ask, memory: vec![0; 64 * c + 1024], rows: vec![Row::default(); c + 1] };
-    let all_pairs = AllPairs { board: PlainBoard::new(c, d, Vec::new()) };
+    let all_pairs = AllPairs { board: PlainBoard::new(c, d, &[]) };
     [Box::new(on_memory(library::ask)), Box::new(on_memory(plain::ask)), Box::new(all_pairs)]
 }

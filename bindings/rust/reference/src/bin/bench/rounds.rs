@@ -1,7 +1,7 @@
 //! What is asked of a board: a round loads it and has each call once.
 use crate::boards::{Board, TOP, UNDER};
 use reference::random::Random;
-use reference::{Call, Costs};
+use reference::{BlockHours, Call, Costs, Given, Window, BLOCKS};
 
 pub struct Rounds {
     random: Random,
@@ -11,8 +11,27 @@ pub struct Rounds {
 }
 
 /// As the tables have them.
-pub const CALLS: [&str; 10] =
-    ["sound", "load", "enter", "withdraw", "re-cost", "list", "band", "rank", "on k", "chosen"];
+pub const CALLS: [&str; 12] = [
+    "sound",
+    "load",
+    "enter",
+    "withdraw",
+    "re-cost",
+    "list",
+    "band",
+    "rank",
+    "on k",
+    "chosen",
+    "hours, all open",
+    "hours, half open",
+];
+
+/// An hours call to which the first blocks, so many, are open. Blocks are drawn, so it does not matter which.
+fn hours(open: usize) -> Call {
+    let entry = BlockHours::of([Window { start: 360, end: 1320 }]);
+    let entries = (0..BLOCKS).map(|block| if block < open { entry } else { BlockHours::default() });
+    Call::Hours { minute: 600, hours: entries.collect() }
+}
 
 /// What a call of the rounds is answered. Whether the memory is sound is asked by a rank of no rows, which is judged like any
 /// other and then turned down.
@@ -42,7 +61,9 @@ impl Rounds {
             new = UNDER.costs(&mut self.random, self.d, TOP, self.c);
         }
         let costs = self.costs(number);
-        [Call::Withdraw { number }, Call::Enter { number, costs }, Call::Recost { number: other, costs: new }]
+        let [block, moved] = [(); 2].map(|()| self.random.block());
+        let recost = Call::Recost(Given { number: other, block: moved, costs: new });
+        [Call::Withdraw { number }, Call::Enter(Given { number, block, costs }), recost]
     }
 
     /// The calls by name.
@@ -57,6 +78,8 @@ impl Rounds {
             ("rank", Call::Rank(10)),
             ("on k", Call::OnK(self.d - 1)),
             ("chosen", Call::Chosen((1 << (self.d - 1)) - 1)),
+            ("hours, all open", hours(BLOCKS)),
+            ("hours, half open", hours(BLOCKS / 2)),
             ("withdraw", withdraw),
             ("enter", enter),
             ("re-cost", recost),

@@ -1,0 +1,122 @@
+//! Who answers the lines on boards, and the lines put to them.
+use crate::lines::{call_of, is_load, joined, kind, lines, words};
+use reference::against::Ask;
+use reference::layout::{self, blocks};
+use reference::model::Model;
+use reference::node::written;
+use reference::{Answer, Call, Row};
+
+/// The words of calls that are not here yet: their lines are passed by.
+const LATER: [&str; 2] = ["SF", "WH"];
+
+/// The memory of a line `Z bytes filler = content`: the content in hexadecimal digits, and after it the filler.
+pub fn memory_of(asked: &str, content: &str) -> Vec<u8> {
+    let digits = |at| u8::from_str_radix(&content[at..at + 2], 16).expect(content);
+    let mut memory: Vec<u8> = (0..content.len()).step_by(2).map(digits).collect();
+    memory.resize(words(asked)[0] as usize, words(asked)[1] as u8);
+    memory
+}
+
+/// The same with every move in block 0: the version that left it wrote no blocks.
+pub fn in_block_0(asked: &str, content: &str) -> Vec<u8> {
+    let mut memory = memory_of(asked, content);
+    let c = layout::content(&memory).expect("fields in range").c;
+    memory[blocks(c)..][..c].fill(0);
+    memory
+}
+
+/// An answer as the vectors write it.
+fn answered(call: &Call, answer: Answer, rows: &[Row]) -> String {
+    let mut words = vec![answer.refusal, answer.detail];
+    match call {
+        Call::Load { .. } => {}
+        Call::List => words.extend([answer.count, answer.opened]),
+        _ => words.push(answer.count),
+    }
+    for row in rows {
+        words.extend([row.mark, row.number].map(usize::from));
+        words.extend(row.costs.map(usize::from));
+    }
+    joined(words)
+}
+
+/// Whoever answers the lines of a file.
+pub trait Player {
+    /// From now on the board stands in these bytes.
+    fn take(&mut self, bytes: Vec<u8>);
+    /// The call made with so many of the bytes lent, and so many rows.
+    fn ask(&mut self, call: &Call, bytes: usize, lent: usize) -> String;
+    fn tree(&self) -> String;
+}
+
+pub struct Memory {
+    pub ask: Ask,
+    pub bytes: Vec<u8>,
+}
+
+impl Player for Memory {
+    fn take(&mut self, bytes: Vec<u8>) {
+        self.bytes = bytes;
+    }
+
+    fn ask(&mut self, call: &Call, bytes: usize, lent: usize) -> String {
+        let mut rows = vec![Row::default(); lent];
+        let answer = (self.ask)(&mut self.bytes[..bytes], call, &mut rows);
+        answered(call, answer, &rows[..answer.count])
+    }
+
+    fn tree(&self) -> String {
+        let (_, tree) = layout::sound(&self.bytes).expect("the memory is sound where a vector has a tree");
+        written(&tree)
+    }
+}
+
+impl Player for Model {
+    fn take(&mut self, bytes: Vec<u8>) {
+        *self = Model::of_memory(&bytes);
+    }
+
+    fn ask(&mut self, call: &Call, bytes: usize, lent: usize) -> String {
+        let foreseen = self.foresee(bytes, call).with_rows(lent);
+        self.follow(call, &foreseen);
+        answered(call, foreseen.answer, &foreseen.rows)
+    }
+
+    fn tree(&self) -> String {
+        written(&self.tree)
+    }
+}
+
+/// An `X` is a withdrawal whose answer has the nodes opened after the count; no call tells them yet.
+fn told_now(asked: &str, answer: &str) -> String {
+    let not_told = |at: usize| kind(asked) == "X" && at == 3;
+    joined(answer.split(' ').enumerate().filter(|(at, _)| !not_told(*at)).map(|(_, word)| word))
+}
+
+/// A file's memory is as long as its loads say at most: some are lent a byte fewer.
+fn memory_bytes(lines: &[(String, String)]) -> usize {
+    let loads = lines.iter().filter(|(asked, _)| is_load(asked));
+    loads.map(|(asked, _)| words(asked)[0]).max().unwrap_or(0) as usize
+}
+
+pub fn play(name: &str, count: usize, player: &mut dyn Player) {
+    let lines = lines(name, count);
+    let mut bytes = memory_bytes(&lines);
+    player.take(vec![0; bytes]);
+    for (at, (asked, answer)) in lines.iter().enumerate() {
+        let got = match kind(asked) {
+            later if LATER.contains(&later) => continue,
+            "Z" => {
+                bytes = words(asked)[0] as usize;
+                player.take(in_block_0(asked, answer));
+                continue;
+            }
+            "T" => player.tree(),
+            _ => {
+                let (call, lent) = call_of(asked);
+                player.ask(&call, if is_load(asked) { words(asked)[0] as usize } else { bytes }, lent)
+            }
+        };
+        assert_eq!(got, told_now(asked, answer), "{name}, line {}: {asked}", at + 1);
+    }
+}

@@ -1,0 +1,95 @@
+//! The lines of bindings/vectors, read.
+use reference::{BlockHours, Call, Costs, Given, Window, BLOCKS, COSTS, WINDOWS};
+use std::fs;
+
+/// What stands in the windows past a block's count, which nobody looks at.
+const RUBBISH: Window = Window { start: 0xA5A5, end: 0xA5A5 };
+
+/// The words of lines whose moves have a block; in the others they lie in block 0.
+const WITH_BLOCK: [&str; 3] = ["LB", "EB", "CB"];
+
+/// The lines of a file, each in two: what is asked and what is answered.
+pub fn lines(name: &str, count: usize) -> Vec<(String, String)> {
+    let path = format!("{}/../vectors/{name}", env!("CARGO_MANIFEST_DIR"));
+    let text = fs::read_to_string(&path).unwrap_or_else(|error| panic!("{path}: {error}"));
+    let halves = |line: &str| line.split_once(" = ").map(|(asked, answer)| (asked.to_string(), answer.to_string()));
+    let lines: Vec<_> = text.lines().map(|line| halves(line).expect(line)).collect();
+    assert_eq!(lines.len(), count, "{name} is not whole");
+    lines
+}
+
+/// The word that says what is asked.
+pub fn kind(asked: &str) -> &str {
+    asked.split(' ').next().unwrap_or_default()
+}
+
+pub fn words(asked: &str) -> Vec<u64> {
+    asked.split(' ').skip(1).map(|word| word.parse().expect(asked)).collect()
+}
+
+pub fn costs(words: &[u64]) -> Costs {
+    std::array::from_fn(|i| words[i] as u16)
+}
+
+/// Whether the line is a load, and so starts with the memory's length.
+pub fn is_load(asked: &str) -> bool {
+    ["L", "LB"].contains(&kind(asked))
+}
+
+fn given(words: &[u64], with_block: bool) -> Given {
+    let number = words[0] as u16;
+    match with_block {
+        true => Given { number, block: words[1] as u16, costs: costs(&words[2..]) },
+        false => Given { number, block: 0, costs: costs(&words[1..]) },
+    }
+}
+
+fn load(words: &[u64], with_block: bool) -> Call {
+    let row = 1 + usize::from(with_block) + COSTS;
+    let rows = words[4..].chunks(row).map(|row| given(row, with_block)).collect();
+    Call::Load { c: words[1] as usize, d: words[2] as usize, rows }
+}
+
+/// So many entries of an hours call: `block count start end ..`, at most four windows being written.
+fn hours(entries: u64, mut words: &[u64]) -> Vec<BlockHours> {
+    let mut hours = vec![BlockHours { count: 0, windows: [RUBBISH; WINDOWS] }; BLOCKS];
+    for _ in 0..entries {
+        let [block, count, rest @ ..] = words else { panic!("{entries} entries are not there") };
+        let (written, others) = rest.split_at(2 * WINDOWS.min(*count as usize));
+        let entry = &mut hours[*block as usize];
+        entry.count = *count as u16;
+        for (window, minutes) in entry.windows.iter_mut().zip(written.chunks(2)) {
+            *window = Window { start: minutes[0] as u16, end: minutes[1] as u16 };
+        }
+        words = others;
+    }
+    assert!(words.is_empty(), "more than {entries} entries");
+    hours
+}
+
+/// The call of a line and the rows lent to it.
+pub fn call_of(asked: &str) -> (Call, usize) {
+    let w = words(asked);
+    let lent = w.last().map_or(0, |&lent| lent as usize);
+    let argument = w.first().map_or(0, |&word| word as usize);
+    let number = argument as u16;
+    let with_block = WITH_BLOCK.contains(&kind(asked));
+    let call = match kind(asked) {
+        "L" | "LB" => return (load(&w, with_block), 0),
+        "HO" => return (Call::Hours { minute: argument, hours: hours(w[2], &w[3..]) }, w[1] as usize),
+        "E" | "EB" => Call::Enter(given(&w, with_block)),
+        "W" | "X" => Call::Withdraw { number },
+        "C" | "CB" => Call::Recost(given(&w, with_block)),
+        "Q" => Call::List,
+        "B" => Call::Band(argument),
+        "K" => Call::Rank(argument),
+        "O" => Call::OnK(argument),
+        "S" => Call::Chosen(argument),
+        other => panic!("{other} in a vector"),
+    };
+    (call, lent)
+}
+
+pub fn joined<T: ToString>(words: impl IntoIterator<Item = T>) -> String {
+    words.into_iter().map(|word| word.to_string()).collect::<Vec<_>>().join(" ")
+}
