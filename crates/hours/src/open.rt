@@ -6,10 +6,11 @@ use memory::Head;
 use memory::RUNS;
 use memory::corners_of;
 use memory::costs_of;
+use memory::fits_at;
 use memory::in_blocks;
 use memory::kept;
+use memory::next_within;
 use memory::number_at;
-use memory::some_within;
 use numbers::add;
 use numbers::empty;
 use upkeep::Found;
@@ -43,7 +44,12 @@ fn hider_of(
         return h.count;
     }
     let q = limits_of(h.dimension, costs_of(m, h.size, COSTS, number));
-    some_within(m, h, last, i, Among::InBlocks(blocks), corners, q)
+    if last < i {
+        if fits_at(m, h, last, Among::InBlocks(blocks), q) {
+            return last;
+        }
+    }
+    next_within(m, h, 0, i, Among::InBlocks(blocks), corners, q)
 }
 
 // The moves in open blocks that none of them hides. What hid one move often hides the next.

@@ -150,15 +150,16 @@ pub fn corners_of(m: &[u8], h: Head, among: Among) -> [[u16; COSTS]; RUNS]
     corners
 }
 
-// Whether the search looks at the move at place i, and that is nowhere greater than q.
-fn fits_at(m: &[u8], h: Head, i: usize, among: Among, q: [u16; COSTS]) -> bool
+// Whether the search looks at the move at place i, and that is nowhere greater than q. Most moves are greater: the costs are asked
+// first.
+pub fn fits_at(m: &[u8], h: Head, i: usize, among: Among, q: [u16; COSTS]) -> bool
     requires { ⌜ Readable h (now m) × (i < h .count) ⌝ }
     ensures { λ r. ⌜ r ≡ spec.fits among (h .size) (now (m .entry)) q i ⌝ }
 {
-    if looks_at(m, h, i, among) {
-        return !exceeds(COSTS, seen_at(m, h, i, among), q);
+    if exceeds(COSTS, seen_at(m, h, i, among), q) {
+        return false;
     }
-    false
+    looks_at(m, h, i, among)
 }
 
 // The first place from i up to `to` that fits; `to` if none does.
@@ -203,28 +204,6 @@ pub fn next_within(
         f = e;
     }
     f
-}
-
-// A place before `to` that fits, `first` if that does; `to` if none does.
-pub fn some_within(
-    m: &[u8],
-    h: Head,
-    first: usize,
-    to: usize,
-    among: Among,
-    corners: &[[u16; COSTS]; RUNS],
-    q: [u16; COSTS],
-) -> usize
-    requires { ⌜ Readable h (now m) × (to ≤ h .count) ⌝ }
-    requires { ⌜ spec.Corners among (h .size) (now m) to (now corners) ⌝ }
-    ensures { λ r. ⌜ spec.Some (spec.fits among (h .size) (now (m .entry)) q) to r ⌝ }
-{
-    if first < to {
-        if fits_at(m, h, first, among, q) {
-            return first;
-        }
-    }
-    next_within(m, h, 0, to, among, corners, q)
 }
 
 // The place that is tried first in the next search: the one found, if one was.

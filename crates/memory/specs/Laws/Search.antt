@@ -1,7 +1,7 @@
 -- The search over places: what a turn of each loop keeps, and that a corner somewhere greater than what is looked for passes its
 -- run by.
 use Prim.Native.Nat.{ℕ, _+_, _-_, _*_, _/_, _≤_, _<_}
-use mathlib.Core.Bool.{Bool, true, false, not, _&&_}
+use mathlib.Core.Bool.{Bool, true, false, not, _&&_, and-true}
 use mathlib.Core.List.{List, []}
 use mathlib.Core.Path.{_≡_, sym, ap, ap₂, _∙_, subst}
 use native.Mathlib.Decide.{ℕ-discrete, decLt}
@@ -82,6 +82,10 @@ none-join test i j n h g k l r = go (decLt k j)
     go (yes before) = h k l before
     go (no after) = g k (omega arith) r
 
+-- The place that is tried first.
+pub tried-some : {test : ℕ → Bool} {n r : ℕ} → r < n → test r ≡ true → Some test n r
+tried-some l e = record { to = omega arith; found = λ _. e; none = λ g. absurd (omega arith) }
+
 pub first-some : {test : ℕ → Bool} {n r : ℕ} → First test 0 n r → Some test n r
 first-some f = record { to = f .to; found = f .found; none = λ l k a g. f .passed k a (omega arith) }
 
@@ -92,9 +96,9 @@ module _ (a : Among) (c : ℕ) (m q : List ℕ) (i : ℕ) where
   unfolding fits
   fits-unlooked e = ap (λ (b : Bool). b && nowhereGreater (seenAt a c m i) q) e
 
-  pub fits-looked : looksAt a c m i ≡ true → fits a c m q i ≡ nowhereGreater (seenAt a c m i) q
+  pub fits-within : nowhereGreater (seenAt a c m i) q ≡ true → fits a c m q i ≡ looksAt a c m i
   unfolding fits
-  fits-looked e = ap (λ (b : Bool). b && nowhereGreater (seenAt a c m i) q) e
+  fits-within e = ap (λ (b : Bool). looksAt a c m i && b) e ∙ and-true (looksAt a c m i)
 
   pub fits-exceeding : nowhereGreater (seenAt a c m i) q ≡ false → fits a c m q i ≡ false
   unfolding fits

@@ -6,13 +6,17 @@ use mathlib.Core.Path.{_≡_, sym, ap, _∙_, subst}
 use native.Mathlib.Omega.{arith}
 use borrow.Author.Needs.{needs}
 use borrow.Author.Tests.{not-true, not-false}
+use lib.Dec.{eqb}
 use Rattle.zorder.specs.Address.{rowCosts}
 use Rattle.dominance.specs.Lanes.{Lanes, limit, isFirst}
-use Rattle.promises.specs.Layout.{costsIn}
+use Rattle.promises.specs.Layout.{numberIn, costsIn}
 use Rattle.promises.specs.Run.{Bytes}
-use Rattle.memory.specs.Search.{inBlocks}
+use Rattle.memory.specs.Search.{inBlocks, fits, Some}
 use Rattle.memory.specs.Laws.Held.{held-readable}
-use Rattle.memory.specs.Laws.Search.{corners-fewer}
+use Rattle.memory.specs.Laws.Search.{tried-some, first-some, corners-fewer}
+use Rattle.memory.specs.declared.sound.Head.{Head}
+use Rattle.memory.specs.declared.search.Among.the-variants.{InBlocks}
+use Rattle.hours.specs.Open.{shownFor}
 use Rattle.hours.specs.Laws.Shown.{open-shown, shut-unshown}
 use Rattle.hours.proofs.open.hider_of.Statement.{statement}
 use Rattle.hours.proofs.open.hider_of.Tie as tie
@@ -46,24 +50,45 @@ costs-of-requires c κs =
 limits-of-requires : tie.Need-limits-of-requires
 limits-of-requires c κs = held-readable (c .before .before .before .before .before .pre .0 .0) .dimension
 
-some-within-requires : tie.Need-some-within-requires
-some-within-requires c κs =
-    let pre = c .before .before .before .before .before .before .pre in
-    ((held-readable (pre .0 .0), omega arith), corners-fewer (omega arith) (pre .1))
+-- What was found, once the limits are made.
+module _ (c : tie.After-limits-of) where
+  abbrev m : List ℕ
+  m = c .before .before .before .before .before .before .args .m .now
+
+  abbrev h : Head
+  h = c .before .before .before .before .before .before .args .h
+
+  abbrev i : ℕ
+  i = c .before .before .before .before .before .before .args .i
+
+  abbrev blocks : ℕ
+  blocks = c .before .before .before .before .before .before .args .blocks
+
+  found : {r : ℕ} → Some (fits (InBlocks blocks) (h .size) m (c .limits-of .result)) i r → eqb r i ≡ shownFor (h .size) (h .dimension) (h .count) blocks m (numberIn (h .size) m i)
+  unfolding Bytes
+  found {r} some =
+      let pre = c .before .before .before .before .before .before .pre .0 in
+      let number = c .before .before .before .before .number-at in
+      let inside = c .before .before .before .in-blocks in
+      let bytes : Bytes m = λ i. omega (arith, c .before .before .before .before .before .shared-slice-known .given i) in
+      let costs = c .before .costs-of .ensures ∙ ap (costsIn (h .size) rowCosts m) (number .ensures) in
+      let limits = subst (λ (x : List ℕ). Lanes (limit (isFirst (h .dimension)) x) (c .limits-of .result)) costs (c .limits-of .ensures) in
+      open-shown (h .size) (h .dimension) (h .count) m (pre .0) bytes blocks i (pre .1) (c .limits-of .result) limits r some
+      (ap (inBlocks blocks (h .size) m) (sym (number .ensures)) ∙ sym (inside .ensures) ∙ not-false (inside .result) (c .before .before .if1 .left))
+
+fits-at-requires : tie.Need-fits-at-requires
+fits-at-requires c κs = (held-readable (c .before .before .before .before .before .before .before .pre .0 .0), omega arith)
 
 returns-2 : tie.Need-returns-2
-unfolding Bytes
-returns-2 c =
-    let s = c .before .before .before .before .before .before .before in
-    let a = s .args in
-    let number = c .before .before .before .before .before .number-at in
-    let inside = c .before .before .before .before .in-blocks in
-    let m = a .m .now in
-    let bytes : Bytes m = λ i. omega (arith, c .before .before .before .before .before .before .shared-slice-known .given i) in
-    let costs = c .before .before .costs-of .ensures ∙ ap (costsIn (a .h .size) rowCosts m) (number .ensures) in
-    let limits = subst (λ (x : List ℕ). Lanes (limit (isFirst (a .h .dimension)) x) (c .before .limits-of .result)) costs (c .before .limits-of .ensures) in
-    open-shown (a .h .size) (a .h .dimension) (a .h .count) m (s .pre .0 .0) bytes (a .blocks) (a .i) (s .pre .0 .1) (c .before .limits-of .result) limits (c .some-within .result) (c .some-within .ensures)
-    (ap (inBlocks (a .blocks) (a .h .size) m) (sym (number .ensures)) ∙ sym (inside .ensures) ∙ not-false (inside .result) (c .before .before .before .if1 .left))
+returns-2 c = found (c .before .before .before) (tried-some (c .before .before .if2 .taken) (sym (c .before .fits-at .ensures) ∙ c .if3 .taken))
+
+next-within-requires : tie.Need-next-within-requires
+next-within-requires c κs =
+    let pre = c .before .before .before .before .before .before .before .pre in
+    ((held-readable (pre .0 .0), omega arith, omega arith), corners-fewer (omega arith) (pre .1))
+
+returns-3 : tie.Need-returns-3
+returns-3 c = found (c .before .before) (first-some (c .next-within .ensures))
 
 pub hider-of-spec : {M : Type 1} → statement M
 hider-of-spec =
@@ -74,5 +99,7 @@ hider-of-spec =
     returns
     costs-of-requires
     limits-of-requires
-    some-within-requires
-    returns-2)
+    fits-at-requires
+    returns-2
+    next-within-requires
+    returns-3)
