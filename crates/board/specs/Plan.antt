@@ -7,7 +7,7 @@ use lib.Dec.{ltb}
 use lib.ListN.{length}
 use Rattle.model.specs.Basics.{equal}
 use Rattle.model.specs.Calls as calls
-use Rattle.model.specs.Calls.{changeAnswer, changeNotice, changesNothing}
+use Rattle.model.specs.Calls.{changeAnswer, changeNotice, keepsMoves}
 use Rattle.model.specs.Opening.{changeOpens}
 use Rattle.promises.specs.Layout.{sizeIn, dimensionIn, numberIn, costsIn, boardIn}
 use Rattle.promises.specs.Sound.{Sound}
@@ -86,13 +86,13 @@ pub record CarriedOut (p : Plan) (m m' : List ℕ) : Type 0 where
 -- ---- the plan of a call
 
 -- The plan of the call's moves with so many lent rows. Only an accepted call makes a change, its own; one that makes none leaves
--- the moves as it should, and a call that changes nothing makes none.
+-- the moves as it should, and a call that keeps the moves makes none.
 pub record MovesPlanned (block : ℕ) (x : calls.Change) (m : List ℕ) (lent : ℕ) (p : Plan) : Type 0 where
   pub plans : Plans (changeAnswer (boardIn m) x lent) (changeNotice (boardIn m) x) (changeOpens (dimensionIn m) x) m lent p
   pub accepted : p .makes ≡ true → numberOf (p .verdict) ≡ 0
   pub makes : p .makes ≡ true → callIn p block m ≡ x
   pub idle : p .makes ≡ false → numberOf (p .verdict) ≡ 0 → Made x m m
-  pub nothing : Sound m → changesNothing (boardIn m) x ≡ true → p .makes ≡ false
+  pub nothing : Sound m → keepsMoves (boardIn m) x ≡ true → p .makes ≡ false
   pub prepared : p .makes ≡ true → Prepared (p .telling) (changeIn p) m
 
 -- The block that a call gives: that of its number.

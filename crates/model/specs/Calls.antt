@@ -127,8 +127,13 @@ changed b c =
       blocks = changedBlocks c (b .blocks);
     }
 
--- "Re-costing: .. unless the costs are equal, which changes nothing", unless the block is another: "Re-costing with equal costs
--- and another block changes the block only" (Card 8).
+-- "Re-costing: .. unless the costs are equal, which changes nothing": no move. "Re-costing with equal costs and another block
+-- changes the block only" (Card 8), with an equal one nothing at all.
+unfoldable pub keepsMoves : Board → Change → Bool
+keepsMoves b (enter n block costs) = false
+keepsMoves b (withdraw n) = false
+keepsMoves b (recost n block costs) = unchanged n costs (b .moves)
+
 unfoldable pub changesNothing : Board → Change → Bool
 changesNothing b (enter n block costs) = false
 changesNothing b (withdraw n) = false

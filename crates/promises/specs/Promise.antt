@@ -9,11 +9,11 @@ use Rattle.model.specs.Moves.{InputRow, Row, moveOf}
 use Rattle.model.specs.Tree.{Tree}
 use Rattle.model.specs.Loading.{loadTree}
 use Rattle.model.specs.Calls as calls
-use Rattle.model.specs.Calls.{Board, loadAnswer, loaded, refusedWith, Query, queryAnswer, queryRows, Change, changeAnswer, changeNotice, changed, changesNothing}
+use Rattle.model.specs.Calls.{Board, loadAnswer, loaded, refusedWith, Query, queryAnswer, queryRows, Change, changeAnswer, changeNotice, changed, keepsMoves, changesNothing}
 use Rattle.model.specs.Changing.{changeTree}
 use Rattle.model.specs.Opening.{queryOpens, changeOpens}
 use Rattle.promises.specs.Layout.{sizeIn, dimensionIn, boardIn}
-use Rattle.promises.specs.Written.{changeWrites, loadWrites}
+use Rattle.promises.specs.Written.{blockWrites, changeWrites, loadWrites}
 use Rattle.promises.specs.Sound.{Sound, Holding}
 use Rattle.promises.specs.Answers.{answerOf, numberOf, counted, rowsAfter}
 use Rattle.promises.specs.declared.Verdict.{Verdict}
@@ -55,7 +55,7 @@ pub record QueryPromise (q : Query) (m : List ℕ) (lent : List Row) (r : Answer
   pub sound : (s : Sound m) → QuerySaid q (boardIn m) (queryOpens (dimensionIn m) q (s .tree)) lent r lent'
   pub unsound : (Sound m → ⊥) → UnsoundSaid lent r lent'
 
--- Enter, withdraw and re-cost.
+-- Enter, withdraw and re-cost. A re-cost with equal costs writes no byte but its number's block.
 abbrev pub ChangeSaid : Change → Board → ℕ → List Row → Answer → List Row → Type 0
 ChangeSaid x b nodes lent = Said (changeAnswer b x (length lent)) (changeNotice b x) nodes lent
 
@@ -64,5 +64,6 @@ pub record ChangePromise (x : Change) (m : List ℕ) (lent : List Row) (r : Answ
   pub left :
       (s : Sound m)
       → MemoryAfter (changeWrites (sizeIn m) x) (numberOf (r .verdict)) m m' (changed (boardIn m) x) (changeTree (dimensionIn m) x (s .tree))
+  pub alone : Sound m → keepsMoves (boardIn m) x ≡ true → (i : ℕ) → blockWrites (sizeIn m) x i ≡ false → getD m' i 0 ≡ getD m i 0
   pub nothing : Sound m → changesNothing (boardIn m) x ≡ true → m' ≡ m
   pub unsound : (Sound m → ⊥) → UnsoundSaid lent r lent' × (m' ≡ m)

@@ -10,7 +10,7 @@ use lib.Seq.{getD-set-other, set-getD}
 use Rattle.model.specs.Moves.{Move}
 use Rattle.model.specs.Changing.{changeTree}
 use Rattle.model.specs.Calls as calls
-use Rattle.model.specs.Calls.{Change, changeRefusal, giveBlock, blocksOn, changedMoves, changedBlocks, changed, changesNothing}
+use Rattle.model.specs.Calls.{Change, changeRefusal, giveBlock, blocksOn, changedMoves, changedBlocks, changed, keepsMoves, changesNothing}
 use Rattle.model.specs.Withdrawing.{unchanged}
 use Rattle.model.specs.Laws.Bool.{both-ways, and-right, or-false-left, or-false-right}
 use Rattle.model.specs.Laws.Changes.{changeNumber, change-number}
@@ -29,7 +29,7 @@ use Rattle.memory.specs.Laws.Lines.{each-numbers}
 use Rattle.memory.specs.Laws.Blocks.{same-blocks, setBlock-blocks, block-setBlock, size-over-blocks, dimension-over-blocks, moves-over-blocks, stands-over-blocks}
 use Rattle.memory.specs.Laws.Held.{held-room}
 use Rattle.board.specs.Change.{Moved}
-use Rattle.board.specs.Plan.{givenTo, Gives}
+use Rattle.board.specs.Plan.{Gives}
 use Rattle.board.specs.Laws.Accepted.{recost-on}
 use Rattle.upkeep.specs.declared.plan.Given.{Given}
 
@@ -137,6 +137,17 @@ kept-given {m} s (calls.recost n block costs) {b} moved ok g gives given kept =
     let is = given (ap (λ (g : Given). g .gives) gives) ∙ (λ i. setBlock (gives i .size) (gives i .number) (gives i .block) b) in
     subst (λ (w : List ℕ). Kept (changeWrites (sizeIn m) x) m w (changed (boardIn m) x) (changeTree (dimensionIn m) x (s .tree))) (sym is)
     (kept-with s x moved ok n block (number-below s x ok) (λ i e. e) (recosted-blocks (dimensionIn m) n block costs (movesIn (lineIn m)) (blockIn (sizeIn m) m)))
+
+-- A change that keeps the moves writes its block alone.
+pub given-alone : {m : List ℕ} (x : Change) → keepsMoves (boardIn m) x ≡ true → (g : Given) → Gives (sizeIn m) x g → {b m' : List ℕ} → b ≡ m
+    → (g .gives ≡ true → m' ≡ setBlock (g .size) (g .number) (g .block) b) → (i : ℕ) → blockWrites (sizeIn m) x i ≡ false → getD m' i 0 ≡ getD m i 0
+unfolding Gives keepsMoves setBlock blockWrites
+given-alone (calls.enter n block costs) e g gives same given i free = both-ways e refl
+given-alone (calls.withdraw n) e g gives same given i free = both-ways e refl
+given-alone {m} (calls.recost n block costs) e g gives same given i free =
+    ap (λ (w : List ℕ). getD w i 0)
+    (given (ap (λ (g : Given). g .gives) gives) ∙ (λ j. setBlock (gives j .size) (gives j .number) (gives j .block) (same j)))
+    ∙ getD-set-other m (blockPlace (sizeIn m) n) i block 0 (eqb-false i (blockPlace (sizeIn m) n) free)
 
 -- A change that changes nothing gives a block that is there already.
 pub given-again : {m : List ℕ} → Sound m → (x : Change) → changeRefusal (boardIn m) x ≡ 0 → changesNothing (boardIn m) x ≡ true

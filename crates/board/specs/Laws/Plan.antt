@@ -5,11 +5,11 @@ use mathlib.Core.List.{List, []}
 use mathlib.Core.Path.{_≡_, refl, sym, ap, ap₂, _∙_, subst}
 use native.Mathlib.Omega.{arith}
 use borrow.Author.Tests.{ltb-true, ltb-false, lt-ltb}
-use lib.Dec.{ltb, eqb}
+use lib.Dec.{ltb}
 use lib.ListN.{length}
 use Rattle.model.specs.Basics.{equal}
 use Rattle.model.specs.Calls as calls
-use Rattle.model.specs.Calls.{refusedWith, changeRefusal, changeAnswer, changeNotice, changesNothing, onBoard}
+use Rattle.model.specs.Calls.{refusedWith, changeRefusal, changeAnswer, changeNotice, keepsMoves, onBoard}
 use Rattle.model.specs.Withdrawing.{costsOn, unchanged}
 use Rattle.model.specs.Opening.{changeOpens}
 use Rattle.model.specs.Laws.Bool.{both-ways, byCases, and-left, and-right}
@@ -134,22 +134,21 @@ module _ {c d n : ℕ} {v : Verdict} {k : Change} {m : List ℕ} (a : PlanAsked 
 
       -- A change that is made changes something.
       costs-change : (block : ℕ) → k .comes ≡ true → k .goes < n → changeRefusal (boardIn m) (calls.recost (k .coming .number) block (k .coming .costs)) ≡ 0
-          → changesNothing (boardIn m) (calls.recost (k .coming .number) block (k .coming .costs)) ≡ false
-      unfolding changesNothing unchanged alike
+          → keepsMoves (boardIn m) (calls.recost (k .coming .number) block (k .coming .costs)) ≡ false
+      unfolding keepsMoves unchanged alike
       costs-change block e l ok =
           let x = k .coming in
           let own = board-moves c d n m (a .sound) in
           let on = ap (onBoard (x .number)) (sym own) ∙ recost-on (boardIn m) (x .number) block (x .costs) ok in
-          ap (λ (t : Bool). t && eqb block (boardIn m .blocks (x .number)))
-          (ap (equal (x .costs)) (ap (costsOn (x .number)) own ∙ costs-board c d n m (x .number) on ∙ ap (costsIn c d m) (sym (ready .number e l)))
+          ap (equal (x .costs)) (ap (costsOn (x .number)) own ∙ costs-board c d n m (x .number) on ∙ ap (costsIn c d m) (sym (ready .number e l)))
           ∙ sym (ap₂ (λ (p q : Bool). p && (q && equal (x .costs) (costsIn c d m (numberIn c m (k .goes))))) e (lt-ltb (k .goes) n l))
-          ∙ different)
+          ∙ different
 
-      never-nothing : (block : ℕ) (x : calls.Change) → changeRefusal (boardIn m) x ≡ 0 → callOf c n k block m ≡ x → changesNothing (boardIn m) x ≡ false
-      unfolding changesNothing
+      never-nothing : (block : ℕ) (x : calls.Change) → changeRefusal (boardIn m) x ≡ 0 → callOf c n k block m ≡ x → keepsMoves (boardIn m) x ≡ false
+      unfolding keepsMoves
       never-nothing block x ok stands =
-          let by : (y : calls.Change) → callOf c n k block m ≡ y → changesNothing (boardIn m) y ≡ false → changesNothing (boardIn m) x ≡ false =
-          λ y is f. ap (changesNothing (boardIn m)) (sym stands ∙ is) ∙ f in
+          let by : (y : calls.Change) → callOf c n k block m ≡ y → keepsMoves (boardIn m) y ≡ false → keepsMoves (boardIn m) x ≡ false =
+          λ y is f. ap (keepsMoves (boardIn m)) (sym stands ∙ is) ∙ f in
           byCases (k .comes)
           (λ e. byCases (ltb (k .goes) n)
           (λ i. let l = ltb-true (k .goes) n i in let is = call-recost c n k block m e l in by _ is (costs-change block e l (ap (changeRefusal (boardIn m)) (sym is ∙ stands) ∙ ok)))

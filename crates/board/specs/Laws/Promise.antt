@@ -5,17 +5,17 @@ use mathlib.Core.List.{List, _++_, map}
 use mathlib.Core.Path.{_≡_, refl, sym, ap, _∙_, subst}
 use native.Mathlib.Decide.{decLt}
 use native.Mathlib.Omega.{arith}
-use lib.ListN.{length, drop}
+use lib.ListN.{length, drop, getD}
 use Rattle.model.specs.Moves.{Row}
 use Rattle.model.specs.Calls as calls
-use Rattle.model.specs.Calls.{changeRefusal, changeAnswer, changeNotice, changed, changesNothing}
+use Rattle.model.specs.Calls.{changeRefusal, changeAnswer, changeNotice, changed, keepsMoves, changesNothing}
 use Rattle.model.specs.Changing.{changeTree}
 use Rattle.model.specs.Opening.{changeOpens}
-use Rattle.model.specs.Laws.Changes.{accepted-passes}
+use Rattle.model.specs.Laws.Changes.{accepted-passes, nothing-keeps}
 use Rattle.promises.specs.Layout.{sizeIn, dimensionIn, boardIn}
 use Rattle.promises.specs.Sound.{Sound}
 use Rattle.promises.specs.Answers.{answerOf, numberOf, resultRow}
-use Rattle.promises.specs.Written.{changeWrites}
+use Rattle.promises.specs.Written.{blockWrites, changeWrites}
 use Rattle.promises.specs.Promise.{MemoryAfter, ChangePromise}
 use Rattle.upkeep.specs.Telling.{toldRows}
 use Rattle.upkeep.specs.Planned.{answerIn, Plans}
@@ -23,7 +23,7 @@ use Rattle.upkeep.specs.Laws.Planned.{plans-said, plans-unsaid}
 use Rattle.upkeep.specs.declared.plan.Plan.{Plan}
 use Rattle.board.specs.Change.{Made}
 use Rattle.board.specs.Plan.{CarriedOut, Planned}
-use Rattle.board.specs.Laws.Give.{kept-given, given-again}
+use Rattle.board.specs.Laws.Give.{kept-given, given-alone, given-again}
 
 module _ {x : calls.Change} {m m' : List ℕ} {lent : ℕ} {p : Plan} (plan : Planned x m lent p) (out : CarriedOut p m m') where
   -- A refused plan makes nothing.
@@ -50,6 +50,19 @@ module _ {x : calls.Change} {m m' : List ℕ} {lent : ℕ} {p : Plan} (plan : Pl
       kept-given s x (accepted-made e (p .makes) refl .kept (s .tree) (s .stands)) (accepted-passed s e) (p .given) (plan .gives e) (out .given) (out .kept)
   plan-left (suc k) e s = refused-idle (omega (arith, e))
 
+  -- Equal costs: no move changes.
+  kept-moves : Sound m → keepsMoves (boardIn m) x ≡ true → out .between ≡ m
+  kept-moves s e = out .moves .idle (plan .moves .nothing s e)
+
+  plan-alone : Sound m → keepsMoves (boardIn m) x ≡ true → (i : ℕ) → blockWrites (sizeIn m) x i ≡ false → getD m' i 0 ≡ getD m i 0
+  plan-alone s e i free = by-answer (decLt 0 (numberOf (p .verdict)))
+    where
+      by-answer : Dec (0 < numberOf (p .verdict)) → getD m' i 0 ≡ getD m i 0
+      by-answer (yes h) = ap (λ (w : List ℕ). getD w i 0) (refused-idle h)
+      by-answer (no h) =
+          let z : numberOf (p .verdict) ≡ 0 = omega arith in
+          given-alone x e (p .given) (plan .gives z) (kept-moves s e) (out .given) i free
+
   -- Equal costs and an equal block: the byte that is written holds it already.
   plan-nothing : Sound m → changesNothing (boardIn m) x ≡ true → m' ≡ m
   plan-nothing s e = by-answer (decLt 0 (numberOf (p .verdict)))
@@ -58,7 +71,7 @@ module _ {x : calls.Change} {m m' : List ℕ} {lent : ℕ} {p : Plan} (plan : Pl
       by-answer (yes h) = refused-idle h
       by-answer (no h) =
           let z : numberOf (p .verdict) ≡ 0 = omega arith in
-          given-again s x (accepted-passed s z) e (p .given) (plan .gives z) (out .moves .idle (plan .moves .nothing s e)) (out .given)
+          given-again s x (accepted-passed s z) e (p .given) (plan .gives z) (kept-moves s (nothing-keeps (boardIn m) x e)) (out .given)
 
   pub plan-promise : (rows rows' : List Row) → lent ≡ length rows → rows' ≡ map resultRow (toldRows (p .telling) m) ++ drop (p .count) rows
       → ChangePromise x m rows (answerIn p) m' rows'
@@ -68,6 +81,7 @@ module _ {x : calls.Change} {m m' : List ℕ} {lent : ℕ} {p : Plan} (plan : Pl
       record {
         sound = plans-said plans rows rows' tells;
         left = plan-left (numberOf (p .verdict)) refl;
+        alone = plan-alone;
         nothing = plan-nothing;
         unsound = λ bad. (plans-unsaid plans rows rows' tells bad, refused-idle (omega (arith, ap numberOf (plans .answered .unsound bad))));
       }

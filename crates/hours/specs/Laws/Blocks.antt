@@ -12,7 +12,7 @@ use lib.ListN.{length, take, getD, length-map, length-take}
 use lib.Seq.{getD-take}
 use Rattle.model.specs.Basics.{any}
 use Rattle.model.specs.Hours.{Hours, blockCount, windowsOf, hoursBad, openIn, noHours, blockOpen}
-use Rattle.model.specs.Calls.{Answer, accepted, hoursRefusal}
+use Rattle.model.specs.Calls.{accepted, hoursRefusal}
 use Rattle.model.specs.Laws.Hours.{past-shut}
 use Rattle.promises.specs.Answers.{blockHours}
 use Rattle.memory.specs.Search.{None}

@@ -1,12 +1,12 @@
 -- What turns the hours call down, and its plan.
 use Prim.Native.Nat.{ℕ, _≤_, _<_}
-use mathlib.Core.Bool.{Bool, true, false}
+use mathlib.Core.Bool.{Bool}
 use mathlib.Core.List.{List, [], _∷_}
 use mathlib.Core.Path.{_≡_, refl, sym, ap, _∙_}
 use borrow.Author.Tests.{lt-ltb, le-ltb}
 use lib.ListN.{take}
 use Rattle.zorder.specs.Refusal.{refusal}
-use Rattle.model.specs.Hours.{Hours, blockCount, minuteBad}
+use Rattle.model.specs.Hours.{Hours, blockCount}
 use Rattle.model.specs.Opening.{queryOpens}
 use Rattle.model.specs.Calls.{Answer, accepted, refusedWith, orElse, Board, hoursQuery, hoursRefusal, queryRefusal}
 use Rattle.promises.specs.Answers.{answerOf, numberOf, detailOf}

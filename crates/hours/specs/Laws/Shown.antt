@@ -21,7 +21,7 @@ use Rattle.model.specs.Laws.Blocks.{block-most}
 use Rattle.model.specs.Laws.Hiding.{earlier-hides}
 use Rattle.line.specs.Line.{movesIn}
 use Rattle.dominance.specs.Lanes.{Lanes, limit, isFirst}
-use Rattle.promises.specs.Layout.{sizeIn, dimensionIn, countIn, numberIn, blockIn, costsIn, moveIn, lineFrom, lineIn, boardIn}
+use Rattle.promises.specs.Layout.{numberIn, blockIn, costsIn, moveIn, lineFrom, lineIn, boardIn}
 use Rattle.promises.specs.Run.{Bytes}
 use Rattle.promises.specs.Laws.Tab.{each-tab}
 use Rattle.memory.specs.Held.{SoundAt}

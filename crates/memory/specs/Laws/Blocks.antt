@@ -19,7 +19,7 @@ use Rattle.model.specs.Laws.Bool.{byCases, both-ways}
 use Rattle.model.specs.Laws.Basics.{any-witness, each-mem, select-ext}
 use Rattle.model.specs.Laws.Blocks.{blocks-ext}
 use Rattle.line.specs.Line.{movesIn}
-use Rattle.promises.specs.Layout.{blockPlace, sizeIn, dimensionIn, countIn, numberIn, markIn, blockIn, moveIn, tab, lineFrom, lineIn, keptFrom, keptIn}
+use Rattle.promises.specs.Layout.{blockPlace, sizeIn, dimensionIn, countIn, numberIn, markIn, blockIn, moveIn, lineFrom, lineIn, keptFrom, keptIn}
 use Rattle.promises.specs.Sound.{Stands}
 use Rattle.promises.specs.Laws.Tab.{each-tab}
 use Rattle.memory.specs.Room.{Room, Numbers}

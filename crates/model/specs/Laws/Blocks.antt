@@ -119,15 +119,6 @@ recosted-blocks d n block costs ms f =
     ∙ ap (giveBlock n block) (without-blocks n ms f)
     ∙ give-again n block 0 (blocksOn ms f)
 
--- The block alone changes; the moves stay.
-pub block-alone : (n block : ℕ) (ms : List Move) (f : ℕ → ℕ) → onBoard n ms ≡ true → blocksOn ms (giveBlock n block f) ≡ giveBlock n block (blocksOn ms f)
-unfolding blocksOn giveBlock
-block-alone n block ms f o =
-    fun-ext (λ k.
-    testCases (λ (t : Bool). cond (onBoard k ms) (cond t block (f k)) 0 ≡ cond t block (cond (onBoard k ms) (f k) 0)) (eqb k n)
-    (λ e. ap (λ (t : Bool). cond t block 0) (ap (λ (j : ℕ). onBoard j ms) (eqb-true k n e) ∙ o))
-    (λ _. refl))
-
 rows-off : (rows : List InputRow) (k : ℕ) → any (λ r. eqb (r .number) k) rows ≡ false → rowBlocks rows k ≡ 0
 unfolding any rowBlocks
 rows-off [] k h = refl
@@ -165,13 +156,6 @@ pub fit-each : (P : ℕ → Type 0) (b : Board) → BlocksFit b → ((k : ℕ) �
 fit-each P b f h =
     each-mono (λ m. blockBad (b .blocks (m .number)) ≡ false) (λ m. P (b .blocks (m .number))) (b .moves)
     (λ m e. h (b .blocks (m .number)) (block-most (b .blocks (m .number)) e)) f
-
-pub fit-block : (b : Board) → BlocksFit b → (n : ℕ) → onBoard n (b .moves) ≡ true → b .blocks n ≤ 63
-unfolding onBoard
-fit-block b f n o =
-    let w = any-witness (λ m. eqb (m .number) n) (b .moves) o in
-    subst (λ (k : ℕ). b .blocks k ≤ 63) (eqb-true (w .0 .number) n (w .2))
-    (each-mem (λ m. b .blocks (m .number) ≤ 63) (fit-each (λ k. k ≤ 63) b f (λ k l. l)) (w .1))
 
 zero-fits : blockBad 0 ≡ false
 unfolding blockBad within

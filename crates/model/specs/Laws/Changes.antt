@@ -13,10 +13,10 @@ use Rattle.zorder.specs.Laws.Refusal.{first-passes, rest-passes}
 use Rattle.model.specs.Basics.{Each, distinct}
 use Rattle.model.specs.Moves.{Move, moveBefore, insert}
 use Rattle.model.specs.Lists.{hidden, skyline}
-use Rattle.model.specs.Withdrawing.{without}
-use Rattle.model.specs.Calls.{Answer, accepted, refusedWith, orElse, rowsAnswer, Board, Change, enter, withdraw, recost, blockBad, onBoard, changeRefusal, changedMoves, changed, listOf, changeNotice, changeAnswer}
+use Rattle.model.specs.Withdrawing.{without, unchanged}
+use Rattle.model.specs.Calls.{Answer, accepted, refusedWith, orElse, rowsAnswer, Board, Change, enter, withdraw, recost, blockBad, onBoard, changeRefusal, changedMoves, changed, keepsMoves, changesNothing, listOf, changeNotice, changeAnswer}
 use Rattle.model.specs.Sound.{Fit, SoundBoard}
-use Rattle.model.specs.Laws.Bool.{condCases, not-flip}
+use Rattle.model.specs.Laws.Bool.{condCases, not-flip, and-left}
 use Rattle.model.specs.Laws.Basics.{Once, each-mem, mem-each, select-mem, mem-select, any-none}
 use Rattle.model.specs.Laws.Sorting.{insert-mem}
 use Rattle.model.specs.Laws.Order.{has-numbers, distinct-cons, distinct-insert, distinct-select, distinct-once, mem-number}
@@ -196,6 +196,13 @@ unfolding changeAnswer orElse refusedWith
 changes-accepted b x lent h l =
     ap (λ (k : ℕ). cond (eqb k 0) (rowsAnswer (length (changeNotice b x)) lent) (record { number = k; detail = 0 })) h
     ∙ enough-rows b x lent l
+
+-- what changes nothing changes no move
+pub nothing-keeps : (b : Board) (x : Change) → changesNothing b x ≡ true → keepsMoves b x ≡ true
+unfolding changesNothing keepsMoves
+nothing-keeps b (enter n block costs) e = e
+nothing-keeps b (withdraw n) e = e
+nothing-keeps b (recost n block costs) e = and-left (unchanged n costs (b .moves)) (eqb block (b .blocks n)) e
 
 -- an accepted change passed every check
 pub accepted-passes : (b : Board) (x : Change) (lent : ℕ) → changeAnswer b x lent .number ≡ 0 → changeRefusal b x ≡ 0

@@ -21,7 +21,7 @@ use Rattle.model.specs.Entering.{enterTree}
 use Rattle.model.specs.Withdrawing.{without, withdrawTree, costsOn, unchanged, recostTree}
 use Rattle.model.specs.Notice.{missing, noticeOf}
 use Rattle.model.specs.Changing.{changeTree}
-use Rattle.model.specs.Calls.{Answer, accepted, refusedWith, orElse, rowsAnswer, Board, blockBad, rowRefusal, rowsRefusal, loadAnswer, giveBlock, rowBlocks, loaded, Change, enter, withdraw, recost, onBoard, changeRefusal, changedMoves, changedBlocks, changed, listOf, changeNotice, changeAnswer}
+use Rattle.model.specs.Calls.{Answer, refusedWith, orElse, rowsAnswer, Board, blockBad, rowRefusal, rowsRefusal, loadAnswer, giveBlock, rowBlocks, loaded, Change, enter, withdraw, recost, onBoard, changeRefusal, changedMoves, changedBlocks, changed, listOf, changeNotice, changeAnswer}
 use Rattle.model.specs.Laws.Bool.{same-test, cond-map}
 use Rattle.model.specs.Laws.Basics.{each-mem, mem-each, each-map, each-select, any-map, any-ext, select-map, select-ext, equal-refl, equal-true}
 use Rattle.model.specs.Laws.Sorting.{map-insert, each-insert}
