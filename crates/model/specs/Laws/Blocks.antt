@@ -3,7 +3,7 @@
 use Prim.Native.Nat.{ℕ, suc, _≤_, _<_}
 use mathlib.Core.Bool.{Bool, true, false, cond, not, _&&_, _||_}
 use mathlib.Core.List.{List, [], _∷_, map}
-use mathlib.Core.Path.{_≡_, refl, sym, ap, _∙_, subst, fun-ext}
+use mathlib.Core.Path.{_≡_, refl, sym, ap, _∙_, fun-ext}
 use native.Mathlib.Omega.{arith}
 use lib.Dec.{leb, eqb}
 use borrow.Author.Tests.{eqb-true, eq-eqb, ne-eqb, lt-leb, not-false}
@@ -14,7 +14,7 @@ use Rattle.model.specs.Withdrawing.{without}
 use Rattle.model.specs.Calls.{Answer, accepted, Board, blockBad, rowRefusal, rowsRefusal, giveBlock, blocksOn, rowBlocks, loaded, Change, enter, withdraw, recost, onBoard, changeRefusal, changedMoves, changedBlocks, changed}
 use Rattle.model.specs.Sound.{BlocksFit}
 use Rattle.model.specs.Laws.Bool.{testCases, condCases, and-right, and-both, and-false-right, not-flip, or-false-left, or-false-right, same-test, both-ways}
-use Rattle.model.specs.Laws.Basics.{each-mem, mem-each, each-mono, each-select, any-map, any-ext, any-select, any-witness}
+use Rattle.model.specs.Laws.Basics.{mem-each, each-mono, each-select, any-map, any-ext, any-select}
 use Rattle.model.specs.Laws.Sorting.{each-insert, any-insert, any-sort}
 use Rattle.model.specs.Laws.Order.{eqb-sym}
 use Rattle.model.specs.Laws.Tree.{within-range, within-true}
