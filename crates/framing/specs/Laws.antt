@@ -6,5 +6,6 @@ pub mod Said
 pub mod Judged
 pub mod Pairs
 pub mod Frames
+pub mod Blocks
 pub mod Serving
 pub mod Feeding
