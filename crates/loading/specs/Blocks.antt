@@ -10,10 +10,10 @@ use Rattle.promises.specs.Layout.{blockIn}
 use Rattle.memory.specs.Frame.{BlocksOnly}
 
 -- Rows whose blocks have a byte of the memory and fit into it.
-abbrev pub Givable : ℕ → List InputRow → Type 0
-Givable c = Each (λ r. (r .number < c) × (r .block < 256))
+abbrev pub Storable : ℕ → List InputRow → Type 0
+Storable c = Each (λ r. (r .number < c) × (r .block < 256))
 
 -- The numbers of the rows have their blocks; only blocks differ.
-pub record Given (c : ℕ) (rows : List InputRow) (m m' : List ℕ) : Type 0 where
+pub record BlocksGiven (c : ℕ) (rows : List InputRow) (m m' : List ℕ) : Type 0 where
   pub blocks : (n : ℕ) → onBoard n (map moveOf rows) ≡ true → blockIn c m' n ≡ rowBlocks rows n
   pub frame : BlocksOnly c m m'

@@ -24,7 +24,7 @@ use Rattle.memory.specs.Frame.{Only, BlocksOnly}
 use Rattle.memory.specs.Laws.Frames.{frame-refl, frame-trans, room-over}
 use Rattle.memory.specs.Laws.Written.{only-trans, blocks-load}
 use Rattle.memory.specs.Laws.Blocks.{setBlock-blocks, block-setBlock, size-over-blocks, dimension-over-blocks, moves-over-blocks, stands-over-blocks}
-use Rattle.loading.specs.Blocks.{Givable, Given}
+use Rattle.loading.specs.Blocks.{Storable, BlocksGiven}
 use Rattle.loading.specs.File.{Acceptable, MovesLoaded, Loaded}
 
 -- ---- one row
@@ -41,11 +41,11 @@ give-ext n block f g k on h same =
     given f e = ap (giveBlock n block f) (sym e) ∙ give-same n block f
 
 module _ (c : ℕ) (m : List ℕ) where
-  given-none : Given c [] m m
+  given-none : BlocksGiven c [] m m
   unfolding onBoard any
   given-none = record { blocks = λ n on. both-ways on refl; frame = frame-refl m }
 
-  given-more : (r : InputRow) (rs : List InputRow) (m' : List ℕ) → Room c m → r .number < c → Given c rs m m' → Given c (r ∷ rs) m (setBlock c (r .number) (r .block) m')
+  given-more : (r : InputRow) (rs : List InputRow) (m' : List ℕ) → Room c m → r .number < c → BlocksGiven c rs m m' → BlocksGiven c (r ∷ rs) m (setBlock c (r .number) (r .block) m')
   unfolding onBoard any moveOf rowBlocks
   given-more r rs m' room below g =
       record {
@@ -61,20 +61,20 @@ module _ (c : ℕ) (rows : List (List ℕ)) (m : List ℕ) where
   count : length (map inputRow rows) ≡ length rows
   count = length-map rows inputRow
 
-  pub lent-none : Given c (drop (length rows) (map inputRow rows)) m m
+  pub lent-none : BlocksGiven c (drop (length rows) (map inputRow rows)) m m
   lent-none =
-      subst (λ (k : ℕ). Given c (drop k (map inputRow rows)) m m) count
-      (subst (λ (rs : List InputRow). Given c rs m m) (sym (drop-length (map inputRow rows))) (given-none c m))
+      subst (λ (k : ℕ). BlocksGiven c (drop k (map inputRow rows)) m m) count
+      (subst (λ (rs : List InputRow). BlocksGiven c rs m m) (sym (drop-length (map inputRow rows))) (given-none c m))
 
-  module _ (left : ℕ) (some : 0 < left) (within : left ≤ length rows) (z : List ℕ) (able : Givable c (map inputRow rows)) where
+  module _ (left : ℕ) (some : 0 < left) (within : left ≤ length rows) (z : List ℕ) (able : Storable c (map inputRow rows)) where
     abbrev r : InputRow
     r = inputRow (getD rows (left - 1) z)
 
     here : getD (map inputRow rows) (left - 1) (inputRow z) ≡ inputRow (getD rows (left - 1) z)
     here = List·getD-map inputRow rows (left - 1) z
 
-    pub lent-givable : (inputRow (getD rows (left - 1) z) .number < c) × (inputRow (getD rows (left - 1) z) .block < 256)
-    lent-givable =
+    pub lent-storable : (inputRow (getD rows (left - 1) z) .number < c) × (inputRow (getD rows (left - 1) z) .block < 256)
+    lent-storable =
         subst (λ (r : InputRow). (r .number < c) × (r .block < 256)) here
         (each-at (λ r. (r .number < c) × (r .block < 256)) (map inputRow rows) (left - 1) (inputRow z) (omega (arith, count)) able)
 
@@ -85,15 +85,15 @@ module _ (c : ℕ) (rows : List (List ℕ)) (m : List ℕ) where
         ∙ ap₂ (λ (r : InputRow) (k : ℕ). r ∷ drop k (map inputRow rows)) here same
 
     pub lent-more : (number block : ℕ) (m' : List ℕ) → number ≡ inputRow (getD rows (left - 1) z) .number → block ≡ inputRow (getD rows (left - 1) z) .block → Room c m
-        → Given c (drop left (map inputRow rows)) m m' → Given c (drop (left - 1) (map inputRow rows)) m (setBlock c number block m')
+        → BlocksGiven c (drop left (map inputRow rows)) m m' → BlocksGiven c (drop (left - 1) (map inputRow rows)) m (setBlock c number block m')
     lent-more number block m' n b room g =
-        subst (λ (rs : List InputRow). Given c rs m (setBlock c number block m')) (sym next)
-        (subst₂ (λ (n b : ℕ). Given c (r ∷ drop left (map inputRow rows)) m (setBlock c n b m')) (sym n) (sym b)
-        (given-more c m r (drop left (map inputRow rows)) m' room (lent-givable .0) g))
+        subst (λ (rs : List InputRow). BlocksGiven c rs m (setBlock c number block m')) (sym next)
+        (subst₂ (λ (n b : ℕ). BlocksGiven c (r ∷ drop left (map inputRow rows)) m (setBlock c n b m')) (sym n) (sym b)
+        (given-more c m r (drop left (map inputRow rows)) m' room (lent-storable .0) g))
 
 -- ---- moves and blocks are the load
 
-module _ (c d : ℕ) (rows : List InputRow) (a : Acceptable c d rows) (m m₁ m₂ : List ℕ) (moved : MovesLoaded c d rows m m₁) (given : Given c rows m₁ m₂) where
+module _ (c d : ℕ) (rows : List InputRow) (a : Acceptable c d rows) (m m₁ m₂ : List ℕ) (moved : MovesLoaded c d rows m m₁) (given : BlocksGiven c rows m₁ m₂) where
   over : BlocksOnly (sizeIn m₁) m₁ m₂
   over = subst (λ (k : ℕ). BlocksOnly k m₁ m₂) (sym (moved .size)) (given .frame)
 

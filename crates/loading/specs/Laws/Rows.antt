@@ -19,7 +19,7 @@ use Rattle.model.specs.Laws.Basics.{each-mono, each-both, each-map}
 use Rattle.model.specs.Laws.Order.{eqb-sym, distinct-cons}
 use Rattle.model.specs.Laws.Numbers.{distinct-length}
 use Rattle.model.specs.Laws.Blocks.{rows-pass, block-most}
-use Rattle.loading.specs.Blocks.{Givable}
+use Rattle.loading.specs.Blocks.{Storable}
 use Rattle.loading.specs.File.{Acceptable}
 
 -- ---- one row
@@ -89,8 +89,8 @@ module _ (c d : ℕ) (rows : List InputRow) (a : Acceptable c d rows) where
       (each-mono (λ r. (r .number < c) × RowCosts d (r .costs)) (λ r. Fit c d (moveOf r)) rows (λ r k. record { number = k .0; costs = k .1 })
       (each-both (λ r. r .number < c) (λ r. RowCosts d (r .costs)) rows (right .below) (a .costs)))
 
-  pub rows-givable : Givable c rows
-  rows-givable =
+  pub rows-storable : Storable c rows
+  rows-storable =
       each-mono (λ r. (r .number < c) × (blockBad (r .block) ≡ false)) (λ r. (r .number < c) × (r .block < 256)) rows
       (λ r k. (k .0, omega (arith, block-most (r .block) (k .1))))
       (each-both (λ r. r .number < c) (λ r. blockBad (r .block) ≡ false) rows (right .below) (right .small))

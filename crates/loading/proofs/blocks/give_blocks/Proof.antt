@@ -8,13 +8,13 @@ use native.Mathlib.Omega.{arith}
 use lib.ListN.{length, drop}
 use Rattle.promises.specs.Answers.{inputRow}
 use Rattle.memory.specs.Laws.Frames.{room-over}
-use Rattle.loading.specs.Blocks.{Given}
-use Rattle.loading.specs.Laws.Blocks.{lent-none, lent-givable, lent-more}
+use Rattle.loading.specs.Blocks.{BlocksGiven}
+use Rattle.loading.specs.Laws.Blocks.{lent-none, lent-storable, lent-more}
 use Rattle.loading.proofs.blocks.give_blocks.Statement.{statement}
 use Rattle.loading.proofs.blocks.give_blocks.Tie as tie
 
 abbrev Inv-loop : tie.InvT-loop
-Inv-loop m₀ c rows left₀ m left = (left ≤ length rows) × Given c (drop left (map inputRow rows)) m₀ m
+Inv-loop m₀ c rows left₀ m left = (left ≤ length rows) × BlocksGiven c (drop left (map inputRow rows)) m₀ m
 
 abbrev μ-loop : tie.MeasureT-loop
 μ-loop m₀ c rows left₀ m left = left
@@ -30,7 +30,7 @@ set-block-requires c κs =
     let start = looped .before .before in
     let a = start .args in
     let own = looped .loop in
-    let able = lent-givable (a .c) (a .rows .now) (a .m .now) (own .left) (omega arith) (own .inv .0) [] (start .pre .1) in (
+    let able = lent-storable (a .c) (a .rows .now) (a .m .now) (own .left) (omega arith) (own .inv .0) [] (start .pre .1) in (
       room-over (a .c) (own .inv .1 .frame) (start .pre .0),
       omega (arith, able .0, c .before .before .number-of .ensures .0),
       omega (arith, able .1, c .before .block-of .ensures),
@@ -46,7 +46,7 @@ loop-again c =
     let block = c .before .before .before .before .block-of in
     let stored = c .before .before .set-block in (
       omega arith,
-      subst (Given (a .c) (drop (own .left - 1) (map inputRow (a .rows .now))) (a .m .now)) (sym (stored .ensures))
+      subst (BlocksGiven (a .c) (drop (own .left - 1) (map inputRow (a .rows .now))) (a .m .now)) (sym (stored .ensures))
           (lent-more (a .c) (a .rows .now) (a .m .now) (own .left) (omega arith) (own .inv .0) [] (start .pre .1) (number .result) (block .result) (own .m) (number .ensures .0) (block .ensures) (start .pre .0) (own .inv .1)),
     )
 
@@ -58,7 +58,7 @@ returns c =
     let a = c .before .before .before .args in
     let own = c .before .loop in
     let none : own .left ≡ 0 = omega arith in
-    subst (λ (k : ℕ). Given (a .c) (drop k (map inputRow (a .rows .now))) (a .m .now) (own .m)) none (own .inv .1)
+    subst (λ (k : ℕ). BlocksGiven (a .c) (drop k (map inputRow (a .rows .now))) (a .m .now) (own .m)) none (own .inv .1)
 
 pub give-blocks-spec : {M : Type 1} → statement M
 give-blocks-spec =
