@@ -1,11 +1,11 @@
 -- A re-cost with equal costs changes nothing: the board, its tree and its list stay, and no row is told.
 use Prim.Native.Nat.{ℕ}
-use mathlib.Core.Bool.{Bool, true, false, cond, not}
-use mathlib.Core.List.{List, [], _++_, map}
+use mathlib.Core.Bool.{Bool, true, cond}
+use mathlib.Core.List.{List, [], map}
 use mathlib.Core.Path.{_≡_, sym, ap, _∙_, subst}
 use Rattle.model.specs.Basics.{Each, distinct, equal}
 use Rattle.model.specs.Moves as model
-use Rattle.model.specs.Moves.{rowOf, insert, left, entered}
+use Rattle.model.specs.Moves.{insert}
 use Rattle.model.specs.Lists.{skyline}
 use Rattle.model.specs.Notice.{noticeOf}
 use Rattle.model.specs.Tree.{Tree, movesOf}
@@ -15,9 +15,8 @@ use Rattle.model.specs.Calls as calls
 use Rattle.model.specs.Calls.{onBoard, listOf, changeNotice, changed}
 use Rattle.model.specs.Changing.{changeTree}
 use Rattle.model.specs.Sound.{Fit}
-use Rattle.model.specs.Laws.Basics.{mem-each, select-none}
 use Rattle.model.specs.Laws.Order.{move-order}
-use Rattle.model.specs.Laws.Notice.{among, gone, mem-among, notice-rows}
+use Rattle.model.specs.Laws.Notice.{notice-none}
 use Rattle.model.specs.Laws.Recosting.{recost-moves}
 use Rattle.promises.specs.Layout.{sizeIn, dimensionIn, costsIn, boardIn}
 use Rattle.promises.specs.Sound.{Stands}
@@ -30,16 +29,6 @@ use Rattle.memory.specs.Laws.Written.{only-refl}
 use Rattle.board.specs.Change.{Made}
 use Rattle.board.specs.Laws.Judge.{board-moves}
 use Rattle.board.specs.Laws.Recost.{costs-board}
-
-gone-none : (ms : List model.Move) → gone ms ms ≡ []
-unfolding gone
-gone-none ms =
-    select-none (λ y. not (among y ms)) ms
-    (mem-each (λ y. not (among y ms) ≡ false) ms (λ y k. ap not (mem-among k)))
-
-notice-none : (ms : List model.Move) → noticeOf ms ms ≡ []
-notice-none ms =
-    notice-rows ms ms ∙ ap (λ (ns : List model.Move). map (rowOf left) ns ++ map (rowOf entered) ns) (gone-none ms)
 
 module _ {c d n : ℕ} {m : List ℕ} (s : SoundAt c d n m) (b : Bytes m) (x : Move) (fit : Fit c d (asMove x)) (on : onBoard (x .number) (boardIn m .moves) ≡ true)
     (r : equal (x .costs) (costsIn c d m (x .number)) ≡ true) (block : ℕ) where

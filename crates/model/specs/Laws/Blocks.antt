@@ -10,13 +10,16 @@ use borrow.Author.Tests.{eqb-true, eq-eqb, ne-eqb, lt-leb, not-false}
 use Rattle.zorder.specs.Laws.Refusal.{first-passes, rest-passes}
 use Rattle.model.specs.Basics.{Each, any, within}
 use Rattle.model.specs.Moves.{Move, InputRow, moveOf, moveBefore, insert, inZOrder}
-use Rattle.model.specs.Withdrawing.{without}
-use Rattle.model.specs.Calls.{Answer, accepted, Board, blockBad, rowRefusal, rowsRefusal, giveBlock, blocksOn, rowBlocks, loaded, Change, enter, withdraw, recost, onBoard, changeRefusal, changedMoves, changedBlocks, changed}
-use Rattle.model.specs.Sound.{BlocksFit}
+use Rattle.model.specs.Notice.{noticeOf}
+use Rattle.model.specs.Withdrawing.{without, unchanged}
+use Rattle.model.specs.Calls.{Answer, accepted, Board, blockBad, rowRefusal, rowsRefusal, giveBlock, blocksOn, rowBlocks, loaded, Change, enter, withdraw, recost, onBoard, changeRefusal, changedMoves, changedBlocks, changed, listOf, changeNotice}
+use Rattle.model.specs.Sound.{Fit, BlocksFit, SoundBoard}
 use Rattle.model.specs.Laws.Bool.{testCases, condCases, and-right, and-both, and-false-right, not-flip, or-false-left, or-false-right, same-test, both-ways}
 use Rattle.model.specs.Laws.Basics.{mem-each, each-mono, each-select, any-map, any-ext, any-select}
 use Rattle.model.specs.Laws.Sorting.{each-insert, any-insert, any-sort}
-use Rattle.model.specs.Laws.Order.{eqb-sym}
+use Rattle.model.specs.Laws.Order.{eqb-sym, dimension-most, move-order}
+use Rattle.model.specs.Laws.Recosting.{recost-same}
+use Rattle.model.specs.Laws.Notice.{notice-none}
 use Rattle.model.specs.Laws.Tree.{within-range, within-true}
 use Rattle.model.specs.Laws.Changes.{changeNumber, off-without}
 
@@ -73,6 +76,23 @@ unfolding changed changedBlocks changeNumber
 other-block b (enter n block costs) k h = give-other n block (b .blocks) k h
 other-block b (withdraw n) k h = give-other n 0 (b .blocks) k h
 other-block b (recost n block costs) k h = give-other n block (b .blocks) k h
+
+-- "Re-costing with equal costs and another block changes the block only, with an empty notice."
+module _ (b : Board) (s : SoundBoard b) (n block : ℕ) (costs : List ℕ) (fit : Fit (b .size) (b .dimension) (record { number = n; costs = costs }))
+    (on : onBoard n (b .moves) ≡ true) (same : unchanged n costs (b .moves) ≡ true) where
+  kept-moves : changedMoves (b .dimension) (recost n block costs) (b .moves) ≡ b .moves
+  unfolding changedMoves
+  kept-moves =
+      recost-same (b .dimension) (Fit (b .size) (b .dimension)) (move-order (b .dimension) (b .size) (dimension-most (b .dimension) (s .dimension)))
+      (record { number = n; costs = costs }) fit (b .moves) (s .order) (s .fit) on (s .once) same
+
+  pub block-only : changed b (recost n block costs) ≡ record { size = b .size; dimension = b .dimension; moves = b .moves; blocks = giveBlock n block (b .blocks) }
+  unfolding changed changedBlocks
+  block-only = λ i. record { size = b .size; dimension = b .dimension; moves = kept-moves i; blocks = giveBlock n block (b .blocks) }
+
+  pub block-untold : changeNotice b (recost n block costs) ≡ []
+  unfolding changeNotice listOf
+  block-untold = ap (λ (c : Board). noticeOf (listOf b) (listOf c)) block-only ∙ notice-none (listOf b)
 
 -- ---- blocks read for the numbers on the board
 

@@ -1,6 +1,6 @@
 -- The notice: the moves that left the list and those that entered it, and how many rows it has.
 use Prim.Native.Nat.{ℕ, _+_}
-use mathlib.Core.Bool.{Bool, true, not, _&&_}
+use mathlib.Core.Bool.{Bool, true, false, not, _&&_}
 use mathlib.Core.List.{List, [], _∷_, _++_, map, List·Memᴰ, List·Memᴰ·head, List·Memᴰ·tail, List·Memᴰ·not-nil, List·Memᴰ·cases-cons, List·Memᴰ·append-cases, Memᴰ·append-left, Memᴰ·append-right, Memᴰ·cast}
 use mathlib.Core.Logic.{_⊎_, inl, inr, ⊎-elim, ⊎-map, _↔_}
 use mathlib.Core.Path.{_≡_, refl, sym, ap, ap₂, _∙_, subst}
@@ -12,7 +12,7 @@ use Rattle.model.specs.Basics.{select, any, equal}
 use Rattle.model.specs.Moves.{Move, Row, rowOf, sameRow, left, entered}
 use Rattle.model.specs.Notice.{missing, noticeOf}
 use Rattle.model.specs.Laws.Bool.{byCases, and-left, and-right, and-both, not-flip, not-back, both-ways}
-use Rattle.model.specs.Laws.Basics.{Once, once-select, equal-refl, equal-true, mem-each, select-mem, mem-select, select-ext, select-map, any-mem, any-witness, any-map}
+use Rattle.model.specs.Laws.Basics.{Once, once-select, select-none, equal-refl, equal-true, mem-each, select-mem, mem-select, select-ext, select-map, any-mem, any-witness, any-map}
 use Rattle.model.specs.Laws.Order.{move-path}
 
 -- "Rows are compared by number and costs": so are the moves in them, whatever the marks.
@@ -79,6 +79,14 @@ missing-rows j k ms ns =
 pub notice-rows : (old new : List Move) → noticeOf old new ≡ map (rowOf left) (gone old new) ++ map (rowOf entered) (gone new old)
 unfolding noticeOf
 notice-rows old new = ap₂ _++_ (missing-rows left left old new) (missing-rows entered entered new old)
+
+-- The same list before and after: no row.
+gone-none : (ms : List Move) → gone ms ms ≡ []
+unfolding gone
+gone-none ms = select-none (λ m. not (among m ms)) ms (mem-each (λ m. not (among m ms) ≡ false) ms (λ m k. ap not (mem-among k)))
+
+pub notice-none : (ms : List Move) → noticeOf ms ms ≡ []
+notice-none ms = notice-rows ms ms ∙ ap (λ (ns : List Move). map (rowOf left) ns ++ map (rowOf entered) ns) (gone-none ms)
 
 row-mem : (j k : ℕ) (m : Move) (ms : List Move) → List·Memᴰ (rowOf j m) (map (rowOf k) ms) → (j ≡ k) × List·Memᴰ m ms
 unfolding rowOf

@@ -47,6 +47,21 @@ unchanged-perm x (m ∷ ms) b h u =
         (perm-equal (without-off (x .number) ms (ap (λ (k : ℕ). onBoard k ms) (sym n) ∙ others-off m ms h)))
     step false e c v again = List·Permᴰ·trans (List·Permᴰ·swap refl refl) (List·Permᴰ·cons refl (again c v))
 
+-- Withdrawn and entered again with the costs that it has, a move stands where it stood.
+module _ (d : ℕ) (P : Move → Type 0) (o : StrictOrder P (moveBefore d)) (x : Move) (p : P x) (ms : List Move) (r : ordered d ms ≡ true) (q : Each P ms)
+    (b : onBoard (x .number) ms ≡ true) (h : distinct (map (λ m. m .number) ms) ≡ true) where
+  pub recost-same : unchanged (x .number) (x .costs) ms ≡ true → insert d x (without (x .number) ms) ≡ ms
+  unfolding insert ordered
+  recost-same u =
+      let lt = moveBefore d in
+      let others = without (x .number) ms in
+      let others-each = each-sublist P (without-sublist (x .number) ms) q in
+      let s = rising-sorted lt P o ms q r in
+      sorted-ext lt P o (List·Permᴰ·trans (perm-insert lt x others) (unchanged-perm x ms b h u))
+      (each-insert lt P x others p others-each)
+      (sorted-insert lt P o x others p others-each (sorted-sublist lt (without-sublist (x .number) ms) s))
+      s
+
 -- ---- the tree after a re-cost
 
 module _ (d : ℕ) (P : Move → Type 0) (o : StrictOrder P (moveBefore d)) (x : Move) (p : P x) (t : Tree) (r : ruled d t ≡ true)
@@ -80,15 +95,7 @@ module _ (d : ℕ) (P : Move → Type 0) (o : StrictOrder P (moveBefore d)) (x :
 
   module _ (b : onBoard (x .number) (movesOf t) ≡ true) (h : distinct (map (λ m. m .number) (movesOf t)) ≡ true) where
     same-moves : unchanged (x .number) (x .costs) (movesOf t) ≡ true → movesOf t ≡ insert d x others
-    unfolding insert ordered
-    same-moves u =
-        let lt = moveBefore d in
-        let s = rising-sorted lt P o (movesOf t) q (ruled-ordered d t r) in
-        sym
-        (sorted-ext lt P o (List·Permᴰ·trans (perm-insert lt x others) (unchanged-perm x (movesOf t) b h u))
-        (each-insert lt P x others p others-each)
-        (sorted-insert lt P o x others p others-each (sorted-sublist lt (without-sublist (x .number) (movesOf t)) s))
-        s)
+    same-moves u = sym (recost-same d P o x p (movesOf t) (ruled-ordered d t r) q b h u)
 
     pub recost-moves : movesOf (recostTree d x t) ≡ insert d x (without (x .number) (movesOf t))
     unfolding recostTree
