@@ -2,16 +2,17 @@
 use Prim.Native.Nat.{ℕ, zero, suc, _≤_, _<_}
 use mathlib.Core.Bool.{Bool, true, false, cond, not, _&&_, _||_}
 use mathlib.Core.List.{List, [], _∷_}
+use mathlib.Core.Logic.{inr}
 use mathlib.Core.Path.{_≡_, refl, sym, ap, ap₂, _∙_}
 use native.Mathlib.Decide.{decLt}
 use native.Mathlib.Omega.{arith}
-use borrow.Author.Tests.{lt-ltb, le-ltb, le-leb, lt-leb}
+use borrow.Author.Tests.{lt-ltb, le-ltb}
 use lib.Dec.{ltb, leb, eqb}
 use lib.ListN.{take, getD}
 use lib.Seq.{take-all}
 use Rattle.model.specs.Basics.{any, within}
 use Rattle.model.specs.Hours.{Window, windowsOf, minuteBad, windowBad, hoursBad, openIn}
-use Rattle.model.specs.Laws.Bool.{and-both, and-false-right}
+use Rattle.model.specs.Laws.Tree.{within-true, within-false}
 use Rattle.promises.specs.Layout.{tab}
 use Rattle.promises.specs.Answers.{windowAt, blockHours}
 use Rattle.memory.specs.Search.{None}
@@ -64,12 +65,12 @@ module _ (entry : List ℕ) where
 -- ---- one window
 
 pub minute-late : (t : ℕ) → ltb 10079 t ≡ minuteBad t
-unfolding minuteBad within
+unfolding minuteBad
 minute-late t = go (decLt 10079 t)
   where
-    go : Dec (10079 < t) → ltb 10079 t ≡ not (leb 0 t && leb t 10079)
-    go (yes l) = lt-ltb 10079 t l ∙ sym (ap not (and-false-right (leb 0 t) (leb t 10079) (lt-leb t 10079 l)))
-    go (no l) = le-ltb 10079 t (omega arith) ∙ sym (ap not (and-both (leb 0 t) (leb t 10079) (le-leb 0 t (omega arith)) (le-leb t 10079 (omega arith))))
+    go : Dec (10079 < t) → ltb 10079 t ≡ not (within 0 10079 t)
+    go (yes l) = lt-ltb 10079 t l ∙ sym (ap not (within-false 0 10079 t (inr l)))
+    go (no l) = le-ltb 10079 t (omega arith) ∙ sym (ap not (within-true 0 10079 t (omega arith) (omega arith)))
 
 module _ (w : Window) where
   pub window-tested : (ltb 10079 (w .start) || ltb 10079 (w .end) || eqb (w .start) (w .end)) ≡ windowBad w

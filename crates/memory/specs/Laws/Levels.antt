@@ -2,7 +2,6 @@
 use Prim.Native.Nat.{ℕ, zero, suc, _+_, _-_, _≤_, _<_}
 use mathlib.Core.Bool.{Bool, true, false, cond, _&&_}
 use mathlib.Core.List.{List, [], _∷_}
-use mathlib.Core.Logic.{_⊎_, ⊎-elim}
 use mathlib.Core.Path.{_≡_, refl, sym, ap, ap₂, _∙_}
 use native.Mathlib.Numerals.{add-one}
 use native.Mathlib.Omega.{arith}
@@ -147,11 +146,6 @@ module _ (c n : ℕ) (m : List ℕ) (l lo k i : ℕ) (h : i < n) where
   node-inside f =
       counts-here
       ∙ counts-row l lo k (heightIn c m i) rest false false _ (lt-leb l (heightIn c m i) (omega arith)) (lt-leb (l - 1) (heightIn c m i) (omega arith)) refl
-
-pub within-false : (lo hi n : ℕ) → (n < lo) ⊎ (hi < n) → within lo hi n ≡ false
-unfolding within
-within-false lo hi n w =
-    ⊎-elim (λ h. ap (λ (b : Bool). b && leb n hi) (lt-leb lo n h)) (λ h. and-false-right (leb lo n) (leb n hi) (lt-leb n hi h)) w
 
 -- ---- one level
 

@@ -3,10 +3,11 @@
 use Prim.Native.Nat.{ℕ, suc, _≤_, _<_}
 use mathlib.Core.Bool.{Bool, true, false, cond, not, _&&_, _||_}
 use mathlib.Core.List.{List, [], _∷_, map}
+use mathlib.Core.Logic.{inr}
 use mathlib.Core.Path.{_≡_, refl, sym, ap, _∙_, fun-ext}
 use native.Mathlib.Omega.{arith}
 use lib.Dec.{leb, eqb}
-use borrow.Author.Tests.{eqb-true, eq-eqb, ne-eqb, lt-leb, not-false}
+use borrow.Author.Tests.{eqb-true, eq-eqb, ne-eqb, not-false}
 use Rattle.zorder.specs.Laws.Refusal.{first-passes, rest-passes}
 use Rattle.model.specs.Basics.{Each, any, within}
 use Rattle.model.specs.Moves.{Move, InputRow, moveOf, moveBefore, insert, inZOrder}
@@ -14,13 +15,13 @@ use Rattle.model.specs.Notice.{noticeOf}
 use Rattle.model.specs.Withdrawing.{without, unchanged}
 use Rattle.model.specs.Calls.{Answer, accepted, Board, blockBad, rowRefusal, rowsRefusal, giveBlock, blocksOn, rowBlocks, loaded, Change, enter, withdraw, recost, onBoard, changeRefusal, changedMoves, changedBlocks, changed, listOf, changeNotice}
 use Rattle.model.specs.Sound.{Fit, BlocksFit, SoundBoard}
-use Rattle.model.specs.Laws.Bool.{testCases, condCases, and-right, and-both, and-false-right, not-flip, or-false-left, or-false-right, same-test, both-ways}
+use Rattle.model.specs.Laws.Bool.{testCases, condCases, and-right, and-both, not-flip, or-false-left, or-false-right, same-test, both-ways}
 use Rattle.model.specs.Laws.Basics.{mem-each, each-mono, each-select, any-map, any-ext, any-select}
 use Rattle.model.specs.Laws.Sorting.{each-insert, any-insert, any-sort}
 use Rattle.model.specs.Laws.Order.{eqb-sym, dimension-most, move-order}
 use Rattle.model.specs.Laws.Recosting.{recost-same}
 use Rattle.model.specs.Laws.Notice.{notice-none}
-use Rattle.model.specs.Laws.Tree.{within-range, within-true}
+use Rattle.model.specs.Laws.Tree.{within-range, within-true, within-false}
 use Rattle.model.specs.Laws.Changes.{changeNumber, off-without}
 
 -- ---- the numbers on the board
@@ -168,8 +169,8 @@ unfolding blockBad
 block-low block l = ap not (within-true 0 63 block (omega arith) l)
 
 pub block-high : (block : ℕ) → 63 < block → blockBad block ≡ true
-unfolding blockBad within
-block-high block l = ap not (and-false-right (leb 0 block) (leb block 63) (lt-leb block 63 l))
+unfolding blockBad
+block-high block l = ap not (within-false 0 63 block (inr l))
 
 -- What holds of 0 to 63 holds of the block of each move.
 pub fit-each : (P : ℕ → Type 0) (b : Board) → BlocksFit b → ((k : ℕ) → k ≤ 63 → P k) → Each (λ m. P (b .blocks (m .number))) (b .moves)

@@ -1,16 +1,17 @@
 -- Laws of the tree's shape: the moves under a node, and how many entries nodes hold.
 use Prim.Native.Nat.{ℕ, zero, suc, _≤_, _<_}
-use mathlib.Core.Bool.{true, _&&_}
+use mathlib.Core.Bool.{Bool, true, false, _&&_}
+use mathlib.Core.Logic.{_⊎_, ⊎-elim}
 use mathlib.Core.Path.{_≡_, refl, sym, ap, _∙_, subst}
 use mathlib.Core.List.{List, [], _∷_, _++_, flatMap, flatten, append-assoc, append-nil}
 use native.Mathlib.Omega.{arith}
-use borrow.Author.Tests.{leb-true, le-leb}
+use borrow.Author.Tests.{leb-true, le-leb, lt-leb}
 use lib.Dec.{leb}
 use lib.ListN.{length, take, drop, length-append, take-append-drop}
 use Rattle.model.specs.Basics.{Each, all, within}
 use Rattle.model.specs.Moves.{Move, ordered}
 use Rattle.model.specs.Tree.{Entry, Tree, rooted, movesUnder, movesOf, filled, rootLeast, filledTree, ruled}
-use Rattle.model.specs.Laws.Bool.{and-left, and-right, and-both}
+use Rattle.model.specs.Laws.Bool.{and-left, and-right, and-both, and-false-right}
 use Rattle.model.specs.Laws.Basics.{all-each, each-all, each-left, each-right}
 
 -- ---- lists put end to end
@@ -46,6 +47,11 @@ module _ {A : Type 0} (P : A → Type 0) (k : ℕ) (xs : List A) where
 pub within-true : (lo hi n : ℕ) → lo ≤ n → n ≤ hi → within lo hi n ≡ true
 unfolding within
 within-true lo hi n l h = and-both (leb lo n) (leb n hi) (le-leb lo n l) (le-leb n hi h)
+
+pub within-false : (lo hi n : ℕ) → (n < lo) ⊎ (hi < n) → within lo hi n ≡ false
+unfolding within
+within-false lo hi n w =
+    ⊎-elim (λ h. ap (λ (b : Bool). b && leb n hi) (lt-leb lo n h)) (λ h. and-false-right (leb lo n) (leb n hi) (lt-leb n hi h)) w
 
 pub within-range : (lo hi n : ℕ) → within lo hi n ≡ true → (lo ≤ n) × (n ≤ hi)
 unfolding within

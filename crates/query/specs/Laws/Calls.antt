@@ -1,20 +1,20 @@
 -- What turns the calls down, and which rows they have.
 use Prim.Native.Nat.{ℕ, _^_, _≤_, _<_}
-use mathlib.Core.Bool.{Bool, true, false, cond, not, _&&_, and-false}
+use mathlib.Core.Bool.{Bool, true, false, cond, not}
 use mathlib.Core.List.{List, [], _∷_}
-use mathlib.Core.Path.{_≡_, refl, sym, ap, _∙_, fun-ext}
-use mathlib.Core.Logic.{_⊎_, ⊎-elim}
+use mathlib.Core.Path.{_≡_, refl, sym, ap, fun-ext}
+use mathlib.Core.Logic.{_⊎_, inr, ⊎-elim}
 use native.Mathlib.Omega.{arith}
 use lib.Dec.{leb, eqb}
 use borrow.Author.Tests.{le-leb, lt-leb, eq-eqb, ne-eqb}
 use Rattle.zorder.specs.Refusal.{refusal}
-use Rattle.model.specs.Basics.{select, any, within}
+use Rattle.model.specs.Basics.{select, any}
 use Rattle.model.specs.Moves.{Move}
 use Rattle.model.specs.Lists.{dominators, band, onK, chosen, listedRows}
 use Rattle.model.specs.Calls.{accepted, refusedWith, bandQuery, rankQuery, onKQuery, chosenQuery, queryRefusal, queryRows}
 use Rattle.model.specs.Laws.Bool.{or-left, or-right, or-false-both}
 use Rattle.model.specs.Laws.Queries.{count-zero}
-use Rattle.model.specs.Laws.Tree.{within-true}
+use Rattle.model.specs.Laws.Tree.{within-true, within-false}
 use Rattle.promises.specs.Layout.{dimensionIn, boardIn}
 use Rattle.query.specs.Rule.{beats}
 use Rattle.query.specs.Kept.{stays, kept, keptRows}
@@ -22,14 +22,6 @@ use Rattle.query.specs.declared.rule.Rule.{Rule}
 use Rattle.query.specs.declared.rule.Rule.the-variants.{All, OnK, Chosen}
 
 -- ---- the refusals
-
-below : (lo hi n : ℕ) → n < lo → within lo hi n ≡ false
-unfolding within
-below lo hi n h = ap (λ (b : Bool). b && leb n hi) (lt-leb lo n h)
-
-above : (lo hi n : ℕ) → hi < n → within lo hi n ≡ false
-unfolding within
-above lo hi n h = ap (λ (b : Bool). leb lo n && b) (lt-leb n hi h) ∙ and-false (leb lo n)
 
 bad : (b : Bool) → b ≡ true → refusedWith (refusal ((b, 7) ∷ [])) ≡ refusedWith 7
 unfolding refusal
@@ -42,7 +34,7 @@ right b e = ap (λ (x : Bool). refusedWith (cond x 7 0)) e
 module _ (m : List ℕ) where
   pub band-bad : (n : ℕ) → 4095 < n → queryRefusal (boardIn m) (bandQuery n) ≡ refusedWith 7
   unfolding queryRefusal
-  band-bad n h = bad _ (ap not (above 0 4095 n h))
+  band-bad n h = bad _ (ap not (within-false 0 4095 n (inr h)))
 
   pub band-right : (n : ℕ) → n ≤ 4095 → queryRefusal (boardIn m) (bandQuery n) ≡ accepted
   unfolding queryRefusal
@@ -50,7 +42,7 @@ module _ (m : List ℕ) where
 
   pub rank-bad : (t : ℕ) → (t < 1) ⊎ (4096 < t) → queryRefusal (boardIn m) (rankQuery t) ≡ refusedWith 7
   unfolding queryRefusal
-  rank-bad t h = bad _ (ap not (⊎-elim (below 1 4096 t) (above 1 4096 t) h))
+  rank-bad t h = bad _ (ap not (within-false 1 4096 t h))
 
   pub rank-right : (t : ℕ) → 1 ≤ t → t ≤ 4096 → queryRefusal (boardIn m) (rankQuery t) ≡ accepted
   unfolding queryRefusal
@@ -58,7 +50,7 @@ module _ (m : List ℕ) where
 
   pub on-bad : (k : ℕ) → (k < 1) ⊎ (dimensionIn m < k) → queryRefusal (boardIn m) (onKQuery k) ≡ refusedWith 7
   unfolding queryRefusal boardIn
-  on-bad k h = bad _ (ap not (⊎-elim (below 1 (dimensionIn m) k) (above 1 (dimensionIn m) k) h))
+  on-bad k h = bad _ (ap not (within-false 1 (dimensionIn m) k h))
 
   pub on-right : (k : ℕ) → 1 ≤ k → k ≤ dimensionIn m → queryRefusal (boardIn m) (onKQuery k) ≡ accepted
   unfolding queryRefusal boardIn

@@ -10,10 +10,10 @@ use lib.Dec.{leb}
 use lib.ListN.{drop}
 use borrow.Author.Tests.{ltb-true, ltb-false, leb-false, le-leb, lt-leb}
 use Rattle.model.specs.Basics.{within}
-use Rattle.model.specs.Laws.Tree.{within-true}
+use Rattle.model.specs.Laws.Tree.{within-true, within-false}
 use Rattle.line.specs.Heights.{countsFrom, countsAt}
 use Rattle.promises.specs.Layout.{heightsFrom}
-use Rattle.memory.specs.Laws.Levels.{counts-first, counts-last, node-right, node-wrong, node-entry, node-inside, within-false}
+use Rattle.memory.specs.Laws.Levels.{counts-first, counts-last, node-right, node-wrong, node-entry, node-inside}
 use Rattle.memory.proofs.heights.counts_right.Statement.{statement}
 use Rattle.memory.proofs.heights.counts_right.Tie as tie
 
