@@ -17,7 +17,9 @@ use Rattle.model.specs.Withdrawing.{without, keepChild, keepChildren, wi
 use Rattle.model.specs.Nodes.{nodeOf, nodesFrom, nodesOf, nearCornerOf, farCornerOf, opens, nodesOpened}
 use Rattle.model.specs.Notice.{missing, noticeOf}
 use Rattle.model.specs.Calls.{accepted, refusedWith, orElse, rowsAnswer, sizeBad, memoryNeed, blockBad, rowRefusal, rowsRefusal, loadAnswer, onBoard, giveBlock, blocksOn, rowBlocks, loaded, changeRefusal, changedMoves, changedBlocks, changed, keepsMoves, changesNothing, listOf, changeNotice, changeAnswer, hoursRefusal, queryRefusal, queryRows, queryAnswer}
+use Rattle.model.specs.Changing.{changeTree}
+use Rattle.model.specs.Opening.{opensFor, withdrawOpens, changeOpens}
 
 unfoldable pub computing : Unit {0}
-unfolding flatMap bit group groups address costFromBits costsFrom costsOf padded wordsOf groupsOf agreeing kept unkept zerosBelow onesBelow nearCorner farCorner side before samePlace sideOf nearOf farOf refusal allZero costCountBad costPastBad select any all count insertBy sortBy rising firstOr lastOr parts numbersFrom within has distinct equal moveOf rowOf sameRow zBefore moveBefore rowBefore insert inZOrder ordered less nowhereGreater somewhereLess better dominates at dominatesAt dominatesOn equalCosts lowerTwin hides hidden skyline dominators band dominated rankBefore rank onK chosen chosenCosts listedRows windowsOf minuteBad windowBad hoursBad openIn blockOpen openMoves movesUnder movesOf firstMove lastMove nodeSide filled rootLeast filledTree ruled eights evened mended cut levels built loadTree earlierInGap goesInto childPlace sidesAt leastBy leftPart split replaceAt enterNode rootOf enterTree without keepChild keepChildren withdrawNode settled enterAll withdrawTree costsOn unchanged recostTree nodeOf nodesFrom nodesOf nearCornerOf farCornerOf opens nodesOpened missing noticeOf accepted refusedWith orElse rowsAnswer sizeBad memoryNeed blockBad rowRefusal rowsRefusal loadAnswer onBoard giveBlock blocksOn rowBlocks loaded changeRefusal changedMoves changedBlocks changed keepsMoves changesNothing listOf changeNotice changeAnswer hoursRefusal queryRefusal queryRows queryAnswer
+unfolding flatMap bit group groups address costFromBits costsFrom costsOf padded wordsOf groupsOf agreeing kept unkept zerosBelow onesBelow nearCorner farCorner side before samePlace sideOf nearOf farOf refusal allZero costCountBad costPastBad select any all count insertBy sortBy rising firstOr lastOr parts numbersFrom within has distinct equal moveOf rowOf sameRow zBefore moveBefore rowBefore insert inZOrder ordered less nowhereGreater somewhereLess better dominates at dominatesAt dominatesOn equalCosts lowerTwin hides hidden skyline dominators band dominated rankBefore rank onK chosen chosenCosts listedRows windowsOf minuteBad windowBad hoursBad openIn blockOpen openMoves movesUnder movesOf firstMove lastMove nodeSide filled rootLeast filledTree ruled eights evened mended cut levels built loadTree earlierInGap goesInto childPlace sidesAt leastBy leftPart split replaceAt enterNode rootOf enterTree without keepChild keepChildren withdrawNode settled enterAll withdrawTree costsOn unchanged recostTree nodeOf nodesFrom nodesOf nearCornerOf farCornerOf opens nodesOpened missing noticeOf accepted refusedWith orElse rowsAnswer sizeBad memoryNeed blockBad rowRefusal rowsRefusal loadAnswer onBoard giveBlock blocksOn rowBlocks loaded changeRefusal changedMoves changedBlocks changed keepsMoves changesNothing listOf changeNotice changeAnswer hoursRefusal queryRefusal queryRows queryAnswer changeTree opensFor withdrawOpens changeOpens
 computing = tt

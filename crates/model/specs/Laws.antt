@@ -22,5 +22,6 @@ pub mod Notice
 pub mod Holder
 pub mod Changes
 pub mod TwinChanges
+pub mod Opening
 pub mod Blocks
 pub mod Hours

@@ -65,7 +65,7 @@ pub record Dominates (d : ℕ) (p q : List ℕ) : Type 0 where
 take-past : (d : ℕ) (p : List ℕ) (i : ℕ) → d ≤ i → getD (take d p) i 0 ≡ 0
 take-past d p i h = List·getD-eq-default (take d p) 0 (omega (arith, length-take d p))
 
-take-le : (d : ℕ) (p q : List ℕ) → ((i : ℕ) → i < d → getD p i 0 ≤ getD q i 0) → (i : ℕ) → getD (take d p) i 0 ≤ getD (take d q) i 0
+pub take-le : (d : ℕ) (p q : List ℕ) → ((i : ℕ) → i < d → getD p i 0 ≤ getD q i 0) → (i : ℕ) → getD (take d p) i 0 ≤ getD (take d q) i 0
 take-le d p q f i =
     byCases (ltb i d)
     (λ e. let h = ltb-true i d e in omega (arith, getD-take d p i 0 h, getD-take d q i 0 h, f i h))
@@ -136,6 +136,12 @@ dominatesOn-irrefl d k p = any-none (λ s. dominatesAt s p p) ways (mem-each _ w
 pub equal-not-dominates : (d : ℕ) (p q : List ℕ) → take d p ≡ take d q → dominates d p q ≡ false
 unfolding dominates
 equal-not-dominates d p q e = ap (λ (r : List ℕ). better (take d p) r) (sym e) ∙ dominates-irrefl d p
+
+pub nowhere-below : (d : ℕ) (p q r : List ℕ) → length p ≡ length q → nowhereGreater (take d p) (take d q) ≡ true
+    → ((i : ℕ) → i < d → getD q i 0 ≤ getD r i 0) → nowhereGreater (take d p) (take d r) ≡ true
+nowhere-below d p q r n e f =
+    places-nowhere-greater (take d p) (take d r)
+    (λ i. le-trans (nowhere-greater-places (take d p) (take d q) (take-same-length d p q n) e i) (take-le d q r f i))
 
 module _ (d : ℕ) (p q r : List ℕ) (n : length p ≡ length q) (m : length q ≡ length r) where
   pub dominates-below : dominates d p q ≡ true → ((i : ℕ) → i < d → getD q i 0 ≤ getD r i 0) → dominates d p r ≡ true

@@ -1,11 +1,10 @@
--- Nodes and their regions: what lies in a region, and which nodes a search for the list need not open.
+-- Nodes and their regions: what lies in a region, and that the listed moves are enough to hold a corner against.
 use Prim.Native.Nat.{ℕ, zero, suc, _≤_, _<_}
 use mathlib.Core.Bool.{Bool, true, false, not}
 use mathlib.Core.List.{List, [], _∷_, _++_, flatMap, append-assoc, append-nil, List·Memᴰ, List·Memᴰ·head, List·Memᴰ·tail, List·Memᴰ·not-nil, Memᴰ·append-left, Memᴰ·append-right}
 use mathlib.Core.Path.{_≡_, refl, sym, ap, _∙_, subst}
 use native.Mathlib.Omega.{arith}
 use lib.ListN.{length, getD, length-append}
-use borrow.Author.Tests.{not-false}
 use Rattle.zorder.specs.Between.{rowCosts, RowCosts, before, nearOf, farOf}
 use Rattle.zorder.specs.Laws.Between.{near-row, near-le, far-ge, near-part, far-part}
 use Rattle.model.specs.Basics.{Each, any, firstOr, lastOr}
@@ -16,7 +15,7 @@ use Rattle.model.specs.Tree.{Entry, Tree, empty, rooted, movesUnder, mov
 use Rattle.model.specs.Nodes.{Node, nodeOf, nodesFrom, nodesOf, nearCornerOf, farCornerOf, opens}
 use Rattle.model.specs.Sound.{Fit}
 use Rattle.model.specs.Laws.Bool.{byCases, not-flip, or-false-left, same-test, both-ways}
-use Rattle.model.specs.Laws.Basics.{each-mem, each-mono, mem-each, each-append, each-left, each-right, last-mem, any-mem, any-witness, any-mono, mem-pos}
+use Rattle.model.specs.Laws.Basics.{each-mem, each-mono, each-append, each-left, each-right, last-mem, any-mem, any-witness, mem-pos}
 use Rattle.model.specs.Laws.Sorting.{rising-left, rising-right, first-least, last-greatest}
 use Rattle.model.specs.Laws.Order.{move-order}
 use Rattle.model.specs.Laws.Dominance.{dominates-below, below-dominates, row-lengths}
@@ -145,19 +144,6 @@ module _ (d : ℕ) (l : d ≤ rowCosts) {p p' q' q : List ℕ} (s : Inside d p p
   far-inside : (i : ℕ) → getD (farOf d p' q') i 0 ≤ getD (farOf d p q) i 0
   far-inside = far-part d p p' q' q l (s .row) (s .first) (s .order) (s .last)
 
-  inside-dominated : (x : List ℕ) → RowCosts d x → dominates d x (nearOf d p q) ≡ true → dominates d x (nearOf d p' q') ≡ true
-  inside-dominated x k e =
-      dominates-below d x (nearOf d p q) (nearOf d p' q') (row-lengths k (near-row d p q l)) (row-lengths (near-row d p q l) (near-row d p' q' l)) e
-      (λ i b. near-inside i)
-
--- A node is not opened if what dominates the near corner of one not opened dominates its own.
-unopened : (d : ℕ) (all : List Move) (n n' : Node)
-    → ((m : Move) → List·Memᴰ m all → dominates d (m .costs) (nearCornerOf d n) ≡ true → dominates d (m .costs) (nearCornerOf d n') ≡ true)
-    → opens d all n ≡ false → opens d all n' ≡ false
-unfolding opens
-unopened d all n n' f e =
-    ap not (any-mono (λ m. dominates d (m .costs) (nearCornerOf d n)) (λ m. dominates d (m .costs) (nearCornerOf d n')) all f (not-false _ e))
-
 pub corner-row : (d : ℕ) (n : Node) → d ≤ rowCosts → RowCosts d (nearCornerOf d n)
 unfolding nearCornerOf
 corner-row d n = near-row d (n .first .costs) (n .last .costs)
@@ -203,7 +189,7 @@ module _ (d c : ℕ) (l : d ≤ rowCosts) where
           rising-left (moveBefore d) ns (run .back)
           (rising-right (moveBefore d) (run .front) (ns ++ run .back) (subst (λ (xs : List Move). ordered d xs ≡ true) (run .joined) r))
 
-    -- The region of a run of the moves lies in theirs, so what dominates their near corner dominates the run's.
+    -- The region of a run of the moves lies in theirs.
     module _ {ns : List Move} (run : RunOf ns ms) (some : 0 < length ns) where
       run-inside : Inside d (nodeOf ms .first .costs) (nodeOf ns .first .costs) (nodeOf ns .last .costs) (nodeOf ms .last .costs)
       run-inside =
@@ -224,13 +210,6 @@ module _ (d c : ℕ) (l : d ≤ rowCosts) where
       unfolding farCornerOf
       far-run = far-inside d l run-inside
 
-      pub run-dominated : (p : List ℕ) → RowCosts d p → dominates d p (nearCornerOf d (nodeOf ms)) ≡ true → dominates d p (nearCornerOf d (nodeOf ns)) ≡ true
-      unfolding nearCornerOf
-      run-dominated = inside-dominated d l run-inside
-
-      pub run-unopened : (all : List Move) → Each (Fit c d) all → opens d all (nodeOf ms) ≡ false → opens d all (nodeOf ns) ≡ false
-      run-unopened all fs = unopened d all (nodeOf ms) (nodeOf ns) (λ m k. run-dominated (m .costs) (each-mem (Fit c d) fs k .costs))
-
   module _ (ms : List Move) (es : Each (Fit c d) ms) (r : ordered d ms ≡ true) {n : Node} (i : NodeIn ms n) where
     module _ {x : Move} (m : List·Memᴰ x (n .under)) where
       pub node-near : (k : ℕ) → getD (nearCornerOf d n) k 0 ≤ getD (x .costs) k 0
@@ -243,28 +222,6 @@ module _ (d c : ℕ) (l : d ≤ rowCosts) where
           subst (λ (z : Node). getD (x .costs) k 0 ≤ getD (farCornerOf d z) k 0) (i .made)
           (far-above (n .under) (run-fit ms es r (i .run)) (run-ordered ms es r (i .run)) m k)
 
-    pub node-dominated : Some n → (p : List ℕ) → RowCosts d p → dominates d p (nearCornerOf d (nodeOf ms)) ≡ true → dominates d p (nearCornerOf d n) ≡ true
-    node-dominated some p k e =
-        subst (λ (z : Node). dominates d p (nearCornerOf d z) ≡ true) (i .made) (run-dominated ms es r (i .run) some p k e)
-
-  -- ---- a node of the nest and those below it
-
-  -- What dominates a node's near corner dominates that of every node below, so that under a node not opened none is opened.
-  module _ (h : ℕ) (es : List (Entry h)) (fs : Each (Fit c d) (movesUnder (suc h) es)) (r : ordered d (movesUnder (suc h) es) ≡ true)
-      (some : 0 < length es) (f : Each (Filled h) es) where
-    pub below-dominated : (p : List ℕ) → RowCosts d p → dominates d p (nearCornerOf d (nodeOf (movesUnder (suc h) es))) ≡ true
-        → Each (λ n. dominates d p (nearCornerOf d n) ≡ true) (nodesFrom h es)
-    below-dominated p k e =
-        mem-each (λ n. dominates d p (nearCornerOf d n) ≡ true) (nodesFrom h es)
-        (λ n m. node-dominated (movesUnder (suc h) es) fs r (each-mem (NodeIn (movesUnder (suc h) es)) (nodes-in h es) m) (each-mem Some (nodes-some h es some f) m) p k e)
-
-    module _ (all : List Move) (gs : Each (Fit c d) all) (e : opens d all (nodeOf (movesUnder (suc h) es)) ≡ false) where
-      pub below-unopened : Each (λ n. opens d all n ≡ false) (nodesFrom h es)
-      below-unopened =
-          mem-each (λ n. opens d all n ≡ false) (nodesFrom h es)
-          (λ n m. unopened d all (nodeOf (movesUnder (suc h) es)) n
-          (λ x k e. each-mem (λ n. dominates d (x .costs) (nearCornerOf d n) ≡ true) (below-dominated (x .costs) (each-mem (Fit c d) gs k .costs) e) m) e)
-
   -- ---- the list
 
   -- what hides a move is nowhere greater, and what dominates it hides it
@@ -274,6 +231,22 @@ module _ (d c : ℕ) (l : d ≤ rowCosts) where
   dominates-hidden : {m : Move} (n : Move) {ms : List Move} → List·Memᴰ m ms → dominates d (m .costs) (n .costs) ≡ true → hidden d ms n ≡ true
   unfolding hidden
   dominates-hidden {m} n k e = any-mem (λ p. hides d p n) k (dominates-hides d m n e)
+
+  -- A node is opened if a move lies in its region that no move held against it hides.
+  pub unhidden-opened : (all : List Move) → Each (Fit c d) all → (n : Node) (x : Move) → Fit c d x
+      → ((i : ℕ) → getD (nearCornerOf d n) i 0 ≤ getD (x .costs) i 0) → hidden d all x ≡ false → opens d all n ≡ true
+  unfolding opens
+  unhidden-opened all es n x f near h = not-flip (any by all) (byCases (any by all) dominated (λ e. e))
+    where
+      by : Move → Bool
+      by p = dominates d (p .costs) (nearCornerOf d n)
+
+      dominated : any by all ≡ true → any by all ≡ false
+      dominated e =
+          let w = any-witness by all e in
+          let p = row-lengths (each-mem (Fit c d) es (w .1) .costs) (corner-row d n l) in
+          let q = row-lengths (corner-row d n l) (f .costs) in
+          both-ways (dominates-hidden x (w .1) (dominates-below d (w .0 .costs) (nearCornerOf d n) (x .costs) p q (w .2) (λ j b. near j))) h
 
   module _ (ms : List Move) (es : Each (Fit c d) ms) (r : ordered d ms ≡ true) where
     listed-dominates : (q : List ℕ) → RowCosts d q → {m : Move} → List·Memᴰ m ms → dominates d (m .costs) q ≡ true
@@ -301,27 +274,10 @@ module _ (d c : ℕ) (l : d ≤ rowCosts) where
         by : Move → Bool
         by m = dominates d (m .costs) q
 
-    pub opens-listed : (n : Node) → opens d ms n ≡ opens d (skyline d ms) n
-    unfolding opens
-    opens-listed n = ap not (listed-enough-corner (nearCornerOf d n) (corner-row d n l))
-
     -- a node with a listed move under it
     node-opened : {n : Node} {x : Move} → NodeIn ms n → List·Memᴰ x (n .under) → List·Memᴰ x (skyline d ms) → opens d ms n ≡ true
-    unfolding opens
-    node-opened {n} {x} i m k = not-flip (any by ms) (byCases (any by ms) dominated (λ h. h))
-      where
-        by : Move → Bool
-        by p = dominates d (p .costs) (nearCornerOf d n)
-
-        dominated : any by ms ≡ true → any by ms ≡ false
-        dominated h =
-            let w = any-witness by ms h in
-            let s = skyline-mem d ms k in
-            let p = row-lengths (each-mem (Fit c d) es (w .1) .costs) (corner-row d n l) in
-            let q = row-lengths (corner-row d n l) (each-mem (Fit c d) es (s .0) .costs) in
-            both-ways
-            (dominates-hidden x (w .1) (dominates-below d (w .0 .costs) (nearCornerOf d n) (x .costs) p q (w .2) (λ j b. node-near ms es r i m j)))
-            (s .1)
+    node-opened {n} {x} i m k =
+        let s = skyline-mem d ms k in unhidden-opened ms es n x (each-mem (Fit c d) es (s .0)) (node-near ms es r i m) (s .1)
 
   -- ---- trees
 

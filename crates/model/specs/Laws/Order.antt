@@ -1,9 +1,9 @@
 -- Z-order of moves and rows, and their numbers.
 use Prim.Native.Nat.{ℕ, _≤_, _<_}
-use mathlib.Core.Bool.{Bool, true, false, not, _&&_, _||_}
-use mathlib.Core.List.{List, [], _∷_, _++_, map, List·Memᴰ, List·Memᴰ·not-nil, List·Memᴰ·cases-cons}
+use mathlib.Core.Bool.{Bool, true, false, cond, not, _&&_, _||_}
+use mathlib.Core.List.{List, [], _∷_, _++_, map, List·Memᴰ, List·Memᴰ·head, List·Memᴰ·tail, List·Memᴰ·not-nil, List·Memᴰ·cases-cons}
 use mathlib.Core.Logic.{⊎-elim}
-use mathlib.Core.Path.{_≡_, refl, sym, ap, _∙_}
+use mathlib.Core.Path.{_≡_, refl, sym, ap, _∙_, subst}
 use native.Mathlib.Nat.{le-refl}
 use native.Mathlib.Omega.{arith}
 use lib.Dec.{ltb, eqb}
@@ -13,10 +13,11 @@ use Rattle.zorder.specs.Refusal.{costCountBad}
 use Rattle.zorder.specs.Laws.Between as Between
 use Rattle.model.specs.Basics.{Each, consIf, select, any, has, distinct, insertBy, sortBy}
 use Rattle.model.specs.Moves.{Move, Row, rowOf, zBefore, moveBefore, rowBefore}
+use Rattle.model.specs.Withdrawing.{costsOn}
 use Rattle.model.specs.Calls.{onBoard}
 use Rattle.model.specs.Sound.{Fit}
 use Rattle.model.specs.Laws.Bool.{and-left, and-right, and-both, not-flip, not-back, or-cases, or-left, or-right, or-false-left, or-false-right, or-false-both, same-test, both-ways, condCases, and-false-right, and-drop-left}
-use Rattle.model.specs.Laws.Basics.{Once, each-mem, mem-each, each-left, each-select, any-false, any-none, any-map, any-ext}
+use Rattle.model.specs.Laws.Basics.{Once, each-mem, mem-each, each-left, each-select, any-mem, any-false, any-none, any-map, any-ext}
 use Rattle.model.specs.Laws.Sorting.{StrictOrder, each-insert, each-sort}
 
 -- ---- Z-order
@@ -214,3 +215,32 @@ has-numbers n ms =
 -- a move whose number is not on the board is not on it
 pub off-board : (m : Move) (ms : List Move) → onBoard (m .number) ms ≡ false → ¬ List·Memᴰ m ms
 off-board m ms h = not-member (λ m. m .number) m ms (has-numbers (m .number) ms ∙ h)
+
+-- A move of a list that has a number, and the costs that the number has there.
+pub record MoveOf (n : ℕ) (costs : List ℕ) (ms : List Move) : Type 0 where
+  pub move : Move
+  pub there : List·Memᴰ move ms
+  pub number : move .number ≡ n
+  pub costs-of : costs ≡ move .costs
+
+pub move-on : (n : ℕ) (ms : List Move) → onBoard n ms ≡ true → MoveOf n (costsOn n ms) ms
+unfolding onBoard any costsOn
+move-on n [] e = both-ways e refl
+move-on n (m ∷ ms) e = first (eqb (m .number) n) refl e (move-on n ms)
+  where
+    first : (b : Bool) → eqb (m .number) n ≡ b → (b || onBoard n ms) ≡ true → (onBoard n ms ≡ true → MoveOf n (costsOn n ms) ms)
+        → MoveOf n (cond b (m .costs) (costsOn n ms)) (m ∷ ms)
+    first true h e rest = record { move = m; there = List·Memᴰ·head refl; number = eqb-true (m .number) n h; costs-of = refl }
+    first false h e rest =
+        let r = rest e in record { move = r .move; there = List·Memᴰ·tail (r .there); number = r .number; costs-of = r .costs-of }
+
+pub costs-on-fit : (d n : ℕ) (ms : List Move) → Each (λ m. RowCosts d (m .costs)) ms → onBoard n ms ≡ true → RowCosts d (costsOn n ms)
+costs-on-fit d n ms es e =
+    let x = move-on n ms e in subst (RowCosts d) (sym (x .costs-of)) (each-mem (λ m. RowCosts d (m .costs)) es (x .there))
+
+-- Of moves with different numbers each has the costs of its number.
+pub costs-on-own : (ms : List Move) → distinct (map (λ m. m .number) ms) ≡ true → {x : Move} → List·Memᴰ x ms → costsOn (x .number) ms ≡ x .costs
+unfolding onBoard
+costs-on-own ms h {x} k =
+    let y = move-on (x .number) ms (any-mem (λ m. eqb (m .number) (x .number)) k (eq-eqb (x .number) (x .number) refl)) in
+    y .costs-of ∙ ap (λ (m : Move). m .costs) (mem-number (λ m. m .number) ms h (y .there) k (y .number))
