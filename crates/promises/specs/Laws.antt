@@ -2,6 +2,7 @@
 pub mod Tab
 pub mod Stands
 pub mod Demand3
+pub mod BroughtUp
 pub mod Accept
 pub mod Written
 pub mod Width

@@ -36,7 +36,7 @@ unfolding counted rowsAfter
 told-rows zero rows lent = take-append-seam rows (drop (length rows) lent)
 told-rows (suc k) rows lent = ap (λ (b : Bool). cond b rows []) (sym (eqb·suc-zero k))
 
-said-rows : (a : calls.Answer) (rows : List Row) (nodes : ℕ) (lent : List Row) (r : Answer) (lent' : List Row) → Said a rows nodes lent r lent'
+pub said-rows : (a : calls.Answer) (rows : List Row) (nodes : ℕ) (lent : List Row) (r : Answer) (lent' : List Row) → Said a rows nodes lent r lent'
     → take (r .count) lent' ≡ cond (isAccepted (answerOf (r .verdict))) rows []
 unfolding isAccepted answerOf
 said-rows a rows nodes lent r lent' s =

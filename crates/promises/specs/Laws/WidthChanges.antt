@@ -1,7 +1,7 @@
 -- Costs past the first d do not matter to changes (Card 13): answers, notices, boards and trees of loads and changes are the
 -- same with other costs past d in the rows.
 use Prim.Native.Nat.{ℕ, suc, _≤_}
-use mathlib.Core.Bool.{Bool, true, false, cond, not, _&&_, _||_, false≢true}
+use mathlib.Core.Bool.{Bool, true, false, cond, not, _&&_}
 use mathlib.Core.List.{List, [], _∷_, _++_, map, map-map, map-append, List·Memᴰ}
 use mathlib.Core.Path.{_≡_, refl, sym, ap, ap₂, _∙_, subst}
 use borrow.Author.Tests.{not-false}
@@ -25,9 +25,10 @@ use Rattle.model.specs.Calls.{Answer, refusedWith, orElse, rowsAnswer, Board, b
 use Rattle.model.specs.Laws.Bool.{same-test, cond-map}
 use Rattle.model.specs.Laws.Basics.{each-mem, mem-each, each-map, each-select, any-map, any-ext, select-map, select-ext, equal-refl, equal-true}
 use Rattle.model.specs.Laws.Sorting.{map-insert, each-insert}
+use Rattle.model.specs.Laws.Order.{costs-on-fit}
 use Rattle.promises.specs.Width.{moveWith, inputWith, rowWith, boardWith, changeWith, treeWith}
 use Rattle.promises.specs.Laws.Width.{KeepsFirst, move-before-with, skyline-with, rows-with}
-use Rattle.promises.specs.Laws.WidthTree.{sorted-with, load-with, enter-with, without-with, withdraw-with, moves-of-with}
+use Rattle.promises.specs.Laws.WidthTree.{sorted-with, load-with, enter-with, without-with, costs-on-with, on-board-with, withdraw-with, moves-of-with}
 
 -- The costs of a row, "costs past d are zero".
 abbrev pub FitCosts : ℕ → Move → Type 0
@@ -106,26 +107,12 @@ module _ (d : ℕ) (g : List ℕ → List ℕ) (G : KeepsFirst d g) (l : d ≤ r
       ap (insert d (record { number = n; costs = g costs })) (without-with d g G n ms)
       ∙ sym (map-insert (moveWith g) (moveBefore d) (moveBefore d) (λ m n. sym (move-before-with d g G m n)) (record { number = n; costs = costs }) (without n ms))
 
-  costs-on-with : (n : ℕ) (ms : List Move) → costsOn n (map (moveWith g) ms) ≡ g (costsOn n ms)
-  unfolding costsOn
-  costs-on-with n [] = sym (G .none)
-  costs-on-with n (m ∷ ms) = ap (cond (eqb (m .number) n) (g (m .costs))) (costs-on-with n ms) ∙ sym (cond-map g (eqb (m .number) n) (m .costs) (costsOn n ms))
-
-  costs-on-fit : (n : ℕ) (ms : List Move) → Each (FitCosts d) ms → onBoard n ms ≡ true → RowCosts d (costsOn n ms)
-  unfolding costsOn onBoard any
-  costs-on-fit n [] h e = absurd (false≢true e)
-  costs-on-fit n (m ∷ ms) h e = go (eqb (m .number) n) e (costs-on-fit n ms (h .1))
-    where
-      go : (b : Bool) → (b || onBoard n ms) ≡ true → (onBoard n ms ≡ true → RowCosts d (costsOn n ms)) → RowCosts d (cond b (m .costs) (costsOn n ms))
-      go true e rest = h .0
-      go false e rest = rest e
-
   -- A re-cost of a move that is on the board changes nothing in the same cases.
   unchanged-with : (n : ℕ) (costs : List ℕ) (ms : List Move) → RowCosts d costs → Each (FitCosts d) ms → onBoard n ms ≡ true
       → unchanged n (g costs) (map (moveWith g) ms) ≡ unchanged n costs ms
   unfolding unchanged
   unchanged-with n costs ms f h e =
-      ap (equal (g costs)) (costs-on-with n ms) ∙ equal-with costs (costsOn n ms) f (costs-on-fit n ms h e)
+      ap (equal (g costs)) (costs-on-with d g G n ms) ∙ equal-with costs (costsOn n ms) f (costs-on-fit d n ms h e)
 
   recost-with : (n : ℕ) (costs : List ℕ) (t : Tree) → RowCosts d costs → Each (FitCosts d) (movesOf t) → onBoard n (movesOf t) ≡ true
       → recostTree d (record { number = n; costs = g costs }) (treeWith g t) ≡ treeWith g (recostTree d (record { number = n; costs = costs }) t)
@@ -147,18 +134,14 @@ module _ (g : List ℕ → List ℕ) (b : Board) (G : KeepsFirst (b .dimension) 
   abbrev dim : ℕ
   dim = b .dimension
 
-  on-board-with : (n : ℕ) → onBoard n (map (moveWith g) (b .moves)) ≡ onBoard n (b .moves)
-  unfolding onBoard
-  on-board-with n = any-map (λ m. eqb (m .number) n) (moveWith g) (b .moves)
-
   past-with : (costs : List ℕ) → RowCosts dim costs → costPastBad dim (g costs) ≡ costPastBad dim costs
   past-with costs f = G .past costs (f .past) ∙ sym (f .past)
 
   change-refusal-with : (x : Change) → FitChange dim x → changeRefusal (boardWith g b) (changeWith g x) ≡ changeRefusal b x
   unfolding changeRefusal changeWith
-  change-refusal-with (enter n block costs) f = λ i. refusal ((leb (b .size) n, 4) ∷ (blockBad block, 11) ∷ (past-with costs f i, 7) ∷ (on-board-with n i, 5) ∷ [])
-  change-refusal-with (withdraw n) f = λ i. refusal ((leb (b .size) n, 4) ∷ (not (on-board-with n i), 6) ∷ [])
-  change-refusal-with (recost n block costs) f = λ i. refusal ((leb (b .size) n, 4) ∷ (blockBad block, 11) ∷ (past-with costs f i, 7) ∷ (not (on-board-with n i), 6) ∷ [])
+  change-refusal-with (enter n block costs) f = λ i. refusal ((leb (b .size) n, 4) ∷ (blockBad block, 11) ∷ (past-with costs f i, 7) ∷ (on-board-with dim g G n (b .moves) i, 5) ∷ [])
+  change-refusal-with (withdraw n) f = λ i. refusal ((leb (b .size) n, 4) ∷ (not (on-board-with dim g G n (b .moves) i), 6) ∷ [])
+  change-refusal-with (recost n block costs) f = λ i. refusal ((leb (b .size) n, 4) ∷ (blockBad block, 11) ∷ (past-with costs f i, 7) ∷ (not (on-board-with dim g G n (b .moves) i), 6) ∷ [])
 
   change-blocks-with : (x : Change) → changedBlocks (changeWith g x) ≡ changedBlocks x
   unfolding changeWith changedBlocks

@@ -1,26 +1,29 @@
 -- Costs past the first d do not matter to the tree (Card 13): loading, entering and withdrawing give the same tree, and lists
--- open the same nodes, with other costs past d in the rows.
+-- and withdrawals open the same nodes, with other costs past d in the rows.
 use Prim.Native.Nat.{ℕ, zero, suc, _+_, _-_}
-use mathlib.Core.Bool.{Bool, true, false, cond, not, _&&_}
+use mathlib.Core.Bool.{Bool, true, false, cond, not, _&&_, _||_}
 use mathlib.Core.List.{List, [], _∷_, _++_, map, flatMap, map-append}
 use mathlib.Core.Path.{_≡_, refl, sym, ap, ap₂, _∙_}
 use lib.Dec.{ltb, leb, eqb}
 use lib.ListN.{length, take, drop, length-map}
-use Rattle.zorder.specs.Between.{sideOf, nearOf}
-use Rattle.zorder.specs.Laws.FirstCosts.{side-alike, near-alike}
-use Rattle.model.specs.Basics.{any, all, count, firstOr, lastOr, within}
+use Rattle.zorder.specs.Between.{sideOf, nearOf, farOf}
+use Rattle.zorder.specs.Laws.FirstCosts.{side-alike, near-alike, far-alike}
+use Rattle.model.specs.Basics.{any, all, count, firstOr, lastOr, within, equal}
 use Rattle.model.specs.Moves.{Move, noMove, moveBefore, insert, inZOrder, ordered}
-use Rattle.model.specs.Dominance.{better, dominates}
+use Rattle.model.specs.Dominance.{better, dominates, equalCosts}
+use Rattle.model.specs.Lists.{skyline}
 use Rattle.model.specs.Tree.{Entry, Tree, empty, rooted, movesUnder, movesOf, firstMove, lastMove, nodeSide, filled, rootLeast, filledTree, ruled}
 use Rattle.model.specs.Loading.{eights, evened, mended, cut, levels, built, loadTree}
 use Rattle.model.specs.Entering.{earlierInGap, goesInto, childPlace, sidesAt, leastBy, leftPart, split, replaceAt, enterNode, rootOf, enterTree}
-use Rattle.model.specs.Withdrawing.{without, Remainder, keepChild, keepChildren, withdrawNode, settled, enterAll, withdrawTree}
-use Rattle.model.specs.Nodes.{Node, nodeOf, nodesFrom, nodesOf, nearCornerOf, opens, nodesOpened}
-use Rattle.promises.specs.Width.{moveWith, entryWith, treeWith}
+use Rattle.model.specs.Withdrawing.{without, Remainder, keepChild, keepChildren, withdrawNode, settled, enterAll, withdrawTree, costsOn}
+use Rattle.model.specs.Nodes.{Node, nodeOf, nodesFrom, nodesOf, nearCornerOf, farCornerOf, opens, nodesOpened}
+use Rattle.model.specs.Calls.{onBoard, Change, enter, withdraw, recost}
+use Rattle.model.specs.Opening.{opensFor, withdrawOpens, changeOpens}
+use Rattle.promises.specs.Width.{moveWith, changeWith, entryWith, treeWith}
 use Rattle.model.specs.Laws.Bool.{cond-map}
 use Rattle.model.specs.Laws.Basics.{any-map, select-map, count-map, map-take}
 use Rattle.model.specs.Laws.Sorting.{map-insert, map-sort, map-rising}
-use Rattle.promises.specs.Laws.Width.{KeepsFirst, move-before-with}
+use Rattle.promises.specs.Laws.Width.{KeepsFirst, move-before-with, skyline-with}
 
 -- ---- lists mapped
 
@@ -230,6 +233,15 @@ module _ (d : ℕ) (g : List ℕ → List ℕ) (G : KeepsFirst d g) where
   unfolding without
   without-with n ms = select-map (λ m. not (eqb (m .number) n)) (moveWith g) ms
 
+  pub costs-on-with : (n : ℕ) (ms : List Move) → costsOn n (map (moveWith g) ms) ≡ g (costsOn n ms)
+  unfolding costsOn
+  costs-on-with n [] = sym (G .none)
+  costs-on-with n (m ∷ ms) = ap (cond (eqb (m .number) n) (g (m .costs))) (costs-on-with n ms) ∙ sym (cond-map g (eqb (m .number) n) (m .costs) (costsOn n ms))
+
+  pub on-board-with : (n : ℕ) (ms : List Move) → onBoard n (map (moveWith g) ms) ≡ onBoard n ms
+  unfolding onBoard
+  on-board-with n ms = any-map (λ m. eqb (m .number) n) (moveWith g) ms
+
   abbrev remainderWith : (h : ℕ) → Remainder h → Remainder h
   remainderWith h r = record { entries = map (entryWith g h) (r .entries); moves = map (moveWith g) (r .moves) }
 
@@ -284,7 +296,7 @@ module _ (d : ℕ) (g : List ℕ → List ℕ) (G : KeepsFirst d g) where
       r : Remainder h
       r = withdrawNode n h es
 
-  -- ---- the rules, and the nodes that a list opens
+  -- ---- the rules, and the nodes that lists and withdrawals open
 
   pub moves-of-with : (t : Tree) → movesOf (treeWith g t) ≡ map (moveWith g) (movesOf t)
   unfolding movesOf treeWith entryWith
@@ -344,3 +356,33 @@ module _ (d : ℕ) (g : List ℕ → List ℕ) (G : KeepsFirst d g) where
       ap₂ (λ (ms : List Move) (ns : List Node). count (opens d ms) ns) (moves-of-with t) (nodes-with t)
       ∙ count-map (opens d (map (moveWith g) (movesOf t))) nodeWith (nodesOf t)
       ∙ (λ i. count (λ n. opens-with (movesOf t) n i) (nodesOf t))
+
+  opens-for-with : (ms : List Move) (n : ℕ) (z : Node) → opensFor d (map (moveWith g) ms) n (nodeWith z) ≡ opensFor d ms n z
+  unfolding opensFor farCornerOf dominates equalCosts
+  opens-for-with ms n z =
+      ap₂ _&&_
+      (ap₂ (λ (cs q : List ℕ). better cs (take d q) || equal cs (take d q)) first far)
+      (ap (λ (ns : List Move). opens d ns (nodeWith z)) (without-with n ms) ∙ opens-with (without n ms) z)
+    where
+      first : take d (costsOn n (map (moveWith g) ms)) ≡ take d (costsOn n ms)
+      first = ap (take d) (costs-on-with n ms) ∙ G .first (costsOn n ms)
+
+      far : farOf d (g (z .first .costs)) (g (z .last .costs)) ≡ farOf d (z .first .costs) (z .last .costs)
+      far = far-alike d (g (z .first .costs)) (z .first .costs) (g (z .last .costs)) (z .last .costs) (G .first (z .first .costs)) (G .first (z .last .costs))
+
+  withdraw-opens-with : (n : ℕ) (t : Tree) → withdrawOpens d n (treeWith g t) ≡ withdrawOpens d n t
+  unfolding withdrawOpens
+  withdraw-opens-with n t =
+      ap₂ (λ (ms : List Move) (zs : List Node). cond (onBoard n ms) (count (opensFor d ms n) zs) 0)
+      (ap (skyline d) (moves-of-with t) ∙ skyline-with d g G (movesOf t)) (nodes-with t)
+      ∙ ap₂ (λ (b : Bool) (k : ℕ). cond b k 0) (on-board-with n list)
+      (count-map (opensFor d (map (moveWith g) list) n) nodeWith (nodesOf t) ∙ (λ i. count (λ z. opens-for-with list n z i) (nodesOf t)))
+    where
+      list : List Move
+      list = skyline d (movesOf t)
+
+  pub change-opens-with : (x : Change) (t : Tree) → changeOpens d (changeWith g x) (treeWith g t) ≡ changeOpens d x t
+  unfolding changeOpens changeWith
+  change-opens-with (enter n block costs) t = refl
+  change-opens-with (withdraw n) t = withdraw-opens-with n t
+  change-opens-with (recost n block costs) t = refl
