@@ -1,27 +1,27 @@
 -- What a search of a line opens: under a node that is not opened, none.
 use Prim.Native.Nat.{ℕ, zero, suc, _+_, _-_, _≤_, _<_}
-use mathlib.Core.Bool.{Bool, true, false, cond, not}
-use mathlib.Core.List.{List, [], _∷_, _++_, map-append, append-nil, append-assoc}
+use mathlib.Core.Bool.{Bool, true, false, cond}
+use mathlib.Core.List.{List, [], _∷_, _++_, map-append, append-nil, append-assoc, List·Memᴰ, Memᴰ·map}
 use mathlib.Core.Path.{_≡_, refl, sym, ap, ap₂, _∙_, subst}
 use native.Mathlib.Nat.{zero-add, le-refl}
 use native.Mathlib.Omega.{arith}
 use lib.Dec.{leb}
-use lib.ListN.{length, take, drop, getD, take-append-drop, drop-of-length-le}
-use lib.Seq.{drop-cons, drop-drop, getD-drop}
-use Rattle.zorder.specs.Between.{rowCosts, nearOf}
-use Rattle.model.specs.Basics.{Each, any, select, count, firstOr, lastOr}
+use lib.ListN.{length, take, drop, getD, length-take, take-append-drop, drop-of-length-le}
+use lib.Seq.{drop-cons, drop-drop, getD-drop, getD-take}
+use Rattle.zorder.specs.Between.{rowCosts}
+use Rattle.model.specs.Basics.{Each, select, count, firstOr, lastOr}
 use Rattle.model.specs.Moves.{Move, ordered}
-use Rattle.model.specs.Dominance.{dominates}
 use Rattle.model.specs.Tree.{Tree, empty, rooted}
-use Rattle.model.specs.Nodes.{Node, nodeOf, nearCornerOf, nodesOf, opens, nodesOpened}
+use Rattle.model.specs.Nodes.{Node, nodeOf, nodesOf}
 use Rattle.model.specs.Sound.{Fit}
 use Rattle.model.specs.Laws.Bool.{testCases}
-use Rattle.model.specs.Laws.Basics.{each-append, each-mono, count-append, count-none, count-cons}
-use Rattle.model.specs.Laws.Nodes.{RunOf, NodeIn, Some, node-wider, run-fit, run-ordered, run-unopened}
+use Rattle.model.specs.Laws.Basics.{each-append, each-mono, mem-at, count-append, count-none, count-cons}
+use Rattle.model.specs.Laws.Nodes.{RunOf, NodeIn, Some, run-trans, node-wider, run-fit, run-ordered}
+use Rattle.model.specs.Laws.Opening.{Downward}
 use Rattle.line.specs.Line.{Placed, none, lineOf, movesIn, heightsIn}
 use Rattle.line.specs.Places.{moveAt, heightAt, lowerAmong, lower, nodeEnd}
-use Rattle.line.specs.Search.{nodeAt, nodesAt, nodesIn, nodesLeft, nearAt, passedAt, openedFrom, openedPast}
-use Rattle.line.specs.Laws.Line.{Low, WholeTree, moves-line, line-cons}
+use Rattle.line.specs.Search.{nodeAt, nodesAt, nodesIn, nodesLeft, nodeFrom, openedFrom, openedPast}
+use Rattle.line.specs.Laws.Line.{Low, WholeTree, line-cons}
 use Rattle.line.specs.Laws.Decode.{tailOf, tail-low}
 use Rattle.line.specs.Laws.Places.{lower-le, end-rows}
 use Rattle.line.specs.Laws.Search.{tail-lower, tail-left, nodes-line}
@@ -143,24 +143,24 @@ left-of l r rs =
 
 -- ---- the nodes that are opened
 
-module _ (d c : ℕ) (b : d ≤ rowCosts) (all : List Move) (gs : Each (Fit c d) all) where
+module _ (opens : Node → Bool) (d c : ℕ) (down : Downward d c opens) (b : d ≤ rowCosts) where
   module _ (l : ℕ) (r : Placed) (rs : List Placed) (fs : Each (Fit c d) (movesIn (r ∷ rs))) (o : ordered d (movesIn (r ∷ rs)) ≡ true) where
-    none-under : opens d all (nodeAt l r rs) ≡ false → Each (λ n. opens d all n ≡ false) (nodesLeft l (r ∷ tailOf l rs))
+    none-under : opens (nodeAt l r rs) ≡ false → Each (λ n. opens n ≡ false) (nodesLeft l (r ∷ tailOf l rs))
     unfolding nodeAt
     none-under e =
-        each-mono (Of (r ∷ tailOf l rs)) (λ n. opens d all n ≡ false) (nodesLeft l (r ∷ tailOf l rs))
-        (λ n i. subst (λ (z : Node). opens d all z ≡ false) (i .0 .made)
-        (run-unopened d c b (movesIn (r ∷ tailOf l rs)) (run-fit d c b (movesIn (r ∷ rs)) fs o run) (run-ordered d c b (movesIn (r ∷ rs)) fs o run) (i .0 .run) (i .1) all gs e))
+        each-mono (Of (r ∷ tailOf l rs)) (λ n. opens n ≡ false) (nodesLeft l (r ∷ tailOf l rs))
+        (λ n i. subst (λ (z : Node). opens z ≡ false) (i .0 .made)
+        (down (movesIn (r ∷ tailOf l rs)) (run-fit d c b (movesIn (r ∷ rs)) fs o run) (run-ordered d c b (movesIn (r ∷ rs)) fs o run) (n .under) (i .0 .run) (i .1) e))
         (left-of l r (tailOf l rs))
       where
         run : RunOf (movesIn (r ∷ tailOf l rs)) (movesIn (r ∷ rs))
         run = node-run l r rs
 
-    none-opened : opens d all (nodeAt l r rs) ≡ false → count (opens d all) (nodesLeft l (r ∷ rs)) ≡ count (opens d all) (nodesIn (drop (lower l rs) rs))
+    none-opened : opens (nodeAt l r rs) ≡ false → count opens (nodesLeft l (r ∷ rs)) ≡ count opens (nodesIn (drop (lower l rs) rs))
     none-opened e =
-        ap (count (opens d all)) (left-split l r rs)
-        ∙ count-append (opens d all) (nodesLeft l (r ∷ tailOf l rs)) (nodesIn (drop (lower l rs) rs))
-        ∙ ap (λ (n : ℕ). n + count (opens d all) (nodesIn (drop (lower l rs) rs))) (count-none (opens d all) (nodesLeft l (r ∷ tailOf l rs)) (none-under e))
+        ap (count opens) (left-split l r rs)
+        ∙ count-append opens (nodesLeft l (r ∷ tailOf l rs)) (nodesIn (drop (lower l rs) rs))
+        ∙ ap (λ (n : ℕ). n + count opens (nodesIn (drop (lower l rs) rs))) (count-none opens (nodesLeft l (r ∷ tailOf l rs)) (none-under e))
         ∙ zero-add _
 
 -- ---- by places
@@ -183,33 +183,53 @@ all-left [] (suc i) = refl
 all-left (r ∷ rs) zero = refl
 all-left (r ∷ rs) (suc i) = all-left rs i
 
--- The node at level l that starts at place i.
-abbrev nodeFrom : List Placed → ℕ → ℕ → Node
-nodeFrom rs i l = nodeAt l (getD rs i none) (drop (suc i) rs)
+module _ (rs : List Placed) (i : ℕ) (h : i < length rs) (l : ℕ) where
+  here : Placed
+  here = getD rs i none
 
-module _ (rs : List Placed) (i : ℕ) (h : i < length rs) (d l : ℕ) where
-  last-node : nodeFrom rs i l .last ≡ moveAt rs (nodeEnd l i rs - 1)
-  unfolding nodeAt nodeOf lastOr movesIn moveAt
+  later : List Placed
+  later = drop (suc i) rs
+
+  pub first-node : nodeFrom rs i l .first ≡ moveAt rs i
+  unfolding nodeAt nodeOf firstOr movesIn moveAt
+  first-node = refl
+
+  pub last-node : nodeFrom rs i l .last ≡ moveAt rs (nodeEnd l i rs - 1)
+  unfolding nodeAt nodeOf lastOr movesIn moveAt here later
   last-node =
-      let r = getD rs i none in
-      let xs = drop (suc i) rs in
-      let k = lower l xs in
+      let k = lower l later in
       let place : i + k ≡ nodeEnd l i rs - 1 = omega (arith, end-rows l i rs) in
-      last-map r (tailOf l xs)
+      last-map here (tailOf l later)
       ∙ ap (λ (s : Placed). s .move)
-      (ap (lastOr r) (tail-take l xs)
-      ∙ last-take none r xs k (lower-le l xs)
+      (ap (lastOr here) (tail-take l later)
+      ∙ last-take none here later k (lower-le l later)
       ∙ ap (λ (ss : List Placed). getD ss k none) (sym (drop-cons rs i none h))
       ∙ getD-drop i rs k none
       ∙ ap (λ (j : ℕ). getD rs j none) place)
 
-  near-node : nearCornerOf d (nodeFrom rs i l) ≡ nearAt d rs i l
-  unfolding nearCornerOf nodeAt nodeOf firstOr movesIn nearAt moveAt
-  near-node = ap (λ (m : Move). nearOf d (getD rs i none .move .costs) (m .costs)) last-node
+  -- Its moves are a run of all, those from its place up to its end.
+  pub node-in : NodeIn (movesIn rs) (nodeFrom rs i l)
+  unfolding nodeAt nodeOf here later
+  node-in =
+      record {
+        made = refl;
+        run = run-trans (node-run l here later) (subst (λ (ss : List Placed). RunOf (movesIn ss) (movesIn rs)) (drop-cons rs i none h) (drop-run i rs));
+      }
 
-  passed-node : opens d (movesIn rs) (nodeFrom rs i l) ≡ not (passedAt d rs i l)
-  unfolding opens passedAt
-  passed-node = ap (λ (q : List ℕ). not (any (λ m. dominates d (m .costs) q) (movesIn rs))) near-node
+  pub node-under : (j : ℕ) → i ≤ j → j < nodeEnd l i rs → List·Memᴰ (moveAt rs j) (nodeFrom rs i l .under)
+  unfolding nodeAt nodeOf movesIn moveAt here later
+  node-under j f g =
+      let k = lower l later in
+      let t = j - i in
+      let back : i + t ≡ j = omega arith in
+      let inside : t < suc k = omega (arith, end-rows l i rs) in
+      subst (λ (r : Placed). List·Memᴰ (r .move) (movesIn (here ∷ tailOf l later)))
+      (ap (λ (ts : List Placed). getD (here ∷ ts) t none) (tail-take l later)
+      ∙ getD-take (suc k) (here ∷ later) t none inside
+      ∙ ap (λ (ss : List Placed). getD ss t none) (sym (drop-cons rs i none h))
+      ∙ getD-drop i rs t none
+      ∙ ap (λ (j : ℕ). getD rs j none) back)
+      (Memᴰ·map (λ r. r .move) (mem-at (here ∷ tailOf l later) none t (omega (arith, ap length (tail-take l later), length-take k later, lower-le l later))))
 
   past-node : drop (lower l (drop (suc i) rs)) (drop (suc i) rs) ≡ drop (nodeEnd l i rs) rs
   past-node = drop-drop (lower l (drop (suc i) rs)) (suc i) rs ∙ ap (λ (j : ℕ). drop j rs) (sym (end-rows l i rs))
@@ -224,51 +244,47 @@ unfolding lineOf heightAt
 first-height empty w h = absurd (omega arith)
 first-height (rooted k es) w h = omega (arith, ap (λ (rs : List Placed). getD rs 0 none .height) (line-cons (suc k) (suc k) es w))
 
-pub opened-all : (d : ℕ) (t : Tree) → WholeTree t → openedPast d (lineOf t) 0 ≡ nodesOpened d t
-unfolding openedFrom nodesOpened
-opened-all d t w =
-    ap (count (opens d (movesIn (lineOf t)))) (sym (all-left (lineOf t) 0) ∙ nodes-line t w)
-    ∙ ap (λ (ms : List Move). count (opens d ms) (nodesOf t)) (moves-line t)
-
-pub opened-end : (d : ℕ) (rs : List Placed) (i l : ℕ) → length rs ≤ i → openedFrom d rs i l ≡ 0
-unfolding openedFrom nodesLeft count select
-opened-end d rs i l h = ap (λ (ss : List Placed). count (opens d (movesIn rs)) (nodesLeft l ss)) (drop-of-length-le rs h)
-
 count-hit : {A : Type 0} (p : A → Bool) (x : A) (xs : List A) → p x ≡ true → count p (x ∷ xs) ≡ suc (count p xs)
 count-hit p x xs e = count-cons p x xs ∙ ap (λ (b : Bool). cond b (suc (count p xs)) (count p xs)) e
 
-module _ (rs : List Placed) (i : ℕ) (h : i < length rs) (d : ℕ) where
-  -- A node that is opened, above the leaves: its first child is next.
-  pub opened-upper : (l : ℕ) → passedAt d rs i (suc l) ≡ false → openedFrom d rs i (suc l) ≡ suc (openedFrom d rs i l)
-  unfolding openedFrom nodesLeft nodesAt
-  opened-upper l e =
-      let ns = nodesLeft l (getD rs i none ∷ drop (suc i) rs) in
-      let by = opens d (movesIn rs) in
-      ap (λ (ss : List Placed). count by (nodesLeft (suc l) ss)) (drop-cons rs i none h)
-      ∙ count-hit by (nodeFrom rs i (suc l)) ns (passed-node rs i h d (suc l) ∙ ap not e)
-      ∙ ap (λ (ss : List Placed). suc (count by (nodesLeft l ss))) (sym (drop-cons rs i none h))
-
-  -- A leaf that is opened: the search goes on after it.
-  pub opened-leaf : passedAt d rs i 1 ≡ false → openedFrom d rs i 1 ≡ suc (openedPast d rs (nodeEnd 1 i rs))
+module _ (opens : Node → Bool) where
+  pub opened-all : (t : Tree) → WholeTree t → openedPast opens (lineOf t) 0 ≡ count opens (nodesOf t)
   unfolding openedFrom
-  opened-leaf e =
-      let xs = drop (suc i) rs in
-      let by = opens d (movesIn rs) in
-      ap (λ (ss : List Placed). count by (nodesLeft 1 ss)) (drop-cons rs i none h)
-      ∙ ap (count by) (left-leaf (getD rs i none) xs)
-      ∙ count-hit by (nodeFrom rs i 1) (nodesIn (drop (lower 1 xs) xs)) (passed-node rs i h d 1 ∙ ap not e)
-      ∙ ap (λ (ns : List Node). suc (count by ns)) (past-left rs i h d 1)
+  opened-all t w = ap (count opens) (sym (all-left (lineOf t) 0) ∙ nodes-line t w)
 
-  module _ (c : ℕ) (b : d ≤ rowCosts) (fs : Each (Fit c d) (movesIn rs)) (o : ordered d (movesIn rs) ≡ true) where
-    -- A node that is passed by, with all below it.
-    pub opened-passed : (l : ℕ) → passedAt d rs i l ≡ true → openedFrom d rs i l ≡ openedPast d rs (nodeEnd l i rs)
+  pub opened-end : (rs : List Placed) (i l : ℕ) → length rs ≤ i → openedFrom opens rs i l ≡ 0
+  unfolding openedFrom nodesLeft count select
+  opened-end rs i l h = ap (λ (ss : List Placed). count opens (nodesLeft l ss)) (drop-of-length-le rs h)
+
+  module _ (rs : List Placed) (i : ℕ) (h : i < length rs) where
+    -- A node that is opened, above the leaves: its first child is next.
+    pub opened-upper : (l : ℕ) → opens (nodeFrom rs i (suc l)) ≡ true → openedFrom opens rs i (suc l) ≡ suc (openedFrom opens rs i l)
+    unfolding openedFrom nodesLeft nodesAt
+    opened-upper l e =
+        let ns = nodesLeft l (getD rs i none ∷ drop (suc i) rs) in
+        ap (λ (ss : List Placed). count opens (nodesLeft (suc l) ss)) (drop-cons rs i none h)
+        ∙ count-hit opens (nodeFrom rs i (suc l)) ns e
+        ∙ ap (λ (ss : List Placed). suc (count opens (nodesLeft l ss))) (sym (drop-cons rs i none h))
+
+    -- A leaf that is opened: the search goes on after it.
+    pub opened-leaf : opens (nodeFrom rs i 1) ≡ true → openedFrom opens rs i 1 ≡ suc (openedPast opens rs (nodeEnd 1 i rs))
     unfolding openedFrom
-    opened-passed l e =
-        let by = opens d (movesIn rs) in
-        ap (λ (ss : List Placed). count by (nodesLeft l ss)) (drop-cons rs i none h)
-        ∙ none-opened d c b (movesIn rs) fs l (getD rs i none) (drop (suc i) rs)
-        (run-fit d c b (movesIn rs) fs o run) (run-ordered d c b (movesIn rs) fs o run) (passed-node rs i h d l ∙ ap not e)
-        ∙ ap (count by) (past-left rs i h d l)
-      where
-        run : RunOf (movesIn (getD rs i none ∷ drop (suc i) rs)) (movesIn rs)
-        run = subst (λ (ss : List Placed). RunOf (movesIn ss) (movesIn rs)) (drop-cons rs i none h) (drop-run i rs)
+    opened-leaf e =
+        let xs = drop (suc i) rs in
+        ap (λ (ss : List Placed). count opens (nodesLeft 1 ss)) (drop-cons rs i none h)
+        ∙ ap (count opens) (left-leaf (getD rs i none) xs)
+        ∙ count-hit opens (nodeFrom rs i 1) (nodesIn (drop (lower 1 xs) xs)) e
+        ∙ ap (λ (ns : List Node). suc (count opens ns)) (past-left rs i h 1)
+
+    module _ (d c : ℕ) (down : Downward d c opens) (b : d ≤ rowCosts) (fs : Each (Fit c d) (movesIn rs)) (o : ordered d (movesIn rs) ≡ true) where
+      -- A node that is passed by, with all below it.
+      pub opened-passed : (l : ℕ) → opens (nodeFrom rs i l) ≡ false → openedFrom opens rs i l ≡ openedPast opens rs (nodeEnd l i rs)
+      unfolding openedFrom
+      opened-passed l e =
+          ap (λ (ss : List Placed). count opens (nodesLeft l ss)) (drop-cons rs i none h)
+          ∙ none-opened opens d c down b l (getD rs i none) (drop (suc i) rs)
+          (run-fit d c b (movesIn rs) fs o run) (run-ordered d c b (movesIn rs) fs o run) e
+          ∙ ap (count opens) (past-left rs i h l)
+        where
+          run : RunOf (movesIn (getD rs i none ∷ drop (suc i) rs)) (movesIn rs)
+          run = subst (λ (ss : List Placed). RunOf (movesIn ss) (movesIn rs)) (drop-cons rs i none h) (drop-run i rs)

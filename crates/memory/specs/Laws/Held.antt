@@ -1,6 +1,6 @@
 -- What sound memory gives of its rows, its marks and its moves, for its own c, d and n.
 use Prim.Native.Nat.{ℕ, zero, suc, _≤_, _<_}
-use mathlib.Core.Bool.{true, false, not}
+use mathlib.Core.Bool.{Bool, true, false, not, _&&_}
 use mathlib.Core.List.{List, [], _∷_, map}
 use mathlib.Core.Path.{_≡_, refl, sym, ap, _∙_, subst}
 use native.Mathlib.Nat.{le-of-suc-le-suc}
@@ -9,7 +9,7 @@ use borrow.Author.Tests.{eqb-false}
 use lib.Dec.{eqb}
 use lib.ListN.{length, getD}
 use Rattle.zorder.specs.Between.{rowCosts}
-use Rattle.model.specs.Basics.{Each, distinct, has}
+use Rattle.model.specs.Basics.{Each, any, distinct, has}
 use Rattle.model.specs.Moves.{Move, ordered}
 use Rattle.model.specs.Lists.{hidden, skyline}
 use Rattle.model.specs.Calls.{memoryNeed}
@@ -17,7 +17,7 @@ use Rattle.model.specs.Sound.{Fit}
 use Rattle.model.specs.Tree.{Tree}
 use Rattle.model.specs.Laws.Loading.{size-most}
 use Rattle.model.specs.Laws.Bool.{and-left, and-right, not-back}
-use Rattle.model.specs.Laws.Basics.{mem-at, select-same, each-mem, any-false}
+use Rattle.model.specs.Laws.Basics.{mem-at, select-same, each-mem, any-false, any-select}
 use Rattle.line.specs.Line.{Placed, lineOf, movesIn}
 use Rattle.promises.specs.Layout.{sizeIn, dimensionIn, countIn, numberIn, markIn, moveIn, placedIn, tab, lineFrom, lineIn, boardIn, keptFrom, keptIn}
 use Rattle.promises.specs.Sound.{Stands, Sound}
@@ -25,9 +25,9 @@ use Rattle.promises.specs.Run.{Bytes}
 use Rattle.promises.specs.Laws.Stands.{stands-dimension, stands-moves, stands-order, stands-fit, stands-once}
 use Rattle.memory.specs.Room.{Room, Numbers, ReadableRows, Ordered}
 use Rattle.memory.specs.Held.{SoundAt, HeldIn}
-use Rattle.memory.specs.Tests.{isListed}
+use Rattle.memory.specs.Tests.{anyTo, isListed}
 use Rattle.promises.specs.Laws.Tab.{length-tab, getD-tab, map-tab}
-use Rattle.memory.specs.Laws.Places.{tab-each}
+use Rattle.memory.specs.Laws.Places.{tab-each, any-tab}
 use Rattle.memory.specs.Laws.Lines.{movesIn-line, lineIn-line}
 use Rattle.memory.specs.Laws.Ordered.{line-ordered}
 use Rattle.memory.specs.declared.sound.Head.{Head}
@@ -92,6 +92,18 @@ module _ (c d n : ℕ) (m : List ℕ) (s : SoundAt c d n m) where
   held-kept =
       own (λ c d n. keptFrom c m (movesIn (lineFrom c d n m)) ≡ skyline d (movesIn (lineFrom c d n m)))
       (stands .kept ∙ ap (skyline (dimensionIn m)) (stands-moves m (s .sound .tree) stands))
+
+  -- A test of the listed moves, by their places.
+  pub held-any : (p : Move → Bool) → any p (skyline d (movesIn (lineFrom c d n m))) ≡ anyTo (λ i. isListed c m i && p (moveIn c d m i)) n
+  unfolding isListed keptFrom moveIn
+  held-any p =
+      ap (any p) (sym held-kept)
+      ∙ any-select p listed (movesIn (lineFrom c d n m))
+      ∙ ap (any (λ x. listed x && p x)) (movesIn-line c d n m)
+      ∙ any-tab (moveIn c d m) (λ x. listed x && p x) n
+    where
+      listed : Move → Bool
+      listed x = eqb (markIn c m (x .number)) 1
 
   -- The marks say who is in the list.
   pub held-listed : (i : ℕ) → i < n → isListed c m i ≡ not (hidden d (movesIn (lineFrom c d n m)) (moveIn c d m i))

@@ -9,7 +9,7 @@ use native.Mathlib.Numerals.{add-one}
 use native.Mathlib.Omega.{arith}
 use lib.Seq.{append-snoc}
 use Rattle.model.specs.Basics.{Each, any, all, rising}
-use Rattle.model.specs.Laws.Bool.{and-left, and-right, and-both, both-ways, byCases}
+use Rattle.model.specs.Laws.Bool.{and-left, and-right, and-both, both-ways, byCases, not-flip, same-test}
 use Rattle.model.specs.Laws.Basics.{each-left, each-right, any-append, all-append}
 use Rattle.promises.specs.Layout.{tab}
 use Rattle.memory.specs.Tests.{allTo, anyTo}
@@ -63,6 +63,17 @@ module _ (p : ℕ → Bool) where
       ∙ anyTo-suc (n + k)
       ∙ ap₂ _||_ (anyTo-past n k (λ i l h. f i l (omega arith))) (f (n + k) (omega arith) (omega arith))
       ∙ or-false (anyTo p n)
+
+module _ (p q : ℕ → Bool) (n : ℕ) where
+  pub anyTo-mono : ((i : ℕ) → i < n → p i ≡ true → q i ≡ true) → anyTo p n ≡ true → anyTo q n ≡ true
+  unfolding anyTo
+  anyTo-mono f e =
+      byCases (anyTo q n) (λ h. h)
+      (λ h. both-ways e (ap not (allTo-all (λ i. not (p i)) n (λ i l. not-flip (p i) (byCases (p i) (λ g. both-ways (anyTo-found q n i l (f i l g)) h) (λ g. g))))))
+
+pub anyTo-ext : (p q : ℕ → Bool) (n : ℕ) → ((i : ℕ) → i < n → p i ≡ q i) → anyTo p n ≡ anyTo q n
+anyTo-ext p q n f =
+    same-test (anyTo p n) (anyTo q n) (anyTo-mono p q n (λ i l e. sym (f i l) ∙ e)) (anyTo-mono q p n (λ i l e. f i l ∙ e))
 
 -- ---- lists by places
 
