@@ -11,6 +11,8 @@ pub use enter::enter_line;
 pub use enter::with_rows;
 pub use insert::insert_row;
 pub use insert::place_for;
+pub use nodes::Leaf;
+pub use nodes::next_leaf;
 pub use nodes::nodes_opened;
 pub use places::node_end;
 pub use raise::raise_levels;
