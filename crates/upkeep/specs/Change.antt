@@ -1,21 +1,24 @@
 -- What a change does to the list. `Upkept` says it by the definition: who is in the list of the moves afterwards; the
 -- definitions before it are what the steps compute.
-use Prim.Native.Nat.{ℕ, suc, _+_, _<_, _≤_}
+use Prim.Native.Nat.{ℕ, suc, _-_, _<_, _≤_}
 use mathlib.Core.Bool.{Bool, true, false, cond, not, _&&_, _||_, Bool·beq}
 use mathlib.Core.Path.{_≡_}
-use mathlib.Core.List.{List, _++_}
+use mathlib.Core.List.{List, _++_, map}
 use lib.Dec.{eqb, ltb}
 use lib.ListN.{length, take, drop}
 use Rattle.zorder.specs.Address.{rowCosts}
-use Rattle.model.specs.Basics.{count, numbersFrom}
+use Rattle.model.specs.Basics.{select, count, numbersFrom, has}
 use Rattle.model.specs.Moves.{Move, moveBefore, insert}
 use Rattle.model.specs.Dominance.{hides}
 use Rattle.model.specs.Lists.{hidden}
+use Rattle.model.specs.Tree.{Tree}
 use Rattle.model.specs.Calls.{onBoard}
+use Rattle.model.specs.Opening.{withdrawOpens}
 use Rattle.model.specs.Sound.{Fit}
 use Rattle.line.specs.Line.{movesIn}
 use Rattle.line.specs.Enter.{placeFor}
 use Rattle.promises.specs.Layout.{numberIn, moveIn, lineFrom}
+use Rattle.promises.specs.Sound.{Stands}
 use Rattle.memory.specs.Tests.{anyTo, isListed}
 use Rattle.memory.specs.Held.{SoundAt}
 use Rattle.memory.specs.Search.{Corners}
@@ -24,6 +27,7 @@ use Rattle.memory.specs.declared.sound.Head.{Head}
 use Rattle.dominance.specs.Move.{asMove}
 use Rattle.numbers.specs.Set.{inSet}
 use Rattle.upkeep.specs.declared.change.Change.{Change}
+use Rattle.upkeep.specs.declared.change.Entered.{Entered}
 use Rattle.upkeep.specs.declared.change.Upkeep.{Upkeep}
 
 -- The moves after the change: one gone, one come.
@@ -53,11 +57,13 @@ pub record ComingPlace (c d n : ℕ) (k : Change) (m : List ℕ) (r : ℕ) : Typ
   pub within : r ≤ n
   pub is : k .comes ≡ true → r ≡ placeFor d (asMove (k .coming)) (lineFrom c d n m)
 
--- Whose mark changes, and how many leave the list and enter it, by the list of the moves afterwards.
+-- Whose mark changes, and how many leave the list and enter it, by the list of the moves afterwards; and the nodes opened where
+-- a move goes, as of its withdrawal (Card 1).
 pub record Upkept (c d n : ℕ) (k : Change) (m : List ℕ) (u : Upkeep) : Type 0 where
   pub changed : (i : ℕ) → i < n → inSet (u .changed) (numberIn c m i) ≡ not (Bool·beq (isListed c m i) (stays c d n k m i))
   pub left : u .left ≡ count (λ i. isListed c m i && not (stays c d n k m i)) (numbersFrom 0 n)
   pub entered : u .entered ≡ count (λ i. not (isListed c m i) && stays c d n k m i) (numbersFrom 0 n)
+  pub opened : k .goes < n → (t : Tree) → Stands m t → u .opened ≡ withdrawOpens d (numberIn c m (k .goes)) t
   pub listed : u .listed ≡ comingListed c d n k m
 
 -- What the steps compute. A move goes, and it is listed.
@@ -86,16 +92,20 @@ leavesAt c d k m i = isListed c m i && leaves d k i (moveIn c d m i)
 unfoldable pub entersAt : ℕ → ℕ → ℕ → Change → List ℕ → ℕ → Bool
 entersAt c d n k m i = not (isListed c m i) && (not (eqb i (k .goes)) && comesUp c d n k (moveIn c d m i) m)
 
--- The numbers of the moves at places below e that pass a test, and how many they are.
-pub record Passing (c : ℕ) (m : List ℕ) (test : ℕ → Bool) (e : ℕ) (ws : List ℕ) (k : ℕ) : Type 0 where
-  pub numbers : (j : ℕ) → inSet ws j ≡ anyTo (λ i. test i && eqb j (numberIn c m i)) e
-  pub counts : k ≡ count test (numbersFrom 0 e)
+-- The places from one up to another that pass a test.
+unfoldable pub placesIn : ℕ → ℕ → (ℕ → Bool) → List ℕ
+placesIn from to test = select test (numbersFrom from (to - from))
 
--- What is gathered of the places below e: the numbers of the moves that leave or enter, and how many do each.
-pub record Changing (c d n : ℕ) (k : Change) (m : List ℕ) (e : ℕ) (ws : List ℕ) (out up : ℕ) : Type 0 where
-  pub moves : Passing c m (λ i. leavesAt c d k m i || entersAt c d n k m i) e ws (out + up)
-  pub left : out ≡ count (leavesAt c d k m) (numbersFrom 0 e)
-  pub entered : up ≡ count (entersAt c d n k m) (numbersFrom 0 e)
+-- A set to which the numbers of the moves at places from a up to b that pass a test were added, and how many these are.
+pub record Passing (c : ℕ) (m : List ℕ) (test : ℕ → Bool) (ws : List ℕ) (a b : ℕ) (ws' : List ℕ) (k : ℕ) : Type 0 where
+  pub numbers : (j : ℕ) → inSet ws' j ≡ (has j (map (numberIn c m) (placesIn a b test)) || inSet ws j)
+  pub counts : k ≡ length (placesIn a b test)
+
+-- The moves that enter are added to a set. The nodes opened on the way are those that document 02 counts of the tree before: the
+-- list is that before the change, and none where the going move is not listed.
+pub record Entering (c d n : ℕ) (k : Change) (m ws ws' : List ℕ) (r : Entered) : Type 0 where
+  pub moves : Passing c m (entersAt c d n k m) ws 0 n ws' (r .count)
+  pub opened : k .goes < n → (t : Tree) → Stands m t → r .opened ≡ withdrawOpens d (numberIn c m (k .goes)) t
 
 -- What the steps ask: a move goes, and it is listed.
 pub record GoesListed (h : Head) (k : Change) (m : List ℕ) : Type 0 where

@@ -1,8 +1,8 @@
 -- That the steps of a change compute what the definition says.
 pub mod Places
 pub mod Passing
-pub mod Changing
 pub mod Change
+pub mod BroughtUp
 pub mod Marks
 pub mod Place
 pub mod Others

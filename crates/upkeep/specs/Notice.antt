@@ -1,15 +1,15 @@
 -- What writing the notice and setting the marks leave.
-use Prim.Native.Nat.{ℕ, _-_, _<_}
+use Prim.Native.Nat.{ℕ, _<_}
 use mathlib.Core.Bool.{Bool, true, false, cond, not, _&&_, Bool·beq}
 use mathlib.Core.Path.{_≡_}
 use mathlib.Core.List.{List, [], _∷_, _++_, map}
 use lib.Dec.{eqb}
-use Rattle.model.specs.Basics.{select, numbersFrom}
 use Rattle.model.specs.Moves.{Move, listed, left, entered}
 use Rattle.promises.specs.Layout.{numberIn, markIn, moveIn}
 use Rattle.memory.specs.Frame.{MarksOnly}
 use Rattle.memory.specs.Tests.{isListed}
 use Rattle.numbers.specs.Set.{inSet}
+use Rattle.upkeep.specs.Change.{placesIn}
 use Rattle.upkeep.specs.declared.change.Upkeep.{Upkeep}
 
 -- A row as numbers: mark, number, costs.
@@ -20,10 +20,6 @@ moveNumbers mark x = mark ∷ x .number ∷ x .costs
 -- list all in the first part; of a notice the listed ones, which leave, in the first, the others, which enter, in the second.
 unfoldable pub toldIn : ℕ → ℕ → List ℕ → List ℕ → Bool → ℕ → Bool
 toldIn c mark numbers m first i = inSet numbers (numberIn c m i) && cond (eqb mark listed) first (Bool·beq first (isListed c m i))
-
--- The places from one up to another that pass a test.
-unfoldable pub placesIn : ℕ → ℕ → (ℕ → Bool) → List ℕ
-placesIn from to test = select test (numbersFrom from (to - from))
 
 unfoldable pub rowsAt : ℕ → ℕ → ℕ → List ℕ → List ℕ → List (List ℕ)
 rowsAt c d mark places m = map (λ i. moveNumbers mark (moveIn c d m i)) places

@@ -55,6 +55,7 @@ pub fn telling_of(head: Head, numbers: [u64; WORDS]) -> Telling
             changed: numbers,
             left: 0,
             entered: 0,
+            opened: 0,
             listed: false,
         },
     }

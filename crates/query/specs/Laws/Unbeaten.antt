@@ -5,7 +5,6 @@ use mathlib.Core.Bool.{Bool, true, not, _&&_}
 use mathlib.Core.List.{List, List·Memᴰ}
 use mathlib.Core.Path.{_≡_, sym, ap, _∙_, subst}
 use native.Mathlib.Omega.{arith}
-use lib.Dec.{eqb}
 use lib.ListN.{length, getD}
 use Rattle.zorder.specs.Address.{rowCosts}
 use Rattle.model.specs.Basics.{any}
@@ -13,22 +12,22 @@ use Rattle.model.specs.Moves.{Move}
 use Rattle.model.specs.Dominance.{nowhereGreater, somewhereLess, better, at, dominatesAt}
 use Rattle.model.specs.Lists.{chosenCosts}
 use Rattle.model.specs.Laws.Bool.{byCases, both-ways, and-left, and-right, and-both, not-flip}
-use Rattle.model.specs.Laws.Basics.{each-mem, mem-select, any-select}
+use Rattle.model.specs.Laws.Basics.{each-mem, mem-select}
 use Rattle.model.specs.Laws.Chosen.{chosen-within}
 use Rattle.line.specs.Line.{movesIn}
 use Rattle.dominance.specs.Lanes.{Lanes, limit, isChosen}
 use Rattle.dominance.specs.Laws.Lanes.{places-limits}
-use Rattle.promises.specs.Layout.{numberIn, markIn, costsIn, moveIn, lineFrom, keptFrom}
+use Rattle.promises.specs.Layout.{numberIn, costsIn, moveIn, lineFrom}
 use Rattle.promises.specs.Run.{Bytes}
 use Rattle.memory.specs.Held.{SoundAt}
 use Rattle.memory.specs.Search.{looks, looksAt, seen, seenAt, fits, None}
 use Rattle.memory.specs.Tests.{anyTo, isListed}
 use Rattle.memory.specs.Laws.Costs.{row-length, row-cost, words-small}
-use Rattle.memory.specs.Laws.Held.{held-dimension, held-order, held-fit, held-kept}
+use Rattle.memory.specs.Laws.Held.{held-dimension, held-order, held-fit, held-any}
 use Rattle.memory.specs.Laws.Lines.{movesIn-line}
 use Rattle.memory.specs.Laws.Places.{any-tab, anyTo-found, allTo-all}
 use Rattle.memory.specs.declared.search.Among.the-variants as among
-use Rattle.upkeep.specs.Laws.Told.{below-place}
+use Rattle.upkeep.specs.Laws.Places.{below-place}
 use Rattle.query.specs.Rule.{beats}
 use Rattle.query.specs.Kept.{beatsAt, listedBeats}
 use Rattle.query.specs.Laws.Beats.{nowhere-each, chosen-below, listed-beats}
@@ -78,24 +77,15 @@ unlisted-beat-not c d rule m x none k a g = ap (λ (t : Bool). t && beatsAt c d 
 
 module _ {c d n : ℕ} {m : List ℕ} (s : SoundAt c d n m) (b : Bytes m) (rule : Rule) (x : List ℕ) (wide : length x ≡ rowCosts) where
   listed-enough : anyTo (beatsAt c d rule m x) n ≡ anyTo (listedBeats c d rule m x) n
-  unfolding isListed keptFrom moveIn
+  unfolding moveIn
   listed-enough =
       sym (any-tab (moveIn c d m) beater n)
       ∙ ap (any beater) (sym (movesIn-line c d n m))
-      ∙ listed-beats d c (held-dimension c d n m s) moves (held-fit c d n m s b) (held-order c d n m s) rule x wide
-      ∙ ap (any beater) (sym (held-kept c d n m s))
-      ∙ any-select beater listed moves
-      ∙ ap (any (λ p. listed p && beater p)) (movesIn-line c d n m)
-      ∙ any-tab (moveIn c d m) (λ p. listed p && beater p) n
+      ∙ listed-beats d c (held-dimension c d n m s) (movesIn (lineFrom c d n m)) (held-fit c d n m s b) (held-order c d n m s) rule x wide
+      ∙ held-any c d n m s beater
     where
-      moves : List Move
-      moves = movesIn (lineFrom c d n m)
-
       beater : Move → Bool
       beater p = beats d rule (p .costs) x
-
-      listed : Move → Bool
-      listed p = eqb (markIn c m (p .number)) 1
 
   -- Where no listed move beats x, none does.
   pub none-beats : None (listedBeats c d rule m x) 0 n → None (beatsAt c d rule m x) 0 n

@@ -2,22 +2,27 @@
 -- coming one does not hide it; a hidden one comes up exactly if no move left hides it, and then the going one was listed
 -- and hid it; the coming one is listed exactly if no move left hides it.
 use Prim.Native.Nat.{ℕ, _<_}
-use mathlib.Core.Bool.{Bool, true, false, not, cond, _&&_, _||_, or-false, Bool·beq}
+use mathlib.Core.Bool.{Bool, true, false, not, cond, _&&_, _||_, or-comm, or-false, Bool·beq}
 use mathlib.Core.List.{List, map, List·Memᴰ, Memᴰ·of-map}
 use mathlib.Core.Path.{_≡_, refl, sym, ap, _∙_, subst}
-use borrow.Author.Tests.{eqb-true, lt-ltb, not-false}
+use borrow.Author.Tests.{eq-eqb, eqb-true, lt-ltb, ltb-true, not-false}
 use lib.Dec.{eqb, ltb}
+use lib.ListN.{length}
 use Rattle.model.specs.Basics.{select, any, count, numbersFrom}
 use Rattle.model.specs.Moves.{Move, moveBefore, insert}
 use Rattle.model.specs.Dominance.{hides}
 use Rattle.model.specs.Lists.{hidden, skyline}
+use Rattle.model.specs.Tree.{Tree}
+use Rattle.model.specs.Opening.{withdrawOpens}
+use Rattle.model.specs.Withdrawing.{without}
 use Rattle.model.specs.Sound.{Fit}
-use Rattle.model.specs.Laws.Bool.{testCases, both-ways, and-both, and-right, and-false-right}
-use Rattle.model.specs.Laws.Basics.{each-mem, any-map, any-select, any-mem, any-mono, count-ext}
+use Rattle.model.specs.Laws.Bool.{testCases, same-test, both-ways, and-both, and-left, and-right, and-drop-left, and-false-right}
+use Rattle.model.specs.Laws.Basics.{select-map, select-ext, any-map, any-select, any-mem, any-mono, count-ext}
 use Rattle.model.specs.Laws.Range.{each-place}
 use Rattle.model.specs.Laws.Skyline.{HiderIn, skyline-mem, enter-hidden, skyline-hider, enter-hidden-self}
 use Rattle.line.specs.Line.{movesIn}
 use Rattle.promises.specs.Layout.{numberIn, moveIn, lineFrom}
+use Rattle.promises.specs.Sound.{Stands}
 use Rattle.promises.specs.Run.{Bytes}
 use Rattle.dominance.specs.Move.{asMove}
 use Rattle.memory.specs.Held.{SoundAt}
@@ -25,9 +30,9 @@ use Rattle.memory.specs.Tests.{isListed}
 use Rattle.memory.specs.Laws.Lines.{movesIn-line}
 use Rattle.memory.specs.Laws.Held.{held-dimension, held-order, held-listed, held-fit, held-fit-at, held-once}
 use Rattle.numbers.specs.Set.{inSet}
-use Rattle.upkeep.specs.Change.{dropAt, movesAfter, stays, comingListed, goesListed, hiddenByOthers, hiddenByComing, comesUp, leaves, leavesAt, entersAt, Passing, Changing, Upkept}
-use Rattle.upkeep.specs.Laws.Places.{tab-places, anyTo-places, drop-places}
-use Rattle.upkeep.specs.Laws.Passing.{passing-at}
+use Rattle.upkeep.specs.Change.{dropAt, movesAfter, stays, comingListed, goesListed, hiddenByOthers, hiddenByComing, comesUp, leaves, leavesAt, entersAt, Passing, Upkept}
+use Rattle.upkeep.specs.Laws.Places.{place-below, places-all, tab-places, anyTo-places, drop-places}
+use Rattle.upkeep.specs.Laws.Passing.{passing-adds, passing-at}
 use Rattle.upkeep.specs.declared.change.Change.{Change}
 use Rattle.upkeep.specs.declared.change.Upkeep.{Upkeep}
 
@@ -90,6 +95,25 @@ module _ (c d n : ℕ) (m : List ℕ) where
         ∙ any-mono (λ j. not (eqb j g) && hides d (moveIn c d m j) x) (λ j. hides d (moveIn c d m j) x) (numbersFrom 0 n)
         (λ j _. and-right (not (eqb j g)) (hides d (moveIn c d m j) x)) (sym hidden-rest ∙ e)
 
+-- Two places are the same exactly if their numbers are.
+pub same-place : (c d n : ℕ) (m : List ℕ) → SoundAt c d n m → Bytes m → (i g : ℕ) → i < n → g < n → eqb i g ≡ eqb (numberIn c m i) (numberIn c m g)
+same-place c d n m s b i g h l =
+    same-test (eqb i g) (eqb (numberIn c m i) (numberIn c m g))
+    (λ e. eq-eqb (numberIn c m i) (numberIn c m g) (ap (numberIn c m) (eqb-true i g e)))
+    (λ e. eq-eqb i g (held-once c d n m s b i g h l (eqb-true (numberIn c m i) (numberIn c m g) e)))
+
+-- The moves left are those of other numbers.
+pub rest-without : (c d n g : ℕ) (m : List ℕ) → SoundAt c d n m → Bytes m → g < n
+    → dropAt g (movesIn (lineFrom c d n m)) ≡ without (numberIn c m g) (movesIn (lineFrom c d n m))
+unfolding without moveIn
+rest-without c d n g m s b l =
+    rest-places c d n m g
+    ∙ ap (map (moveIn c d m))
+    (select-ext (λ j. not (eqb j g)) (λ j. not (eqb (numberIn c m j) (numberIn c m g))) (numbersFrom 0 n)
+    (each-place (λ j. not (eqb j g) ≡ not (eqb (numberIn c m j) (numberIn c m g))) n (λ j k. ap not (same-place c d n m s b j g k l))))
+    ∙ sym (select-map (λ x. not (eqb (x .number) (numberIn c m g))) (moveIn c d m) (numbersFrom 0 n))
+    ∙ sym (ap (without (numberIn c m g)) (line-places c d n m))
+
 changed-hidden : (d : ℕ) (k : Change) (ms : List Move) (x : Move) → hidden d (movesAfter d k ms) x ≡ (hidden d (dropAt (k .goes) ms) x || hiddenByComing d k x)
 unfolding movesAfter hiddenByComing
 changed-hidden d k ms x =
@@ -99,7 +123,21 @@ changed-hidden d k ms x =
     (λ _. enter-hidden d y rest x)
     (λ _. sym (or-false (hidden d rest x)))
 
--- No listed move goes: none enters.
+-- A listed move goes: it is on the board, and marked.
+module _ (c n g : ℕ) (m : List ℕ) (e : goesListed c n g m ≡ true) where
+  pub goes-within : g < n
+  unfolding goesListed
+  goes-within = ltb-true g n (and-left (ltb g n) (isListed c m g) e)
+
+  pub goes-marked : isListed c m g ≡ true
+  unfolding goesListed
+  goes-marked = and-right (ltb g n) (isListed c m g) e
+
+-- No listed move goes: it is not marked, and none enters.
+pub goes-unmarked : (c n g : ℕ) (m : List ℕ) → goesListed c n g m ≡ false → g < n → isListed c m g ≡ false
+unfolding goesListed
+goes-unmarked c n g m e l = and-drop-left (ltb g n) (isListed c m g) (lt-ltb g n l) e
+
 pub enters-none : (c d n : ℕ) (k : Change) (m : List ℕ) (i : ℕ) → goesListed c n (k .goes) m ≡ false → entersAt c d n k m i ≡ false
 unfolding entersAt comesUp
 enters-none c d n k m i e =
@@ -151,7 +189,7 @@ module _ (c d n : ℕ) (k : Change) (m : List ℕ) (s : SoundAt c d n m) (b : By
       j = at .0
 
       on-board : j < n
-      on-board = each-mem (λ j. j < n) (each-place (λ j. j < n) n (λ j l. l)) (at .1)
+      on-board = place-below n (at .1)
 
       hides-x : hides d (moveIn c d m j) x ≡ true
       hides-x = ap (λ (y : Move). hides d y x) (at .2) ∙ hider .hiding
@@ -193,20 +231,35 @@ module _ (c d n : ℕ) (k : Change) (m : List ℕ) (s : SoundAt c d n m) (b : By
 
   -- ---- the sets and the counts
 
-  set-at : (test : ℕ → Bool) {ws : List ℕ} {left : ℕ} → Passing c m test n ws left → (i : ℕ) → i < n → inSet ws (numberIn c m i) ≡ test i
-  set-at test found i h = passing-at c m test found i h (λ j l e t. ap test (held-once c d n m s b i j h l e) ∙ t)
+  same-at : (test : ℕ → Bool) (i : ℕ) → i < n → (j : ℕ) → j < n → numberIn c m i ≡ numberIn c m j → test j ≡ true → test i ≡ true
+  same-at test i h j l e t = ap test (held-once c d n m s b i j h l e) ∙ t
 
-  count-at : (p q : ℕ → Bool) → ((i : ℕ) → i < n → p i ≡ q i) → count p (numbersFrom 0 n) ≡ count q (numbersFrom 0 n)
-  count-at p q same = count-ext p q (numbersFrom 0 n) (each-place (λ i. p i ≡ q i) n same)
+  count-at : {ws ws' : List ℕ} {k : ℕ} (p q : ℕ → Bool) → Passing c m p ws 0 n ws' k → ((i : ℕ) → i < n → p i ≡ q i) → k ≡ count q (numbersFrom 0 n)
+  unfolding count
+  count-at p q found same = found .counts ∙ ap length (places-all p n) ∙ count-ext p q (numbersFrom 0 n) (each-place (λ i. p i ≡ q i) n same)
 
-  changes-law : (i : ℕ) → i < n → (leavesAt c d k m i || entersAt c d n k m i) ≡ not (Bool·beq (isListed c m i) (stays c d n k m i))
-  changes-law i h = (λ j. leaves-law i h j || enters-law i h j) ∙ change-test (isListed c m i) (stays c d n k m i)
+  changes-law : (i : ℕ) → i < n → (entersAt c d n k m i || leavesAt c d k m i) ≡ not (Bool·beq (isListed c m i) (stays c d n k m i))
+  changes-law i h =
+      or-comm (entersAt c d n k m i) (leavesAt c d k m i)
+      ∙ (λ j. leaves-law i h j || enters-law i h j)
+      ∙ change-test (isListed c m i) (stays c d n k m i)
 
-  pub upkept : (u : Upkeep) → Changing c d n k m n (u .changed) (u .left) (u .entered) → u .listed ≡ comingListed c d n k m → Upkept c d n k m u
-  upkept u found e =
+  -- First those that leave are put into an empty set, then those that enter.
+  pub upkept : (u : Upkeep) {ws ws' : List ℕ}
+      → ((j : ℕ) → inSet ws j ≡ false)
+      → Passing c m (leavesAt c d k m) ws 0 n ws' (u .left)
+      → Passing c m (entersAt c d n k m) ws' 0 n (u .changed) (u .entered)
+      → (k .goes < n → (t : Tree) → Stands m t → u .opened ≡ withdrawOpens d (numberIn c m (k .goes)) t)
+      → u .listed ≡ comingListed c d n k m
+      → Upkept c d n k m u
+  upkept u none out up opens e =
       record {
-        changed = λ i h. set-at (λ i. leavesAt c d k m i || entersAt c d n k m i) (found .moves) i h ∙ changes-law i h;
-        left = found .left ∙ count-at (leavesAt c d k m) (λ i. isListed c m i && not (stays c d n k m i)) leaves-law;
-        entered = found .entered ∙ count-at (entersAt c d n k m) (λ i. not (isListed c m i) && stays c d n k m i) enters-law;
+        changed = λ i h.
+            passing-adds c m (entersAt c d n k m) up i h (same-at (entersAt c d n k m) i h)
+            ∙ ap (λ (t : Bool). entersAt c d n k m i || t) (passing-at c m (leavesAt c d k m) out i h (same-at (leavesAt c d k m) i h) none)
+            ∙ changes-law i h;
+        left = count-at (leavesAt c d k m) (λ i. isListed c m i && not (stays c d n k m i)) out leaves-law;
+        entered = count-at (entersAt c d n k m) (λ i. not (isListed c m i) && stays c d n k m i) up enters-law;
+        opened = opens;
         listed = e;
       }

@@ -1,6 +1,6 @@
 -- Moves found by number, place after place, and their rows.
 use Prim.Native.Nat.{ℕ, _-_}
-use mathlib.Core.Bool.{Bool}
+use mathlib.Core.Bool.{Bool, false}
 use mathlib.Core.List.{List, [], map, map-map}
 use mathlib.Core.Path.{_≡_, sym, ap, _∙_, subst}
 use native.Mathlib.Omega.{arith}
@@ -18,10 +18,11 @@ use Rattle.memory.specs.Room.{Readable}
 use Rattle.memory.specs.Laws.Held.{held-readable}
 use Rattle.memory.specs.declared.sound.Head.{Head}
 use Rattle.numbers.specs.Set.{inSet}
-use Rattle.upkeep.specs.Notice.{moveNumbers, placesIn, rowsAt}
+use Rattle.upkeep.specs.Notice.{moveNumbers, rowsAt}
 use Rattle.upkeep.specs.Telling.{TellingAsked, toldRows}
 use Rattle.upkeep.specs.Planned.{Finds, TellsNumbers, foundMoves}
-use Rattle.upkeep.specs.Change.{Passing}
+use Rattle.upkeep.specs.Change.{placesIn, Passing}
+use Rattle.upkeep.specs.Laws.Places.{places-all}
 use Rattle.upkeep.specs.Laws.Passing.{passing-at}
 use Rattle.upkeep.specs.Laws.Change.{line-places}
 use Rattle.upkeep.specs.Laws.Telling.{told-first}
@@ -30,14 +31,17 @@ use Rattle.upkeep.specs.declared.telling.Telling.{Telling}
 
 -- ---- found place after place
 
-abbrev pub FindsTo : (c : ℕ) (m : List ℕ) → (ℕ → Bool) → ℕ → List ℕ → ℕ → Type 0
-FindsTo c m test = Passing c m (λ i. test (numberIn c m i))
+-- The numbers of the first i moves that pass, added to a set.
+abbrev pub FindsTo : (c : ℕ) (m : List ℕ) → (ℕ → Bool) → List ℕ → ℕ → List ℕ → ℕ → Type 0
+FindsTo c m test ws = Passing c m (λ i. test (numberIn c m i)) ws 0
 
-pub finds-all : (c : ℕ) (m : List ℕ) (test : ℕ → Bool) (n i : ℕ) (r : Found) → i ≡ n → FindsTo c m test i (r .numbers) (r .count) → Finds c n test m r
-finds-all c m test n i r e h =
+pub finds-all : (c : ℕ) (m : List ℕ) (test : ℕ → Bool) (n i : ℕ) (r : Found) {ws : List ℕ} → i ≡ n → ((j : ℕ) → inSet ws j ≡ false) → FindsTo c m test ws i (r .numbers) (r .count) → Finds c n test m r
+unfolding count
+finds-all c m test n i r e none h =
+    let at : ℕ → Bool = λ i. test (numberIn c m i) in
     record {
-      numbers = λ j l. passing-at c m (λ i. test (numberIn c m i)) h j (omega arith) (λ i _ same passes. ap test same ∙ passes);
-      counts = h .counts ∙ ap (λ (x : ℕ). count (λ i. test (numberIn c m i)) (numbersFrom 0 x)) e;
+      numbers = λ j l. passing-at c m at h j (omega arith) (λ i _ same passes. ap test same ∙ passes) none;
+      counts = h .counts ∙ ap length (places-all at i) ∙ ap (λ (x : ℕ). count at (numbersFrom 0 x)) e;
     }
 
 -- ---- the rows

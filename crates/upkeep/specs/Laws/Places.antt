@@ -1,27 +1,41 @@
 -- The places of a board as a list of numbers, and the moves at them.
-use Prim.Native.Nat.{ℕ, zero, suc, _+_, _≤_}
-use mathlib.Core.Bool.{Bool, true, not, cond}
-use mathlib.Core.List.{List, [], _∷_, _++_, map}
+use Prim.Native.Nat.{ℕ, zero, suc, _+_, _-_, _≤_, _<_}
+use mathlib.Core.Bool.{Bool, true, false, not, cond}
+use mathlib.Core.List.{List, [], _∷_, _++_, map, List·Memᴰ, List·Memᴰ·head, List·Memᴰ·tail}
+use mathlib.Core.Logic.{⊎-elim}
 use mathlib.Core.Path.{_≡_, refl, sym, ap, ap₂, _∙_}
-use native.Mathlib.Nat.{add-zero, add-suc, suc-add, zero-add}
-use native.Mathlib.Numerals.{add-one}
+use native.Mathlib.Nat.{add-zero, add-suc, suc-add, zero-add, eq-or-lt-of-le}
 use native.Mathlib.Omega.{arith}
 use borrow.Author.Tests.{eq-eqb, ne-eqb}
 use lib.Dec.{eqb}
+use lib.ListN.{length}
 use Rattle.model.specs.Basics.{consIf, select, any, count, numbersFrom}
 use Rattle.model.specs.Moves.{Move}
-use Rattle.model.specs.Laws.Basics.{select-all, any-map, count-append, count-cons, at-most-one}
-use Rattle.model.specs.Laws.Range.{each-numbers, numbers-append}
+use Rattle.model.specs.Laws.Basics.{each-mem, select-append, select-all, select-none, any-map, count-append, count-cons}
+use Rattle.model.specs.Laws.Range.{each-numbers, each-place, numbers-append, length-numbers}
 use Rattle.promises.specs.Layout.{tab}
 use Rattle.memory.specs.Tests.{anyTo}
 use Rattle.promises.specs.Laws.Tab.{tab-cons, tab-ext}
 use Rattle.memory.specs.Laws.Places.{any-tab}
-use Rattle.upkeep.specs.Change.{dropAt}
+use Rattle.upkeep.specs.Change.{dropAt, placesIn}
 
 -- One place more.
 pub numbers-more : (n : ℕ) → numbersFrom 0 (n + 1) ≡ numbersFrom 0 n ++ n ∷ []
 unfolding numbersFrom
 numbers-more n = numbers-append 0 n 1 ∙ ap (λ (k : ℕ). numbersFrom 0 n ++ k ∷ []) (zero-add n)
+
+-- A place of the numbers 0 to n-1 is below n.
+pub place-below : {i : ℕ} (n : ℕ) → List·Memᴰ i (numbersFrom 0 n) → i < n
+place-below n k = each-mem (λ i. i < n) (each-place (λ i. i < n) n (λ i h. h)) k
+
+from-place : (j n i : ℕ) → j ≤ i → i < j + n → List·Memᴰ i (numbersFrom j n)
+unfolding numbersFrom
+from-place j zero i l h = absurd (omega arith)
+from-place j (suc n) i l h =
+    ⊎-elim (λ q. List·Memᴰ·head (sym q)) (λ q. List·Memᴰ·tail (from-place (suc j) n i q (omega arith))) (eq-or-lt-of-le l)
+
+pub below-place : (n i : ℕ) → i < n → List·Memᴰ i (numbersFrom 0 n)
+below-place n i h = from-place 0 n i (omega arith) (omega arith)
 
 module _ (p : ℕ → Bool) where
   pub count-more : (n : ℕ) → count p (numbersFrom 0 (n + 1)) ≡ count p (numbersFrom 0 n) + cond (p n) 1 0
@@ -31,11 +45,47 @@ module _ (p : ℕ → Bool) where
       ∙ count-append p (numbersFrom 0 n) (n ∷ [])
       ∙ ap (λ (k : ℕ). count p (numbersFrom 0 n) + k) (count-cons p n [])
 
+  few-kept : (b : Bool) (i : ℕ) (is : List ℕ) → length (consIf b i is) ≤ suc (length is)
+  few-kept true i is = omega arith
+  few-kept false i is = omega arith
+
+  few-selected : (is : List ℕ) → length (select p is) ≤ length is
+  unfolding select
+  few-selected [] = omega arith
+  few-selected (i ∷ is) = omega (arith, few-kept (p i) i (select p is), few-selected is)
+
   pub count-le : (n : ℕ) → count p (numbersFrom 0 n) ≤ n
-  unfolding count select numbersFrom
-  count-le zero = omega arith
-  count-le (suc n) =
-      omega (arith, ap (λ (k : ℕ). count p (numbersFrom 0 k)) (add-one n), count-more n, at-most-one (p n), count-le n)
+  unfolding count
+  count-le n = omega (arith, few-selected (numbersFrom 0 n), length-numbers n 0)
+
+  -- ---- the places from one up to another that pass
+
+  pub places-few : (a b : ℕ) → length (placesIn a b p) ≤ b - a
+  unfolding placesIn
+  places-few a b = omega (arith, few-selected (numbersFrom a (b - a)), length-numbers (b - a) a)
+
+  pub places-all : (n : ℕ) → placesIn 0 n p ≡ select p (numbersFrom 0 n)
+  unfolding placesIn
+  places-all n = let all : n - 0 ≡ n = omega arith in ap (λ (k : ℕ). select p (numbersFrom 0 k)) all
+
+  pub places-one : (i : ℕ) → placesIn i (i + 1) p ≡ consIf (p i) i []
+  unfolding placesIn select numbersFrom
+  places-one i = let one : i + 1 - i ≡ 1 = omega arith in ap (λ (k : ℕ). select p (numbersFrom i k)) one
+
+  pub places-none : (a b : ℕ) → ((i : ℕ) → a ≤ i → i < b → p i ≡ false) → placesIn a b p ≡ []
+  unfolding placesIn
+  places-none a b none =
+      select-none p (numbersFrom a (b - a)) (each-numbers (λ i. p i ≡ false) a (b - a) (λ i h l. none i h (omega arith)))
+
+  pub places-join : (a b e : ℕ) → a ≤ b → b ≤ e → placesIn a e p ≡ placesIn a b p ++ placesIn b e p
+  unfolding placesIn
+  places-join a b e h l =
+      let parts : e - a ≡ b - a + (e - b) = omega arith in
+      let middle : a + (b - a) ≡ b = omega arith in
+      ap (λ (k : ℕ). select p (numbersFrom a k)) parts
+      ∙ ap (select p) (numbers-append a (b - a) (e - b))
+      ∙ select-append p (numbersFrom a (b - a)) (numbersFrom (a + (b - a)) (e - b))
+      ∙ ap (λ (i : ℕ). select p (numbersFrom a (b - a)) ++ select p (numbersFrom i (e - b))) middle
 
 module _ {A : Type 0} (f : ℕ → A) where
   tab-from : (a k : ℕ) → tab (λ i. f (a + i)) k ≡ map f (numbersFrom a k)

@@ -1,10 +1,10 @@
 -- What `tell` writes is the notice of the change, by the lists before and after it.
-use Prim.Native.Nat.{ℕ, zero, suc, _+_, _-_, _<_, _≤_}
+use Prim.Native.Nat.{ℕ, _+_, _-_, _<_, _≤_}
 use mathlib.Core.Bool.{Bool, true, false, not, cond, _&&_, Bool·beq}
-use mathlib.Core.List.{List, [], _∷_, _++_, map, map-append, List·Memᴰ, List·Memᴰ·head, List·Memᴰ·tail, Memᴰ·map, Memᴰ·of-map}
+use mathlib.Core.List.{List, [], _∷_, _++_, map, map-append, List·Memᴰ, Memᴰ·map, Memᴰ·of-map}
 use mathlib.Core.Logic.{⊎-elim}
 use mathlib.Core.Path.{_≡_, refl, sym, ap, ap₂, _∙_, subst}
-use native.Mathlib.Nat.{sub-zero, zero-add, add-sub-of-le, eq-or-lt-of-le}
+use native.Mathlib.Nat.{sub-zero, zero-add, add-sub-of-le}
 use native.Mathlib.Omega.{arith}
 use borrow.Author.Tests.{eqb-true, eqb-false}
 use lib.Dec.{eqb}
@@ -16,7 +16,7 @@ use Rattle.model.specs.Notice.{noticeOf}
 use Rattle.model.specs.Sound.{Fit}
 use Rattle.model.specs.Laws.Bool.{byCases, testCases, and-left, and-right, not-back, not-flip}
 use Rattle.model.specs.Laws.Basics.{mem-each, each-mem, select-mem, mem-select, select-ext, select-append}
-use Rattle.model.specs.Laws.Range.{each-numbers, each-place, numbers-append}
+use Rattle.model.specs.Laws.Range.{each-numbers, numbers-append}
 use Rattle.model.specs.Laws.Order.{move-order, off-board}
 use Rattle.model.specs.Laws.Sorting.{StrictOrder, insert-mem, mem-insert-old, asym, connex, rising-cons, rising-tail, rising-head}
 use Rattle.model.specs.Laws.Skyline.{skyline-mem}
@@ -31,8 +31,9 @@ use Rattle.memory.specs.Held.{SoundAt}
 use Rattle.memory.specs.Tests.{isListed}
 use Rattle.memory.specs.Laws.Lines.{getD-line, length-line}
 use Rattle.memory.specs.Laws.Held.{held-dimension, held-order, held-listed, held-fit, held-fit-at, held-once}
-use Rattle.upkeep.specs.Change.{dropAt, movesAfter, stays, ChangeAsked, Upkept}
-use Rattle.upkeep.specs.Notice.{moveNumbers, toldIn, placesIn, rowsAt, noticeRows}
+use Rattle.upkeep.specs.Change.{dropAt, movesAfter, stays, placesIn, ChangeAsked, Upkept}
+use Rattle.upkeep.specs.Notice.{moveNumbers, toldIn, rowsAt, noticeRows}
+use Rattle.upkeep.specs.Laws.Places.{place-below, below-place}
 use Rattle.upkeep.specs.Laws.Change.{line-places, rest-places}
 use Rattle.upkeep.specs.Laws.Place.{place-low, place-high}
 use Rattle.upkeep.specs.Laws.Notified.{Places, stay, left-places, entered-after, entered-rest, entered-coming}
@@ -54,19 +55,6 @@ entered-test false false = refl
 rising-nil : (lt : Move → Move → Bool) → rising lt [] ≡ true
 unfolding rising
 rising-nil lt = refl
-
--- A place of the numbers 0 to n-1 is below n.
-place-below : {i : ℕ} (n : ℕ) → List·Memᴰ i (numbersFrom 0 n) → i < n
-place-below n k = each-mem (λ i. i < n) (each-place (λ i. i < n) n (λ i h. h)) k
-
-from-place : (j n i : ℕ) → j ≤ i → i < j + n → List·Memᴰ i (numbersFrom j n)
-unfolding numbersFrom
-from-place j zero i l h = absurd (omega arith)
-from-place j (suc n) i l h =
-    ⊎-elim (λ q. List·Memᴰ·head (sym q)) (λ q. List·Memᴰ·tail (from-place (suc j) n i q (omega arith))) (eq-or-lt-of-le l)
-
-pub below-place : (n i : ℕ) → i < n → List·Memᴰ i (numbersFrom 0 n)
-below-place n i h = from-place 0 n i (omega arith) (omega arith)
 
 -- Some of the places of a list in order are in order.
 rising-places : (P : Move → Type 0) (lt : Move → Move → Bool) (o : StrictOrder P lt) (f : ℕ → Move) (t : ℕ → Bool) (is : List ℕ)

@@ -22,7 +22,7 @@ shownAt h blocks m i = shownFor (h .size) (h .dimension) (h .count) blocks m (nu
 
 abbrev Inv-loop : tie.InvT-loop
 Inv-loop m h blocks n corners numbers₀ count₀ last₀ i₀ numbers count last i =
-    (i ≤ n) × FindsTo (h .size) m (shownFor (h .size) (h .dimension) n blocks m) i numbers count
+    (i ≤ n) × FindsTo (h .size) m (shownFor (h .size) (h .dimension) n blocks m) numbers₀ i numbers count
 
 abbrev μ-loop : tie.MeasureT-loop
 μ-loop m h blocks n corners numbers₀ count₀ last₀ i₀ numbers count last i = n - i
@@ -30,7 +30,7 @@ abbrev μ-loop : tie.MeasureT-loop
 loop-holds : tie.Need-loop-holds Inv-loop μ-loop
 loop-holds c =
     let a = c .before .before .before .args in
-    (omega arith, passing-none (a .h .size) (a .m .now) (shownAt (a .h) (a .blocks) (a .m .now)) (c .empty .result) (c .empty .ensures))
+    (omega arith, passing-none (a .h .size) (a .m .now) (shownAt (a .h) (a .blocks) (a .m .now)) (c .empty .result) 0)
 
 hider-of-requires : tie.Need-hider-of-requires Inv-loop μ-loop
 hider-of-requires c κs = ((c .before .before .before .before .before .before .pre, omega arith), c .before .before .before .before .corners-of .ensures)
@@ -60,9 +60,9 @@ loop-again c =
     let says = sym (hider .ensures) in (
       omega arith,
       ⊎-elim
-          (λ w. passing-takes (a .h .size) m test (own .i) (own .inv .1) (says ∙ eq-eqb (hider .result) (own .i) (w .0 .taken)) (w .2 .result) (w .2 .ensures)
+          (λ w. passing-takes (a .h .size) m test (own .inv .1) (omega arith) (says ∙ eq-eqb (hider .result) (own .i) (w .0 .taken)) (w .2 .result) (w .2 .ensures)
           (subst (With (own .numbers) (w .2 .result)) (sym (w .4)) (w .3 .ensures)) (w .5))
-          (λ w. passing-passes (a .h .size) m test (own .i) (own .inv .1) (says ∙ ne-eqb (hider .result) (own .i) (w .0 .left)) (w .1) (w .2))
+          (λ w. passing-passes (a .h .size) m test (own .inv .1) (omega arith) (says ∙ ne-eqb (hider .result) (own .i) (w .0 .left)) (w .1) (w .2))
           (c .before .if1 .came),
     )
 
@@ -70,7 +70,7 @@ returns : tie.Need-returns Inv-loop μ-loop
 returns c =
     let a = c .before .before .before .before .before .args in
     let own = c .before .loop in
-    finds-all (a .h .size) (a .m .now) (shownFor (a .h .size) (a .h .dimension) (a .h .count) (a .blocks) (a .m .now)) (a .h .count) (own .i) _ (omega arith) (own .inv .1)
+    finds-all (a .h .size) (a .m .now) (shownFor (a .h .size) (a .h .dimension) (a .h .count) (a .blocks) (a .m .now)) (a .h .count) (own .i) _ (omega arith) (c .before .before .empty .ensures) (own .inv .1)
 
 pub find-open-spec : {M : Type 1} → statement M
 find-open-spec =

@@ -21,7 +21,7 @@ abbrev staysAt : Head → ℕ → List ℕ → ℕ → Bool
 staysAt h most m i = staysFor (h .size) (h .dimension) (h .count) All most m (numberIn (h .size) m i)
 
 abbrev Inv-loop : tie.InvT-loop
-Inv-loop m h most n corners numbers₀ count₀ i₀ numbers count i = (i ≤ n) × FindsTo (h .size) m (staysFor (h .size) (h .dimension) n All most m) i numbers count
+Inv-loop m h most n corners numbers₀ count₀ i₀ numbers count i = (i ≤ n) × FindsTo (h .size) m (staysFor (h .size) (h .dimension) n All most m) numbers₀ i numbers count
 
 abbrev μ-loop : tie.MeasureT-loop
 μ-loop m h most n corners numbers₀ count₀ i₀ numbers count i = n - i
@@ -29,7 +29,7 @@ abbrev μ-loop : tie.MeasureT-loop
 loop-holds : tie.Need-loop-holds Inv-loop μ-loop
 loop-holds c =
     let a = c .before .before .before .args in
-    (omega arith, passing-none (a .h .size) (a .m .now) (staysAt (a .h) (a .most) (a .m .now)) (c .empty .result) (c .empty .ensures))
+    (omega arith, passing-none (a .h .size) (a .m .now) (staysAt (a .h) (a .most) (a .m .now)) (c .empty .result) 0)
 
 stays-at-requires : tie.Need-stays-at-requires Inv-loop μ-loop
 stays-at-requires c κs = ((c .before .before .before .before .before .before .pre, omega arith), c .before .before .before .before .corners-of .ensures)
@@ -59,9 +59,9 @@ loop-again c =
     let says = sym (c .before .stays-at .ensures) in (
       omega arith,
       ⊎-elim
-          (λ w. passing-takes (a .h .size) m test (own .i) (own .inv .1) (says ∙ w .0 .taken) (w .2 .result) (w .2 .ensures)
+          (λ w. passing-takes (a .h .size) m test (own .inv .1) (omega arith) (says ∙ w .0 .taken) (w .2 .result) (w .2 .ensures)
           (subst (With (own .numbers) (w .2 .result)) (sym (w .4)) (w .3 .ensures)) (w .5))
-          (λ w. passing-passes (a .h .size) m test (own .i) (own .inv .1) (says ∙ w .0 .left) (w .1) (w .2))
+          (λ w. passing-passes (a .h .size) m test (own .inv .1) (omega arith) (says ∙ w .0 .left) (w .1) (w .2))
           (c .if1 .came),
     )
 
@@ -69,7 +69,7 @@ returns : tie.Need-returns Inv-loop μ-loop
 returns c =
     let a = c .before .before .before .before .before .args in
     let own = c .before .loop in
-    finds-all (a .h .size) (a .m .now) (staysFor (a .h .size) (a .h .dimension) (a .h .count) All (a .most) (a .m .now)) (a .h .count) (own .i) _ (omega arith) (own .inv .1)
+    finds-all (a .h .size) (a .m .now) (staysFor (a .h .size) (a .h .dimension) (a .h .count) All (a .most) (a .m .now)) (a .h .count) (own .i) _ (omega arith) (c .before .before .empty .ensures) (own .inv .1)
 
 pub find-band-spec : {M : Type 1} → statement M
 find-band-spec =

@@ -24,7 +24,7 @@ abbrev staysAt : Head → Rule → List ℕ → ℕ → Bool
 staysAt h rule m i = staysFor (h .size) (h .dimension) (h .count) rule 0 m (numberIn (h .size) m i)
 
 abbrev Inv-loop : tie.InvT-loop
-Inv-loop m h rule n corners numbers₀ count₀ last₀ i₀ numbers count last i = (i ≤ n) × FindsTo (h .size) m (staysFor (h .size) (h .dimension) n rule 0 m) i numbers count
+Inv-loop m h rule n corners numbers₀ count₀ last₀ i₀ numbers count last i = (i ≤ n) × FindsTo (h .size) m (staysFor (h .size) (h .dimension) n rule 0 m) numbers₀ i numbers count
 
 abbrev μ-loop : tie.MeasureT-loop
 μ-loop m h rule n corners numbers₀ count₀ last₀ i₀ numbers count last i = n - i
@@ -32,7 +32,7 @@ abbrev μ-loop : tie.MeasureT-loop
 loop-holds : tie.Need-loop-holds Inv-loop μ-loop
 loop-holds c =
     let a = c .before .before .before .args in
-    (omega arith, passing-none (a .h .size) (a .m .now) (staysAt (a .h) (a .rule) (a .m .now)) (c .empty .result) (c .empty .ensures))
+    (omega arith, passing-none (a .h .size) (a .m .now) (staysAt (a .h) (a .rule) (a .m .now)) (c .empty .result) 0)
 
 costs-at-requires : tie.Need-costs-at-requires Inv-loop μ-loop
 costs-at-requires c κs = (held-readable (c .before .before .before .before .before .before .pre .0), omega arith)
@@ -68,10 +68,10 @@ loop-again c =
     let says = ap (stays (h .dimension) (a .rule) 0 (movesTo (h .size) (h .dimension) (h .count) m)) (sym (costs .ensures)) in (
       omega arith,
       ⊎-elim
-          (λ w. passing-takes (h .size) m test (own .i) (own .inv .1)
+          (λ w. passing-takes (h .size) m test (own .inv .1) (omega arith)
           (says ∙ stays-none (h .size) (h .dimension) m (a .rule) 0 (costs .result) (h .count) (beater .ensures .none (w .0 .taken)))
           (w .2 .result) (w .2 .ensures) (subst (With (own .numbers) (w .2 .result)) (sym (w .4)) (w .3 .ensures)) (w .5))
-          (λ w. passing-passes (h .size) m test (own .i) (own .inv .1)
+          (λ w. passing-passes (h .size) m test (own .inv .1) (omega arith)
           (says ∙ stays-over (h .size) (h .dimension) (h .count) (a .rule) 0 m (costs .result) (beater .result) (w .0 .left) (beater .ensures .found (w .0 .left)) (omega arith))
           (w .1) (w .2))
           (c .before .if1 .came),
@@ -81,7 +81,7 @@ returns : tie.Need-returns Inv-loop μ-loop
 returns c =
     let a = c .before .before .before .before .before .args in
     let own = c .before .loop in
-    finds-all (a .h .size) (a .m .now) (staysFor (a .h .size) (a .h .dimension) (a .h .count) (a .rule) 0 (a .m .now)) (a .h .count) (own .i) _ (omega arith) (own .inv .1)
+    finds-all (a .h .size) (a .m .now) (staysFor (a .h .size) (a .h .dimension) (a .h .count) (a .rule) 0 (a .m .now)) (a .h .count) (own .i) _ (omega arith) (c .before .before .empty .ensures) (own .inv .1)
 
 pub find-unbeaten-spec : {M : Type 1} → statement M
 find-unbeaten-spec =

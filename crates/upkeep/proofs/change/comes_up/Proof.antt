@@ -1,29 +1,21 @@
 -- `change::comes_up` meets its contract, test by test. Assumes nothing.
-use Prim.Native.Nat.{ℕ, _<_}
+use Prim.Native.Nat.{ℕ}
 use mathlib.Core.Bool.{Bool, not, _&&_}
 use mathlib.Core.List.{List}
 use mathlib.Core.Path.{_≡_, refl, sym, ap, ap₂, _∙_, subst}
 use native.Mathlib.Omega.{arith}
-use borrow.Author.Tests.{not-true, not-false, ltb-true}
-use lib.Dec.{ltb}
+use borrow.Author.Tests.{not-true, not-false}
 use Rattle.model.specs.Moves.{Move}
 use Rattle.model.specs.Dominance.{hides}
-use Rattle.model.specs.Laws.Bool.{and-left}
 use Rattle.promises.specs.Layout.{moveIn}
 use Rattle.promises.specs.Run.{Bytes}
-use Rattle.memory.specs.Tests.{isListed}
 use Rattle.memory.specs.Laws.Held.{held-readable}
-use Rattle.memory.specs.declared.sound.Head.{Head}
-use Rattle.upkeep.specs.Change.{goesListed, hiddenByOthers, hiddenByComing, comesUp, GoesListed, Parted}
+use Rattle.upkeep.specs.Change.{goesListed, hiddenByOthers, hiddenByComing, comesUp, Parted}
+use Rattle.upkeep.specs.Laws.Change.{goes-within}
 use Rattle.upkeep.specs.Laws.Others.{own-place}
 use Rattle.upkeep.specs.declared.change.Change.{Change}
 use Rattle.upkeep.proofs.change.comes_up.Statement.{statement}
 use Rattle.upkeep.proofs.change.comes_up.Tie as tie
-
--- The going move is on the board.
-goes-within : (h : Head) (k : Change) (m : List ℕ) → GoesListed h k m → k .goes < h .count
-unfolding goesListed
-goes-within h k m g = ltb-true (k .goes) (h .count) (and-left (ltb (k .goes) (h .count)) (isListed (h .size) m (k .goes)) (g .goes))
 
 by-tests : (c d n : ℕ) (k : Change) (x : Move) (m : List ℕ) {gone hid coming others : Bool}
     → goesListed c n (k .goes) m ≡ gone
@@ -45,7 +37,7 @@ move-at-requires-2 c κs =
     let start = c .before .before in
     let pre = start .pre in
     let rows = held-readable (pre .0 .sound) in
-    let on = goes-within (start .args .h) (start .args .k) (start .args .m .now) (pre .0) in
+    let on = goes-within (start .args .h .size) (start .args .h .count) (start .args .k .goes) (start .args .m .now) (pre .0 .goes) in
     (rows .room, omega (arith, rows .rows, on), rows .numbers (start .args .k .goes) on, rows .dimension)
 
 returns : tie.Need-returns

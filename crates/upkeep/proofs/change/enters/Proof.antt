@@ -4,14 +4,13 @@ use mathlib.Core.Bool.{Bool, not, _&&_}
 use mathlib.Core.List.{List}
 use mathlib.Core.Path.{_≡_, refl, sym, _∙_}
 use native.Mathlib.Omega.{arith}
-use borrow.Author.Tests.{eq-eqb, ne-eqb, not-true, not-false}
+use borrow.Author.Tests.{eq-eqb, ne-eqb}
 use lib.Dec.{eqb}
 use Rattle.promises.specs.Layout.{moveIn}
 use Rattle.memory.specs.Tests.{isListed}
 use Rattle.memory.specs.Laws.Held.{held-readable}
 use Rattle.memory.specs.Laws.Turns.{listed-at}
 use Rattle.upkeep.specs.Change.{comesUp, entersAt}
-use Rattle.upkeep.specs.Laws.Change.{enters-none}
 use Rattle.upkeep.specs.declared.change.Change.{Change}
 use Rattle.upkeep.proofs.change.enters.Statement.{statement}
 use Rattle.upkeep.proofs.change.enters.Tie as tie
@@ -24,50 +23,38 @@ by-tests : (c d n : ℕ) (k : Change) (m : List ℕ) (i : ℕ) {listed gone up :
 unfolding entersAt
 by-tests c d n k m i p q r = sym (λ j. not (p j) && (not (q j) && r j))
 
-returns : tie.Need-returns
-returns c =
-    let start = c .before .before in
-    let a = start .args in
-    sym (enters-none (a .h .size) (a .h .dimension) (a .h .count) (a .k) (a .m .now) (a .i) (sym (start .pre .1) ∙ not-true _ (c .if1 .taken)))
-
 number-at-requires : tie.Need-number-at-requires
-number-at-requires c κs = let pre = c .before .before .pre .0 in let rows = held-readable (pre .0) in (rows .room, omega (arith, rows .rows, pre .2))
+number-at-requires c κs = let pre = c .before .pre in let rows = held-readable (pre .0 .sound) in (rows .room, omega (arith, rows .rows, pre .2))
 
 is-listed-requires : tie.Need-is-listed-requires
 is-listed-requires c κs =
-    let start = c .before .before .before in
-    let rows = held-readable (start .pre .0 .0) in
-    (rows .room, omega (arith, rows .numbers (start .args .i) (start .pre .0 .2), c .number-at .ensures))
+    let start = c .before .before in
+    let rows = held-readable (start .pre .0 .sound) in
+    (rows .room, omega (arith, rows .numbers (start .args .i) (start .pre .2), c .number-at .ensures))
+
+returns : tie.Need-returns
+returns c =
+    let a = c .before .before .before .before .args in
+    let number = c .before .before .number-at in
+    by-tests (a .h .size) (a .h .dimension) (a .h .count) (a .k) (a .m .now) (a .i)
+    (listed-at (a .h .size) (a .m .now) (a .i) (number .result) (number .ensures) ∙ sym (c .before .is-listed .ensures) ∙ c .if1 .taken) refl refl
 
 returns-2 : tie.Need-returns-2
 returns-2 c =
-    let a = c .before .before .before .before .before .args in
-    let number = c .before .before .number-at in
+    let a = c .before .before .before .before .before .before .args in
+    let number = c .before .before .before .before .number-at in
     by-tests (a .h .size) (a .h .dimension) (a .h .count) (a .k) (a .m .now) (a .i)
-    (listed-at (a .h .size) (a .m .now) (a .i) (number .result) (number .ensures) ∙ sym (c .before .is-listed .ensures) ∙ c .if2 .taken) refl refl
+    (listed-at (a .h .size) (a .m .now) (a .i) (number .result) (number .ensures) ∙ sym (c .before .before .before .is-listed .ensures) ∙ c .before .before .if1 .left) (eq-eqb (a .i) (a .k .goes) (c .if2 .taken)) refl
 
 returns-3 : tie.Need-returns-3
 returns-3 c =
     let a = c .before .before .before .before .before .before .before .args in
-    let number = c .before .before .before .before .number-at in
-    by-tests (a .h .size) (a .h .dimension) (a .h .count) (a .k) (a .m .now) (a .i)
-    (listed-at (a .h .size) (a .m .now) (a .i) (number .result) (number .ensures) ∙ sym (c .before .before .before .is-listed .ensures) ∙ c .before .before .if2 .left) (eq-eqb (a .i) (a .k .goes) (c .if3 .taken)) refl
-
-comes-up-requires : tie.Need-comes-up-requires
-comes-up-requires c κs =
-    let start = c .before .before .before .before .before .before .before in
-    let pre = start .pre .0 in
-    (record { sound = pre .0; goes = sym (start .pre .1) ∙ not-false _ (c .before .before .before .before .before .if1 .left) }, pre .1, pre .2)
-
-returns-4 : tie.Need-returns-4
-returns-4 c =
-    let a = c .before .before .before .before .before .before .before .before .args in
     let number = c .before .before .before .before .before .number-at in
     by-tests (a .h .size) (a .h .dimension) (a .h .count) (a .k) (a .m .now) (a .i)
-    (listed-at (a .h .size) (a .m .now) (a .i) (number .result) (number .ensures) ∙ sym (c .before .before .before .before .is-listed .ensures) ∙ c .before .before .before .if2 .left) (ne-eqb (a .i) (a .k .goes) (c .before .if3 .left))
+    (listed-at (a .h .size) (a .m .now) (a .i) (number .result) (number .ensures) ∙ sym (c .before .before .before .before .is-listed .ensures) ∙ c .before .before .before .if1 .left) (ne-eqb (a .i) (a .k .goes) (c .before .if2 .left))
     (sym (c .comes-up .ensures))
 
 pub enters-spec : {M : Type 1} → statement M
 enters-spec =
     tie.close
-    (tie.spec returns number-at-requires is-listed-requires returns-2 returns-3 comes-up-requires returns-4)
+    (tie.spec number-at-requires is-listed-requires returns returns-2 (λ c κs. c .before .before .before .before .before .before .pre) returns-3)

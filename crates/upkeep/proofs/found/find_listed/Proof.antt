@@ -11,7 +11,7 @@ use Rattle.upkeep.proofs.found.find_listed.Statement.{statement}
 use Rattle.upkeep.proofs.found.find_listed.Tie as tie
 
 abbrev Inv-loop : tie.InvT-loop
-Inv-loop m h n numbers₀ count₀ i₀ numbers count i = (i ≤ n) × FindsTo (h .size) m (isMarked (h .size) m) i numbers count
+Inv-loop m h n numbers₀ count₀ i₀ numbers count i = (i ≤ n) × FindsTo (h .size) m (isMarked (h .size) m) numbers₀ i numbers count
 
 abbrev μ-loop : tie.MeasureT-loop
 μ-loop m h n numbers₀ count₀ i₀ numbers count i = n - i
@@ -23,7 +23,7 @@ loop-holds : tie.Need-loop-holds Inv-loop μ-loop
 unfolding isListed
 loop-holds c =
     let a = c .before .before .args in
-    (omega arith, passing-none (a .h .size) (a .m .now) (isListed (a .h .size) (a .m .now)) (c .empty .result) (c .empty .ensures))
+    (omega arith, passing-none (a .h .size) (a .m .now) (isListed (a .h .size) (a .m .now)) (c .empty .result) 0)
 
 is-listed-requires : tie.Need-is-listed-requires Inv-loop μ-loop
 is-listed-requires c κs = omega (arith, c .before .before .before .before .before .pre .numbers (c .before .before .loop .i) (omega arith))
@@ -48,9 +48,9 @@ loop-again c =
     let says = ap (isMarked (a .h .size) (a .m .now)) (sym (at .ensures)) ∙ sym (c .before .is-listed .ensures) in (
       omega arith,
       ⊎-elim
-          (λ w. passing-takes (a .h .size) (a .m .now) (isListed (a .h .size) (a .m .now)) (own .i) (own .inv .1) (says ∙ w .0 .taken) (at .result) (at .ensures)
+          (λ w. passing-takes (a .h .size) (a .m .now) (isListed (a .h .size) (a .m .now)) (own .inv .1) (omega arith) (says ∙ w .0 .taken) (at .result) (at .ensures)
           (subst (With (own .numbers) (at .result)) (sym (w .3)) (w .2 .ensures)) (w .4))
-          (λ w. passing-passes (a .h .size) (a .m .now) (isListed (a .h .size) (a .m .now)) (own .i) (own .inv .1) (says ∙ w .0 .left) (w .1) (w .2))
+          (λ w. passing-passes (a .h .size) (a .m .now) (isListed (a .h .size) (a .m .now)) (own .inv .1) (omega arith) (says ∙ w .0 .left) (w .1) (w .2))
           (c .if1 .came),
     )
 
@@ -58,7 +58,7 @@ returns : tie.Need-returns Inv-loop μ-loop
 returns c =
     let a = c .before .before .before .before .args in
     let own = c .before .loop in
-    finds-all (a .h .size) (a .m .now) (isMarked (a .h .size) (a .m .now)) (a .h .count) (own .i) _ (omega arith) (own .inv .1)
+    finds-all (a .h .size) (a .m .now) (isMarked (a .h .size) (a .m .now)) (a .h .count) (own .i) _ (omega arith) (c .before .before .empty .ensures) (own .inv .1)
 
 pub find-listed-spec : {M : Type 1} → statement M
 find-listed-spec =
