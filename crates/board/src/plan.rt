@@ -2,6 +2,7 @@
 use crate::told::alike;
 use crate::told::coming_place;
 use crate::told::needed;
+use crate::told::reported;
 use memory::Head;
 use promises::Verdict;
 use upkeep::Change;
@@ -33,7 +34,7 @@ pub fn plan_of(m: &[u8], h: Head, v: Verdict, k: Change, lent: usize) -> Plan
     Plan {
         verdict: Verdict::Accepted,
         count: need,
-        opened: 0,
+        opened: reported(k.comes, upkeep.opened),
         makes: true,
         goes: k.goes,
         comes: k.comes,

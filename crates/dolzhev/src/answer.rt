@@ -12,7 +12,7 @@ pub struct Move {
     pub costs: [u16; COSTS],
 }
 
-// Document 01's number of the refusal and its detail; the rows told; of list the nodes opened, else 0.
+// Document 01's number of the refusal and its detail; the rows told; of list and withdraw the nodes opened, else 0.
 #[repr(C)]
 pub struct Answer {
     pub refusal: usize,

@@ -33,13 +33,14 @@ use Rattle.memory.specs.Laws.Lines.{length-line}
 use Rattle.memory.specs.Laws.Held.{held-fit, held-distinct}
 use Rattle.tree.specs.Withdraw.{PlaceOf}
 use Rattle.upkeep.specs.Change.{dropAt}
+use Rattle.upkeep.specs.Laws.Change.{rest-without}
 use Rattle.upkeep.specs.declared.change.Change.{Change}
 use Rattle.board.specs.Kind.{changeOf, comes}
 use Rattle.board.specs.Plan.{callOf, Ready}
 use Rattle.board.specs.declared.judge.Kind.{Kind}
 use Rattle.board.specs.declared.judge.Kind.the-variants.{Enter, Withdraw, Recost}
 use Rattle.board.specs.Laws.Judge.{board-moves, judge-size, judge-past, on-board}
-use Rattle.board.specs.Laws.Marks.{rest-without, entering-moves}
+use Rattle.board.specs.Laws.Marks.{entering-moves}
 use Rattle.board.specs.Laws.Calls.{call-enter, call-withdraw, call-recost}
 
 -- The four checks, none of which turns the change down.

@@ -20,11 +20,12 @@ use Rattle.promises.specs.Run.{Bytes}
 use Rattle.promises.specs.declared.Verdict.{Verdict}
 use Rattle.dominance.specs.Move.{asMove}
 use Rattle.upkeep.specs.Change.{dropAt, movesAfter}
+use Rattle.upkeep.specs.Laws.Change.{rest-without}
 use Rattle.upkeep.specs.declared.change.Change.{Change}
 use Rattle.board.specs.Change.{Judges, noticeBy}
 use Rattle.board.specs.Plan.{callOf, Ready}
 use Rattle.board.specs.Laws.Judge.{board-moves}
-use Rattle.board.specs.Laws.Marks.{rest-without, entering-moves}
+use Rattle.board.specs.Laws.Marks.{entering-moves}
 
 pub judged-passes : {x : calls.Change} {m : List ℕ} {v : Verdict} → Judges x m v → numberOf v ≡ 0 → changeRefusal (boardIn m) x ≡ 0
 unfolding answerOf refusedWith

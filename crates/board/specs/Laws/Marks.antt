@@ -1,39 +1,36 @@
 -- The marks after a change, and the moves that it leaves.
 use Prim.Native.Nat.{ℕ, suc, _<_}
 use mathlib.Core.Bool.{Bool, true, false, cond, not, _&&_, Bool·beq}
-use mathlib.Core.List.{List, _++_, map, append-nil}
+use mathlib.Core.List.{List, _++_, append-nil}
 use mathlib.Core.Logic.{_≢_}
 use mathlib.Core.Path.{_≡_, refl, sym, ap, ap₂, _∙_, subst}
 use native.Mathlib.Omega.{arith}
-use borrow.Author.Tests.{eq-eqb, eqb-true, eqb-false, ne-eqb, not-true}
+use borrow.Author.Tests.{eq-eqb, eqb-false, ne-eqb, not-true}
 use lib.Dec.{eqb}
 use lib.ListN.{length, length-map, drop-of-length-le}
 use lib.Seq.{take-all}
 use Rattle.model.specs.Basics.{Each, select, any, numbersFrom}
 use Rattle.model.specs.Moves.{Move, moveBefore, insert}
 use Rattle.model.specs.Lists.{hidden}
-use Rattle.model.specs.Withdrawing.{without}
 use Rattle.model.specs.Calls.{onBoard}
-use Rattle.model.specs.Laws.Bool.{condCases, same-test, both-ways, and-both, not-flip}
-use Rattle.model.specs.Laws.Basics.{each-mem, mem-each, each-map, select-mem, select-map, select-ext, any-map, any-select}
+use Rattle.model.specs.Laws.Bool.{condCases, both-ways, and-both, not-flip}
+use Rattle.model.specs.Laws.Basics.{each-mem, mem-each, each-map, select-mem, any-map, any-select}
 use Rattle.model.specs.Laws.Range.{each-place}
 use Rattle.model.specs.Laws.Sorting.{each-insert}
 use Rattle.line.specs.Line.{movesIn}
 use Rattle.promises.specs.Layout.{numberIn, markIn, moveIn, lineFrom}
-use Rattle.promises.specs.Run.{Bytes}
 use Rattle.dominance.specs.Move.{asMove}
-use Rattle.memory.specs.Held.{SoundAt}
 use Rattle.memory.specs.Tests.{isListed}
 use Rattle.memory.specs.Laws.Places.{anyTo-found}
 use Rattle.memory.specs.Stores.{setListed}
 use Rattle.memory.specs.Laws.Frames.{room-over}
 use Rattle.memory.specs.Laws.Stored.{mark-setListed-other, listed-setListed}
 use Rattle.memory.specs.Laws.Lines.{length-line}
-use Rattle.memory.specs.Laws.Held.{held-room, held-numbers, held-once}
+use Rattle.memory.specs.Laws.Held.{held-room, held-numbers}
 use Rattle.upkeep.specs.Change.{dropAt, movesAfter, stays, ChangeAsked, Upkept}
 use Rattle.upkeep.specs.Notice.{listedThen, SetMarks}
 use Rattle.upkeep.specs.Laws.Places.{anyTo-places}
-use Rattle.upkeep.specs.Laws.Change.{line-places, rest-places}
+use Rattle.upkeep.specs.Laws.Change.{rest-places}
 use Rattle.upkeep.specs.declared.change.Change.{Change}
 use Rattle.upkeep.specs.declared.change.Upkeep.{Upkeep}
 use Rattle.board.specs.Laws.Kept.{MarksRight}
@@ -77,22 +74,6 @@ module _ (c d n g : ℕ) (m : List ℕ) where
 
       here : ℕ → Bool
       here j = not (eqb j g) && has (moveIn c d m j)
-
-  -- They are those of other numbers.
-  pub rest-without : SoundAt c d n m → Bytes m → g < n → dropAt g (movesIn (lineFrom c d n m)) ≡ without (numberIn c m g) (movesIn (lineFrom c d n m))
-  unfolding without moveIn
-  rest-without s b l =
-      rest-places c d n m g
-      ∙ ap (map (moveIn c d m))
-      (select-ext (λ j. not (eqb j g)) (λ j. not (eqb (numberIn c m j) (numberIn c m g))) (numbersFrom 0 n)
-      (each-place (λ j. not (eqb j g) ≡ not (eqb (numberIn c m j) (numberIn c m g))) n
-      (λ j k.
-      ap not
-      (same-test (eqb j g) (eqb (numberIn c m j) (numberIn c m g))
-      (λ e. eq-eqb (numberIn c m j) (numberIn c m g) (ap (numberIn c m) (eqb-true j g e)))
-      (λ e. eq-eqb j g (held-once c d n m s b j g k l (eqb-true (numberIn c m j) (numberIn c m g) e)))))))
-      ∙ sym (select-map (λ x. not (eqb (x .number) (numberIn c m g))) (moveIn c d m) (numbersFrom 0 n))
-      ∙ sym (ap (without (numberIn c m g)) (line-places c d n m))
 
 pub entering-moves : (c d n : ℕ) (m : List ℕ) → dropAt n (movesIn (lineFrom c d n m)) ≡ movesIn (lineFrom c d n m)
 unfolding movesIn

@@ -1,6 +1,6 @@
 -- The plan of a call, for each of its answers.
 use Prim.Native.Nat.{ℕ, _≤_, _<_}
-use mathlib.Core.Bool.{Bool, true, false, _&&_}
+use mathlib.Core.Bool.{Bool, true, false, cond, _&&_}
 use mathlib.Core.List.{List, []}
 use mathlib.Core.Path.{_≡_, refl, sym, ap, ap₂, _∙_, subst}
 use native.Mathlib.Omega.{arith}
@@ -11,11 +11,12 @@ use Rattle.model.specs.Basics.{equal}
 use Rattle.model.specs.Calls as calls
 use Rattle.model.specs.Calls.{refusedWith, changeRefusal, changeAnswer, changeNotice, keepsMoves, onBoard}
 use Rattle.model.specs.Withdrawing.{costsOn, unchanged}
-use Rattle.model.specs.Opening.{changeOpens}
+use Rattle.model.specs.Tree.{Tree}
+use Rattle.model.specs.Opening.{withdrawOpens, changeOpens}
 use Rattle.model.specs.Laws.Bool.{both-ways, byCases, and-left, and-right}
 use Rattle.model.specs.Laws.Basics.{equal-refl}
 use Rattle.promises.specs.Layout.{dimensionIn, numberIn, costsIn, boardIn}
-use Rattle.promises.specs.Sound.{Sound}
+use Rattle.promises.specs.Sound.{Stands, Sound}
 use Rattle.promises.specs.Answers.{numberOf}
 use Rattle.promises.specs.Run.{Bytes}
 use Rattle.promises.specs.declared.Verdict.{Verdict}
@@ -43,11 +44,11 @@ use Rattle.upkeep.specs.declared.plan.Plan.{Plan}
 -- ---- nothing told and nothing made
 
 module _ {block : ℕ} {x : calls.Change} {m : List ℕ} {lent : ℕ} {v : Verdict} {p : Plan} (e : Nothing v p) (a : VerdictFor (changeAnswer (boardIn m) x lent) (changeNotice (boardIn m) x) m lent v 0) where
-  nothing-planned : (numberOf v ≡ 0 → [] ≡ changeNotice (boardIn m) x) → (numberOf v ≡ 0 → Made x m m) → MovesPlanned block x m lent p
-  unfolding changeOpens
-  nothing-planned notice idle =
+  nothing-planned : (numberOf v ≡ 0 → [] ≡ changeNotice (boardIn m) x) → (numberOf v ≡ 0 → (t : Tree) → Stands m t → 0 ≡ changeOpens (dimensionIn m) x t) → (numberOf v ≡ 0 → Made x m m)
+      → MovesPlanned block x m lent p
+  nothing-planned notice shut idle =
       record {
-        plans = nothing-plans e a notice (λ _ _ _. refl);
+        plans = nothing-plans e a notice shut;
         accepted = λ f. both-ways f (e .makes);
         makes = λ f. both-ways f (e .makes);
         idle = λ _ z. idle (sym (ap numberOf (e .verdict)) ∙ z);
@@ -56,7 +57,7 @@ module _ {block : ℕ} {x : calls.Change} {m : List ℕ} {lent : ℕ} {v : Verdi
       }
 
   refused-planned : 0 < numberOf v → MovesPlanned block x m lent p
-  refused-planned h = nothing-planned (λ z. absurd (omega arith)) (λ z. absurd (omega arith))
+  refused-planned h = nothing-planned (λ z. absurd (omega arith)) (λ z. absurd (omega arith)) (λ z. absurd (omega arith))
 
 pub plan-unsound : {x : calls.Change} {m : List ℕ} {lent : ℕ} {p : Plan} → (Sound m → ⊥) → Nothing Unsound p → Planned x m lent p
 unfolding numberOf changeAnswer
@@ -101,14 +102,14 @@ module _ {c d n : ℕ} {v : Verdict} {k : Change} {m : List ℕ} (a : PlanAsked 
 
       idle-recost : (block : ℕ) {lent : ℕ} {p : Plan} → Judges (calls.recost (k .coming .number) block (k .coming .costs)) m v → Nothing Accepted p
           → MovesPlanned block (calls.recost (k .coming .number) block (k .coming .costs)) m lent p
-      unfolding changeAnswer
+      unfolding changeAnswer changeOpens
       idle-recost block {lent} j e =
           let x = k .coming in
           let fit = ready .asked .fit (alike-costs .0) in
           let ok = judged-passes j h in
           let on = recost-on (boardIn m) (x .number) block (x .costs) ok in
           let none = no-notice (a .sound) b x fit on (alike-costs .2) block in
-          nothing-planned e (answered-all _ _ m lent sound (not-refused ok) 0 (ap length (sym none)) (omega arith)) (λ _. sym none)
+          nothing-planned e (answered-all _ _ m lent sound (not-refused ok) 0 (ap length (sym none)) (omega arith)) (λ _. sym none) (λ _ _ _. refl)
           (λ _. same-made (a .sound) b x fit on (alike-costs .2) block)
 
       pub plan-idle : {lent : ℕ} {p : Plan} → Nothing Accepted p → PlanOf c n v k m lent p
@@ -171,13 +172,28 @@ module _ {c d n : ℕ} {v : Verdict} {k : Change} {m : List ℕ} (a : PlanAsked 
               none = g .gives;
             }
 
-        module _ {lent : ℕ} (l : need ≤ lent) {place : ℕ} (q : ComingPlace c d n k m place) (g : Given) (off : g .gives ≡ false) where
+        -- A withdrawal reports the nodes opened, the others none.
+        call-opens : (block : ℕ) (t : Tree) → Stands m t → cond (k .comes) 0 (u .opened) ≡ changeOpens (dimensionIn m) (callOf c n k block m) t
+        unfolding changeOpens
+        call-opens block t x =
+            let nodes : calls.Change → ℕ = λ y. changeOpens (dimensionIn m) y t in
+            byCases (k .comes)
+            (λ f. ap (λ (t : Bool). cond t 0 (u .opened)) f
+            ∙ byCases (ltb (k .goes) n)
+            (λ i. sym (ap nodes (call-recost c n k block m f (ltb-true (k .goes) n i))))
+            (λ o. sym (ap nodes (call-enter c n k block m f (ltb-false (k .goes) n o)))))
+            (λ f. ap (λ (t : Bool). cond t 0 (u .opened)) f
+            ∙ up .opened (ready .place f) t x
+            ∙ ap (λ (d : ℕ). withdrawOpens d (numberIn c m (k .goes)) t) (a .sound .dimension)
+            ∙ sym (ap nodes (call-withdraw c n k block m f)))
+
+        module _ {lent : ℕ} (l : need ≤ lent) {place : ℕ} (q : ComingPlace c d n k m place) (g : Given) (off : g .gives ≡ false) (opened : ℕ) (shown : opened ≡ cond (k .comes) 0 (u .opened)) where
           abbrev full : Plan
           full =
               record {
                 verdict = Accepted;
                 count = need;
-                opened = 0;
+                opened = opened;
                 makes = true;
                 goes = k .goes;
                 comes = k .comes;
@@ -187,11 +203,11 @@ module _ {c d n : ℕ} {v : Verdict} {k : Change} {m : List ℕ} (a : PlanAsked 
 
           full-plans : (block : ℕ) (x : calls.Change) → changeRefusal (boardIn m) x ≡ 0 → (numberOf v ≡ 0 → callOf c n k block m ≡ x)
               → Plans (changeAnswer (boardIn m) x lent) (changeNotice (boardIn m) x) (changeOpens (dimensionIn m) x) m lent full
-          unfolding numberOf changeAnswer changeOpens toldRows noticeRows
+          unfolding numberOf changeAnswer toldRows noticeRows
           full-plans block x ok stands =
               record {
                 answered = answered-all _ _ m lent sound (not-refused ok) need (need-of block x stands) l;
-                opens = λ _ _ _. refl;
+                opens = λ _ t z. shown ∙ call-opens block t z ∙ ap (λ (y : calls.Change). changeOpens (dimensionIn m) y t) (stands h);
                 closed = λ z. absurd (omega arith);
                 told = rows-needed (ready .asked) b other up q (asMove (k .coming)) ∙ sym e;
                 tells = λ _. told-rows (ready .asked) b other up q ∙ call-notice block ready b ∙ ap (changeNotice (boardIn m)) (stands h);

@@ -41,11 +41,12 @@ use Rattle.tree.specs.Enter as tree
 use Rattle.tree.specs.Withdraw as withdraw
 use Rattle.upkeep.specs.Change.{dropAt, movesAfter}
 use Rattle.upkeep.specs.Notice.{SetMarks}
+use Rattle.upkeep.specs.Laws.Change.{rest-without}
 use Rattle.upkeep.specs.declared.change.Upkeep.{Upkeep}
 use Rattle.board.specs.Change.{ToRecost, Moved, RecostMade}
 use Rattle.board.specs.Laws.Rows.{holds-sound, holds-moves, holds-over-marks, holds-counted}
 use Rattle.board.specs.Laws.Kept.{MarksRight, made}
-use Rattle.board.specs.Laws.Marks.{rest-without, marks-come}
+use Rattle.board.specs.Laws.Marks.{marks-come}
 use Rattle.board.specs.Laws.Steps.{listed-frame, stored-frame, stored-holds, stored-asked, gone-written, gone-mark, gone-holds, gone-moves}
 
 -- The costs of a number on the board, where costs go by number.

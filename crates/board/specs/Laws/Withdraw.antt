@@ -13,11 +13,12 @@ use Rattle.memory.specs.Laws.Written.{only-trans, marks-written}
 use Rattle.tree.specs.Withdraw as withdraw
 use Rattle.upkeep.specs.Change.{movesAfter}
 use Rattle.upkeep.specs.Notice.{SetMarks}
+use Rattle.upkeep.specs.Laws.Change.{rest-without}
 use Rattle.upkeep.specs.declared.change.Upkeep.{Upkeep}
 use Rattle.board.specs.Change.{ToWithdraw, WithdrawMade}
 use Rattle.board.specs.Laws.Rows.{holds-sound, holds-over-marks, holds-counted}
 use Rattle.board.specs.Laws.Kept.{MarksRight, made}
-use Rattle.board.specs.Laws.Marks.{rest-without, marks-gone}
+use Rattle.board.specs.Laws.Marks.{marks-gone}
 use Rattle.board.specs.Laws.Steps.{gone-written, gone-mark, gone-holds, gone-moves}
 
 module _ {c d n p : ℕ} {u : Upkeep} {m m₁ : List ℕ} (a : ToWithdraw c d n p u m) (b : Bytes m)

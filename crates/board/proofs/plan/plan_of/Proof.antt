@@ -63,7 +63,7 @@ returns-3 c =
 returns-4 : tie.Need-returns-4
 unfolding Bytes
 returns-4 c =
-    let need = c .before .before .before in
+    let need = c .before .before .before .before in
     let up = need .before in
     let place = up .before in
     let like = place .before .before in
@@ -71,7 +71,8 @@ returns-4 c =
     let start = found .before .before in
     let bytes : Bytes (start .args .m .now) = λ i. omega (arith, found .before .shared-slice-known .given i) in
     plan-full (start .pre) bytes (key-number (start .args .v) (found .match .keys1)) (sym (like .alike .ensures) ∙ place .before .if1 .left)
-    (up .upkeep-of .ensures) (need .needed .ensures) (c .before .before .if2 .left) (place .coming-place .ensures) (c .no-block .result) (c .no-block .ensures)
+    (up .upkeep-of .ensures) (need .needed .ensures) (c .before .before .before .if2 .left) (place .coming-place .ensures) (c .no-block .result) (c .no-block .ensures)
+    (c .before .reported .result) (c .before .reported .ensures)
 
 pub plan-of-spec : {M : Type 1} → statement M
 plan-of-spec =
@@ -88,5 +89,6 @@ plan-of-spec =
     needed-requires
     (λ c κs. search needs)
     returns-3
+    (λ c κs. search needs)
     (λ c κs. search needs)
     returns-4)
