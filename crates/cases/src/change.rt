@@ -1,4 +1,5 @@
 // Enter, withdraw and re-cost: planned, written out, then carried out.
+use crate::print::put;
 use crate::print::put_rows;
 use crate::print::put_told;
 use crate::words::costs;
@@ -14,7 +15,7 @@ fn planned(letter: u8, memory: &[u8], values: &[u64]) -> Plan
     ensures { λ r. ⌜ Able r (now (memory .entry)) × (0 < r .count → TellingAsked (r .telling) (now (memory .entry))) ⌝ }
 {
     let number = narrow(value(values, 0));
-    if letter == b'W' {
+    if letter == b'W' || letter == b'X' {
         return board::plan_withdraw(memory, number, value(values, 1) as usize);
     }
     let block = narrow(value(values, 1));
@@ -30,6 +31,9 @@ pub fn change(letter: u8, memory: &mut [u8], values: &[u64]) {
     let verdict = p.verdict;
     let telling = p.telling;
     put_told(verdict, p.count);
+    if letter == b'X' {
+        put(p.opened as u64);
+    }
     put_rows(memory, telling, p.count);
     board::carry_out(memory, p);
 }

@@ -55,7 +55,7 @@ fn loaded(b: Plain, t: &mut Table, m: &mut [u8], s: usize, n: usize) -> Plain {
     fill(b, t, &mut input, s, n);
     let said = spoken(b, load(m, b.c, b.d, &input, n), 0, 0);
     let want = listed(b, t, n);
-    judged(want, said, t, b'L')
+    judged(want, said, t, b'L', 0)
 }
 
 // No rows, few, all, or some.
@@ -109,7 +109,7 @@ fn short(t: &mut Table) -> Tally {
     let mut m = [0u8; 2047];
     let b = bare(0, 2, 0);
     let said = spoken(b, load(&mut m, 16, 2, &[], 0), 0, 0);
-    let after = judged(answer(b, 1, 0, 0), said, t, b'L');
+    let after = judged(answer(b, 1, 0, 0), said, t, b'L', 0);
     run(after, t, &mut m, count([0u64; 128], b'L', after), 1, 300)
 }
 

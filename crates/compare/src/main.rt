@@ -7,6 +7,7 @@ mod ask;
 mod boards;
 mod dice;
 mod expect;
+mod nodes;
 mod plain;
 mod rules;
 mod runs;

@@ -24,7 +24,7 @@ pub enum Test {
     Same,
 }
 
-fn nowhere_greater(set: usize, p: Row, q: Row) -> bool {
+pub fn nowhere_greater(set: usize, p: Row, q: Row) -> bool {
     let mut i = 0;
     while i < COSTS && ((set >> i) % 2 == 0 || p[2 + i] <= q[2 + i]) {
         i += 1;
@@ -32,7 +32,7 @@ fn nowhere_greater(set: usize, p: Row, q: Row) -> bool {
     i == COSTS
 }
 
-fn beats(set: usize, p: Row, q: Row) -> bool {
+pub fn beats(set: usize, p: Row, q: Row) -> bool {
     nowhere_greater(set, p, q) && !nowhere_greater(set, q, p)
 }
 

@@ -47,7 +47,7 @@ pub fn count(u: Tally, letter: u8, b: Plain) -> Tally {
     let name = cell(letter, b.refusal);
     let called = add(u, name, 1);
     let told = add(called, name ^ 32, b.count);
-    let opened = add(told, b'o', b.opened);
+    let opened = add(told, if b'Z' < letter { b'w' } else { b'o' }, b.opened);
     let heard = add(opened, b'h', if b.holding { 1 } else { 0 });
     judge(heard, letter, b.right)
 }
@@ -81,7 +81,7 @@ pub fn put_all(u: &Tally) {
     );
     put_named(
         u,
-        b"qrows listed\nonodes opened\nBbands\nRranks\nKon k\nSchosen\nYhours\n",
+        b"qrows listed\nonodes opened\nwnodes opened on withdrawals\nBbands\nRranks\nKon k\nSchosen\nYhours\n",
     );
     put_named(
         u,
