@@ -22,7 +22,8 @@
  *   detail   of 8 the rows needed; of the 4, 5, 7 and 11 of dolzhev_load the place, from 0, of the first row that fails; of 12
  *            the lowest block with bad hours; else 0.
  *   count    the rows written, at the start of the lent ones. Rows past them are untouched.
- *   opened   of dolzhev_list the nodes opened; else 0.
+ *   opened   of dolzhev_list the nodes opened; of dolzhev_withdraw those opened while looking for moves to bring up, 0 if the
+ *            move was not listed; else 0.
  *   A refused call has count and opened zero and alters no lent byte.
  *   8 is given exactly if more rows are needed than lent.
  *
@@ -118,7 +119,9 @@ dolzhev_answer dolzhev_load(uint8_t *memory, size_t memory_len, size_t c, size_t
  * past d is not zero, 5 if the number is on the board, 8. */
 dolzhev_answer dolzhev_enter(uint8_t *memory, size_t memory_len, dolzhev_move move, dolzhev_row *rows, size_t rows_len);
 
-/* Takes the move of that number away.
+/* Takes the move of that number away. `opened` is the number of nodes opened while looking for moves to bring up, counted on
+ * the tree before: 0 if the move was not listed, else the nodes whose far corner it dominates or equals and whose near corner
+ * no other listed move dominates.
  * Refusals, in order: 3 if the memory is not sound, 4 if the number is at or above C, 6 if the number is not on the board,
  * 8. */
 dolzhev_answer dolzhev_withdraw(uint8_t *memory, size_t memory_len, uint16_t number, dolzhev_row *rows, size_t rows_len);

@@ -37,12 +37,17 @@ static void print_answer(const char *call, dolzhev_answer answer)
     print_rows(answer.count);
 }
 
-static void print_list(void)
+/* The answer of a list or a withdrawal, which tell the nodes opened too. */
+static void print_opened(const char *call, dolzhev_answer answer)
 {
-    dolzhev_answer answer = dolzhev_list(memory, sizeof memory, rows, rows_len);
-    print_answer("list", answer);
+    print_answer(call, answer);
     if (answer.refusal == DOLZHEV_ACCEPTED)
         printf("  nodes opened: %zu\n", answer.opened);
+}
+
+static void print_list(void)
+{
+    print_opened("list", dolzhev_list(memory, sizeof memory, rows, rows_len));
 }
 
 /* Block 7 is always open, block 12 from 6:00 to 22:00 of the first day, block 30 from the last day's 22:00 to the first day's
@@ -78,12 +83,13 @@ static void change(void)
     dolzhev_move six = {6, 7, {4, 1}}, one = {1, 7, {0, 1}};
     print_answer("enter 6 (4, 1)", dolzhev_enter(memory, sizeof memory, six, rows, rows_len));
     print_answer("enter 6 again", dolzhev_enter(memory, sizeof memory, six, rows, rows_len));
-    print_answer("withdraw 6", dolzhev_withdraw(memory, sizeof memory, 6, rows, rows_len));
-    print_answer("withdraw 2", dolzhev_withdraw(memory, sizeof memory, 2, rows, rows_len));
-    print_answer("withdraw 5", dolzhev_withdraw(memory, sizeof memory, 5, rows, rows_len));
-    print_answer("withdraw 3", dolzhev_withdraw(memory, sizeof memory, 3, rows, rows_len));
+    print_opened("withdraw 6", dolzhev_withdraw(memory, sizeof memory, 6, rows, rows_len));
+    print_opened("withdraw 2", dolzhev_withdraw(memory, sizeof memory, 2, rows, rows_len));
+    print_opened("withdraw 5", dolzhev_withdraw(memory, sizeof memory, 5, rows, rows_len));
+    print_opened("withdraw 3", dolzhev_withdraw(memory, sizeof memory, 3, rows, rows_len));
     print_answer("re-cost 1 to (0, 1), no row lent", dolzhev_recost(memory, sizeof memory, one, rows, 0));
     print_answer("re-cost 1 to (0, 1)", dolzhev_recost(memory, sizeof memory, one, rows, rows_len));
+    print_opened("withdraw 4, not listed", dolzhev_withdraw(memory, sizeof memory, 4, rows, rows_len));
 }
 
 static void print_address(const char *costs, dolzhev_address_words address)

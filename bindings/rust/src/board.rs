@@ -11,6 +11,16 @@ pub struct Listed<'r> {
     pub opened: usize,
 }
 
+/// The notice of a withdrawal, and the nodes opened for it.
+#[derive(Clone, Copy, Debug, PartialEq, Eq)]
+pub struct Withdrawn<'r> {
+    /// The rows that left the list, then those that entered it, each part in Z-order.
+    pub rows: &'r [Row],
+    /// The nodes opened while looking for moves to bring up, counted on the tree before: 0 if the move was not listed, else the
+    /// nodes whose far corner it dominates or equals and whose near corner no other listed move dominates.
+    pub opened: usize,
+}
+
 /// A board over memory that the program lends. What the memory holds is judged anew by every call, so a board may lie over
 /// any bytes: those that are none are [`Refusal::Unsound`] until a load is accepted.
 ///
@@ -51,9 +61,10 @@ impl<'m> Board<'m> {
         told(raw::enter(self.memory, x, Row::lend(rows)), rows)
     }
 
-    /// Takes the move of that number away, and tells the notice.
-    pub fn withdraw<'r>(&mut self, number: u16, rows: &'r mut [Row]) -> Result<&'r [Row], Refusal> {
-        told(raw::withdraw(self.memory, number, Row::lend(rows)), rows)
+    /// Takes the move of that number away, and tells the notice and the nodes opened for it.
+    pub fn withdraw<'r>(&mut self, number: u16, rows: &'r mut [Row]) -> Result<Withdrawn<'r>, Refusal> {
+        let answer = raw::withdraw(self.memory, number, Row::lend(rows));
+        told(answer, rows).map(|rows| Withdrawn { rows, opened: answer.opened })
     }
 
     /// Gives the move of that number the costs and the block, and tells the notice. With equal costs the block alone changes,

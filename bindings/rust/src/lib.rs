@@ -17,6 +17,8 @@
 //! let notice = board.enter(Move { number: 2, block: 5, costs: padded([2, 2]) }, &mut rows)?;
 //! assert_eq!((notice[0].mark(), notice[0].number), (Mark::Entered, 2));
 //! assert_eq!(board.list(&mut rows)?.rows.len(), 2);
+//! let withdrawn = board.withdraw(2, &mut rows)?;
+//! assert_eq!((withdrawn.rows[0].mark(), withdrawn.rows[0].number, withdrawn.opened), (Mark::Left, 2, 1));
 //! assert_eq!(board.withdraw(9, &mut rows), Err(Refusal::NumberAbsent));
 //! # Ok::<(), Refusal>(())
 //! ```
@@ -45,7 +47,7 @@ mod refusal;
 mod row;
 pub mod zorder;
 
-pub use board::{Board, Listed};
+pub use board::{Board, Listed, Withdrawn};
 pub use dolzhev_sys::{BlockHours, Costs, Move, Window, BLOCKS, COSTS, WEEK_MINUTES, WINDOWS};
 pub use refusal::Refusal;
 pub use row::{padded, Mark, Ranked, Row};

@@ -1,4 +1,4 @@
-//! Document 01's worked board, with Card 4's list and Card 8's blocks, through the wrapper.
+//! Document 01's worked board, with Card 4's list, Card 8's blocks and Card 1's nodes opened, through the wrapper.
 use dolzhev::zorder::{self, Region};
 use dolzhev::Mark::{Entered, Left, Listed};
 use dolzhev::{padded, BlockHours, Board, Mark, Move, Ranked, Refusal, Row, Window, BLOCKS, COSTS};
@@ -53,9 +53,11 @@ fn cases_of_withdrawals() {
     let mut rows = [Row::default(); Board::notice_rows(16)];
     let mut board = Board::over(&mut memory);
     board.load(16, 2, &moves()).unwrap();
-    assert_eq!(marked(board.withdraw(2, &mut rows).unwrap()), [(Left, 2), (Entered, 5)]);
-    assert_eq!(marked(board.withdraw(5, &mut rows).unwrap()), [(Left, 5)]);
-    assert_eq!(marked(board.withdraw(3, &mut rows).unwrap()), [(Left, 3), (Entered, 4)]);
+    let mut withdraw = |number| board.withdraw(number, &mut rows).map(|told| (marked(told.rows), told.opened));
+    assert_eq!(withdraw(2), Ok((vec![(Left, 2), (Entered, 5)], 1)));
+    assert_eq!(withdraw(5), Ok((vec![(Left, 5)], 1)));
+    assert_eq!(withdraw(1), Ok((vec![], 0)));
+    assert_eq!(withdraw(3), Ok((vec![(Left, 3), (Entered, 4)], 1)));
 }
 
 #[test]

@@ -27,7 +27,9 @@ fn ask(board: &mut Board, call: &Call, lent: usize) -> Result<(Vec<Told>, usize)
     let rows = match *call {
         Call::Load { c, d, rows: ref moves } => return board.load(c, d, moves).map(|()| (Vec::new(), 0)),
         Call::Enter(given) => board.enter(given, rows)?,
-        Call::Withdraw { number } => board.withdraw(number, rows)?,
+        Call::Withdraw { number } => {
+            return board.withdraw(number, rows).map(|notice| (notice.rows.iter().map(told).collect(), notice.opened));
+        }
         Call::Recost(given) => board.recost(given, rows)?,
         Call::List => return board.list(rows).map(|list| (list.rows.iter().map(told).collect(), list.opened)),
         Call::Band(b) => board.band(b, rows)?,

@@ -41,15 +41,11 @@ pub fn side(d: usize, a: u128, b: u128) -> usize {
     1 << groups_not_kept(d, a, b)
 }
 
-/// The addresses of the near and the far corner.
-pub fn corners(d: usize, a: u128, b: u128) -> (u128, u128) {
+/// The near and the far corner.
+pub fn corners(d: usize, a: u128, b: u128) -> (Costs, Costs) {
     let bits_not_kept = d * groups_not_kept(d, a, b);
     let kept = u128::MAX.checked_shl(bits_not_kept as u32).unwrap_or(0);
-    (a & kept, a & kept | !kept)
-}
-
-pub fn near_corner(d: usize, a: u128, b: u128) -> Costs {
-    separated(d, corners(d, a, b).0)
+    (separated(d, a & kept), separated(d, a & kept | !kept))
 }
 
 /// Whether a cost past d is not zero.
@@ -95,5 +91,5 @@ pub fn region_answer(d: usize, a: AddressWords, b: AddressWords) -> RegionAnswer
         return RegionAnswer { refusal: 7, ..Default::default() };
     }
     let (near, far) = corners(d, a, b);
-    RegionAnswer { refusal: 0, detail: 0, near: separated(d, near), far: separated(d, far), side: side(d, a, b) }
+    RegionAnswer { refusal: 0, detail: 0, near, far, side: side(d, a, b) }
 }

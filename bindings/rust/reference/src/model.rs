@@ -33,10 +33,23 @@ impl Model {
             return Foreseen::refused(3, 0);
         };
         let mut foreseen = board.foresee(call);
-        if let (Call::List, 0) = (call, foreseen.answer.refusal) {
-            foreseen.answer.opened = self.tree.as_ref().map_or(0, |root| root.opened(board.d, &board.moves));
+        if foreseen.answer.refusal == 0 {
+            foreseen.answer.opened = self.opened(board, call);
         }
         foreseen
+    }
+
+    /// The nodes that an accepted call tells as opened: a list, and a withdrawal of a listed move.
+    fn opened(&self, board: &PlainBoard, call: &Call) -> usize {
+        let count = |passes: &dyn Fn(&Node) -> bool| self.tree.as_ref().map_or(0, |root| root.count(passes));
+        match *call {
+            Call::List => count(&|node| node.opens(board.d, &board.moves)),
+            Call::Withdraw { number } => {
+                let listed = board.list.iter().find(|x| x.number == number);
+                listed.map_or(0, |x| count(&|node| node.opens_for(board.d, &board.list, x)))
+            }
+            _ => 0,
+        }
     }
 
     /// The call made: `foreseen` is what it answered.

@@ -1,7 +1,7 @@
 //! The tree as document 01 has it: a nest of nodes.
-use super::address::{address, near_corner, side};
+use super::address::{address, corners, side};
 use super::dominance::dominates;
-use crate::Move;
+use crate::{Costs, Move};
 use std::fmt;
 
 pub const MOST_ENTRIES: usize = 8;
@@ -52,16 +52,33 @@ impl Node {
         side(d, least, greatest)
     }
 
-    /// How many nodes of this one and those below it have a near corner that none of the moves dominates.
-    pub fn opened(&self, d: usize, moves: &[Move]) -> usize {
+    /// The near and the far corner.
+    fn corners(&self, d: usize) -> (Costs, Costs) {
         let (least, greatest) = self.span(d);
-        let corner = near_corner(d, least, greatest);
-        let own = !moves.iter().any(|p| dominates(d, &p.costs, &corner));
+        corners(d, least, greatest)
+    }
+
+    /// Whether a list opens this node: none of the moves dominates its near corner.
+    pub fn opens(&self, d: usize, moves: &[Move]) -> bool {
+        let (near, _) = self.corners(d);
+        !moves.iter().any(|p| dominates(d, &p.costs, &near))
+    }
+
+    /// Whether withdrawing the listed move x opens this node (document 02, Card 1, with Card 4's clause): x dominates its far
+    /// corner or equals it, and no other move of the list, as it is before, dominates its near one.
+    pub fn opens_for(&self, d: usize, list: &[Move], x: &Move) -> bool {
+        let (near, far) = self.corners(d);
+        let mut others = list.iter().filter(|y| y.number != x.number);
+        (dominates(d, &x.costs, &far) || x.costs == far) && !others.any(|y| dominates(d, &y.costs, &near))
+    }
+
+    /// Of this node and all below it, how many pass the test.
+    pub fn count(&self, passes: &dyn Fn(&Node) -> bool) -> usize {
         let below = match self {
             Node::Leaf(_) => 0,
-            Node::Upper(children) => children.iter().map(|child| child.opened(d, moves)).sum(),
+            Node::Upper(children) => children.iter().map(|child| child.count(passes)).sum(),
         };
-        usize::from(own) + below
+        usize::from(passes(self)) + below
     }
 
     fn parts(&self) -> Vec<String> {

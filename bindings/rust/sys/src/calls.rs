@@ -14,7 +14,7 @@ pub fn enter(memory: &mut [u8], x: Move, rows: &mut [Row]) -> Answer {
     unsafe { raw::dolzhev_enter(memory.as_mut_ptr(), memory.len(), x, rows.as_mut_ptr(), rows.len()) }
 }
 
-/// Takes the move of that number away; tells the notice.
+/// Takes the move of that number away; tells the notice, and the nodes opened while looking for moves to bring up.
 pub fn withdraw(memory: &mut [u8], number: u16, rows: &mut [Row]) -> Answer {
     unsafe { raw::dolzhev_withdraw(memory.as_mut_ptr(), memory.len(), number, rows.as_mut_ptr(), rows.len()) }
 }

@@ -63,7 +63,8 @@ pub struct Answer {
     pub detail: usize,
     /// The rows told.
     pub count: usize,
-    /// Of list the nodes opened; else 0.
+    /// Of list the nodes opened; of withdraw those opened while looking for moves to bring up, 0 if the move was not listed;
+    /// else 0.
     pub opened: usize,
 }
 

@@ -25,12 +25,12 @@ pub fn in_block_0(asked: &str, content: &str) -> Vec<u8> {
     memory
 }
 
-/// An answer as the vectors write it.
-fn answered(call: &Call, answer: Answer, rows: &[Row]) -> String {
+/// The answer to a line as the vectors write it. An `X` is a withdrawal that shows the nodes opened, a `W` one that does not.
+fn answered(asked: &str, (answer, rows): (Answer, Vec<Row>)) -> String {
     let mut words = vec![answer.refusal, answer.detail];
-    match call {
-        Call::Load { .. } => {}
-        Call::List => words.extend([answer.count, answer.opened]),
+    match kind(asked) {
+        "L" | "LB" => {}
+        "Q" | "X" => words.extend([answer.count, answer.opened]),
         _ => words.push(answer.count),
     }
     for row in rows {
@@ -45,7 +45,7 @@ pub trait Player {
     /// From now on the board stands in these bytes.
     fn take(&mut self, bytes: Vec<u8>);
     /// The call made with so many of the bytes lent, and so many rows.
-    fn ask(&mut self, call: &Call, bytes: usize, lent: usize) -> String;
+    fn ask(&mut self, call: &Call, bytes: usize, lent: usize) -> (Answer, Vec<Row>);
     fn tree(&self) -> String;
 }
 
@@ -59,10 +59,11 @@ impl Player for Memory {
         self.bytes = bytes;
     }
 
-    fn ask(&mut self, call: &Call, bytes: usize, lent: usize) -> String {
+    fn ask(&mut self, call: &Call, bytes: usize, lent: usize) -> (Answer, Vec<Row>) {
         let mut rows = vec![Row::default(); lent];
         let answer = (self.ask)(&mut self.bytes[..bytes], call, &mut rows);
-        answered(call, answer, &rows[..answer.count])
+        rows.truncate(answer.count);
+        (answer, rows)
     }
 
     fn tree(&self) -> String {
@@ -76,21 +77,15 @@ impl Player for Model {
         *self = Model::of_memory(&bytes);
     }
 
-    fn ask(&mut self, call: &Call, bytes: usize, lent: usize) -> String {
+    fn ask(&mut self, call: &Call, bytes: usize, lent: usize) -> (Answer, Vec<Row>) {
         let foreseen = self.foresee(bytes, call).with_rows(lent);
         self.follow(call, &foreseen);
-        answered(call, foreseen.answer, &foreseen.rows)
+        (foreseen.answer, foreseen.rows)
     }
 
     fn tree(&self) -> String {
         written(&self.tree)
     }
-}
-
-/// An `X` is a withdrawal whose answer has the nodes opened after the count; no call tells them yet.
-fn told_now(asked: &str, answer: &str) -> String {
-    let not_told = |at: usize| kind(asked) == "X" && at == 3;
-    joined(answer.split(' ').enumerate().filter(|(at, _)| !not_told(*at)).map(|(_, word)| word))
 }
 
 /// A file's memory is as long as its loads say at most: some are lent a byte fewer.
@@ -114,9 +109,10 @@ pub fn play(name: &str, count: usize, player: &mut dyn Player) {
             "T" => player.tree(),
             _ => {
                 let (call, lent) = call_of(asked);
-                player.ask(&call, if is_load(asked) { words(asked)[0] as usize } else { bytes }, lent)
+                let lent_bytes = if is_load(asked) { words(asked)[0] as usize } else { bytes };
+                answered(asked, player.ask(&call, lent_bytes, lent))
             }
         };
-        assert_eq!(got, told_now(asked, answer), "{name}, line {}: {asked}", at + 1);
+        assert_eq!(got, *answer, "{name}, line {}: {asked}", at + 1);
     }
 }

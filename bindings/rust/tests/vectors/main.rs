@@ -12,7 +12,7 @@ use reference::random::Random;
 use reference::tries::{try_all, Seen};
 use reference::{layout, plain};
 
-const BOARDS: [(&str, usize); 10] = [
+const BOARDS: [(&str, usize); 12] = [
     ("loads_d2.txt", 648),
     ("mixed_01_d2_C16_0_3.txt", 666),
     ("mixed_06_d3_C40_0_20.txt", 697),
@@ -22,6 +22,8 @@ const BOARDS: [(&str, usize); 10] = [
     ("twins_d2.txt", 323),
     ("blocks_d2.txt", 73),
     ("mixed_blocks_d2_C16.txt", 158),
+    ("opened_d2_C16.txt", 171),
+    ("opened_d3_C120.txt", 254),
     FOUR_COSTS,
 ];
 

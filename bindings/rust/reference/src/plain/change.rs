@@ -8,7 +8,7 @@ use super::{refused, told};
 use crate::board::given_refusal;
 use crate::{Answer, Given, Move, Row};
 
-/// The notice told, the marks set, and then the rows changed.
+/// The notice told, the marks set, and then the rows changed. The nodes opened are told too.
 fn make(m: &mut [u8], head: Head, goes: Option<usize>, comes: Option<Given>, rows: &mut [Row]) -> Answer {
     let coming = comes.map(Move::from);
     let change = Change { goes, comes: coming.map(|x| (place_for(m, head, &x), x)) };
@@ -31,7 +31,7 @@ fn make(m: &mut [u8], head: Head, goes: Option<usize>, comes: Option<Given>, row
         left = left.with_moves(left.n + 1);
     }
     left.write(m);
-    told(upkeep.need)
+    Answer { opened: upkeep.opened, ..told(upkeep.need) }
 }
 
 pub fn enter(m: &mut [u8], head: Head, given: Given, rows: &mut [Row]) -> Answer {
@@ -55,7 +55,7 @@ pub fn withdraw(m: &mut [u8], head: Head, number: u16, rows: &mut [Row]) -> Answ
     }
 }
 
-/// With equal costs the block alone changes.
+/// With equal costs the block alone changes. No nodes are told.
 pub fn recost(m: &mut [u8], head: Head, given: Given, rows: &mut [Row]) -> Answer {
     let refusal = given_refusal(head.c.into(), head.d, &given);
     if refusal != 0 {
@@ -67,6 +67,6 @@ pub fn recost(m: &mut [u8], head: Head, given: Given, rows: &mut [Row]) -> Answe
             head.set_block(m, given.number, given.block);
             told(0)
         }
-        goes => make(m, head, goes, Some(given), rows),
+        goes => Answer { opened: 0, ..make(m, head, goes, Some(given), rows) },
     }
 }

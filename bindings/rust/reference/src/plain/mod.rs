@@ -8,6 +8,7 @@ mod hours;
 mod lists;
 mod load;
 mod marks;
+mod nodes;
 mod order;
 mod places;
 mod search;

@@ -1,4 +1,4 @@
-//! Z-order, side and near corner of two moves' costs, by the highest bit in which they differ.
+//! Z-order, side and corners of two moves' costs, by the highest bit in which they differ.
 use crate::{Costs, Move, COSTS};
 
 fn open_groups(p: &Costs, q: &Costs) -> u32 {
@@ -27,4 +27,10 @@ pub fn side(p: &Costs, q: &Costs) -> u32 {
 pub fn near(p: &Costs, q: &Costs) -> Costs {
     let open = open_groups(p, q);
     p.map(|cost| (u32::from(cost) >> open << open) as u16)
+}
+
+/// Where both have no cost, the corner may have one: nobody asks whether it is greater there.
+pub fn far(p: &Costs, q: &Costs) -> Costs {
+    let below = ((1u32 << open_groups(p, q)) - 1) as u16;
+    p.map(|cost| cost | below)
 }

@@ -1,6 +1,7 @@
 //! What a change does to the list, found without writing.
 use super::beats::{exceeds, hides};
 use super::bytes::{limits, Head};
+use super::nodes::nodes_opened;
 use super::search::{All, Search};
 use super::set::Set;
 use crate::{Costs, Move};
@@ -11,10 +12,12 @@ pub struct Change {
     pub comes: Option<(usize, Move)>,
 }
 
-/// Who leaves the list and who enters it, the coming move apart; whether that one is listed; the rows needed.
+/// Who leaves the list and who enters it, the coming move apart, and the nodes opened while looking for these; whether that
+/// one is listed; the rows needed.
 pub struct Upkeep {
     pub leaving: Set,
     pub entering: Set,
+    pub opened: usize,
     pub listed: bool,
     pub need: usize,
 }
@@ -35,26 +38,36 @@ impl Change {
         leave.map(|i| head.number(m, i)).collect()
     }
 
-    /// The hidden moves that come up: only those that the going move hides can, if it is listed.
-    fn entering(&self, m: &[u8], head: Head, all: &Search<All>) -> Set {
+    /// Whether the move at a place comes up where this listed one goes: it must be hidden, and only by that.
+    fn comes_up(&self, m: &[u8], head: Head, all: &Search<All>, going: &Costs, place: usize) -> bool {
+        let x = head.move_at(m, place);
+        !head.listed(m, x.number)
+            && !exceeds(going, &x.costs)
+            && !self.coming_hides(&x)
+            && !self.hidden_by_others(m, head, all, place, &x.costs)
+    }
+
+    /// The moves that come up, looked for in the leaves that are opened; and the nodes opened. None is unless a listed move
+    /// goes.
+    fn entering(&self, m: &[u8], head: Head, all: &Search<All>) -> (Set, usize) {
+        let mut entering = Set::empty();
         let Some(goes) = self.goes.filter(|&goes| head.listed(m, head.number(m, goes))) else {
-            return Set::empty();
+            return (entering, 0);
         };
         let going = head.costs_at(m, goes);
-        let hidden = (goes + 1..head.n).filter(|&i| !head.listed(m, head.number(m, i)));
-        let enter = hidden.filter(|&i| {
-            let x = head.move_at(m, i);
-            !exceeds(&going, &x.costs) && !self.coming_hides(&x) && !self.hidden_by_others(m, head, all, i, &x.costs)
+        let opened = nodes_opened(m, head, Some(goes), |leaf| {
+            let come_up = leaf.filter(|&i| self.comes_up(m, head, all, &going, i));
+            come_up.for_each(|i| entering.put(head.number(m, i)));
         });
-        enter.map(|i| head.number(m, i)).collect()
+        (entering, opened)
     }
 }
 
 pub fn upkeep_of(m: &[u8], head: Head, change: &Change) -> Upkeep {
     let all = Search::over(All, m, head);
     let leaving = change.leaving(m, head);
-    let entering = change.entering(m, head, &all);
+    let (entering, opened) = change.entering(m, head, &all);
     let listed = change.comes.is_some_and(|(place, x)| !change.hidden_by_others(m, head, &all, place, &x.costs));
     let need = leaving.len() + entering.len() + usize::from(listed);
-    Upkeep { leaving, entering, listed, need }
+    Upkeep { leaving, entering, opened, listed, need }
 }

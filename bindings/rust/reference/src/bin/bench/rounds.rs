@@ -1,7 +1,8 @@
-//! What is asked of a board: a round loads it and has each call once.
+//! What is asked of a board: a round loads it and has each call once that the board allows.
 use crate::boards::{Board, TOP, UNDER};
+use reference::plain;
 use reference::random::Random;
-use reference::{BlockHours, Call, Costs, Given, Window, BLOCKS};
+use reference::{BlockHours, Call, Costs, Given, Row, Window, BLOCKS};
 
 pub struct Rounds {
     random: Random,
@@ -11,11 +12,12 @@ pub struct Rounds {
 }
 
 /// As the tables have them.
-pub const CALLS: [&str; 12] = [
+pub const CALLS: [&str; 13] = [
     "sound",
     "load",
     "enter",
-    "withdraw",
+    "withdraw, listed",
+    "withdraw, hidden",
     "re-cost",
     "list",
     "band",
@@ -51,27 +53,48 @@ impl Rounds {
         self.board.costs(&mut self.random, self.d, number, self.c)
     }
 
-    /// A move is taken away and put back, with other costs where its number leaves a choice; another gets costs as a third
-    /// number has them. Of a crown it is the move on top each time.
-    fn changes(&mut self) -> [Call; 3] {
-        let [mut number, mut other, third] = [(); 3].map(|()| self.random.below(self.c) as u16);
+    /// The numbers that are listed once the load is made, and those that are not.
+    fn parted(&self, load: &Call) -> (Vec<u16>, Vec<u16>) {
+        let mut memory = vec![0; 64 * self.c + 1024];
+        let mut rows = vec![Row::default(); self.c];
+        plain::ask(&mut memory, load, &mut []);
+        let count = plain::ask(&mut memory, &Call::List, &mut rows).count;
+        let mut listed = vec![false; self.c];
+        rows[..count].iter().for_each(|row| listed[usize::from(row.number)] = true);
+        (0..self.c as u16).partition(|&number| listed[usize::from(number)])
+    }
+
+    /// A hidden move is taken away, if there is one. A listed one is taken away and put back, with other costs where its number
+    /// leaves a choice. Another gets costs as a third number has them; of a crown it is the move on top, the only listed one.
+    fn changes(&mut self, load: &Call) -> Vec<(&'static str, Call)> {
+        let (listed, hidden) = self.parted(load);
+        let gone = (!hidden.is_empty()).then(|| self.random.one_of(&hidden));
+        let number = self.random.one_of(&listed);
+        let left: Vec<u16> = (0..self.c as u16).filter(|&number| Some(number) != gone).collect();
+        let [mut other, third] = [(); 2].map(|()| self.random.one_of(&left));
         let mut new = self.costs(third);
         if self.board == Board::Crown {
-            [number, other] = [TOP; 2];
+            other = TOP;
             new = UNDER.costs(&mut self.random, self.d, TOP, self.c);
         }
         let costs = self.costs(number);
         let [block, moved] = [(); 2].map(|()| self.random.block());
-        let recost = Call::Recost(Given { number: other, block: moved, costs: new });
-        [Call::Withdraw { number }, Call::Enter(Given { number, block, costs }), recost]
+        let withdrawn = gone.map(|number| ("withdraw, hidden", Call::Withdraw { number }));
+        let others = [
+            ("withdraw, listed", Call::Withdraw { number }),
+            ("enter", Call::Enter(Given { number, block, costs })),
+            ("re-cost", Call::Recost(Given { number: other, block: moved, costs: new })),
+        ];
+        withdrawn.into_iter().chain(others).collect()
     }
 
     /// The calls by name.
     pub fn round(&mut self) -> Vec<(&'static str, Call)> {
         let rows = self.board.moves(&mut self.random, self.d, self.c);
-        let [withdraw, enter, recost] = self.changes();
-        vec![
-            ("load", Call::Load { c: self.c, d: self.d, rows }),
+        let load = Call::Load { c: self.c, d: self.d, rows };
+        let changes = self.changes(&load);
+        let mut round = vec![
+            ("load", load),
             ("sound", Call::Rank(0)),
             ("list", Call::List),
             ("band", Call::Band(2)),
@@ -80,9 +103,8 @@ impl Rounds {
             ("chosen", Call::Chosen((1 << (self.d - 1)) - 1)),
             ("hours, all open", hours(BLOCKS)),
             ("hours, half open", hours(BLOCKS / 2)),
-            ("withdraw", withdraw),
-            ("enter", enter),
-            ("re-cost", recost),
-        ]
+        ];
+        round.extend(changes);
+        round
     }
 }
