@@ -1,8 +1,7 @@
 //! What is asked of a board: a round loads it and has each call once that the board allows.
 use crate::boards::{Board, TOP, UNDER};
-use reference::plain;
 use reference::random::Random;
-use reference::{BlockHours, Call, Costs, Given, Row, Window, BLOCKS};
+use reference::{BlockHours, Call, Costs, Given, Window, BLOCKS};
 
 pub struct Rounds {
     random: Random,
@@ -44,6 +43,22 @@ pub fn refusal(call: &Call) -> usize {
     }
 }
 
+/// The numbers of the moves that are listed, and those of the others. By the sum of costs, then by number, whoever hides a move
+/// stands before it. None of the programs that are timed is asked: it would have seen the board before the others.
+fn parted(rows: &[Given]) -> (Vec<u16>, Vec<u16>) {
+    let mut rows: Vec<&Given> = rows.iter().collect();
+    rows.sort_by_key(|row| (row.costs.iter().map(|&cost| u32::from(cost)).sum::<u32>(), row.number));
+    let (mut listed, mut hidden): (Vec<&Given>, Vec<u16>) = Default::default();
+    for row in rows {
+        if listed.iter().any(|x| x.costs.iter().zip(&row.costs).all(|(a, b)| a <= b)) {
+            hidden.push(row.number);
+        } else {
+            listed.push(row);
+        }
+    }
+    (listed.iter().map(|row| row.number).collect(), hidden)
+}
+
 impl Rounds {
     pub fn new(board: Board, c: usize, d: usize) -> Self {
         Rounds { random: Random::new(1), board, c, d }
@@ -53,21 +68,10 @@ impl Rounds {
         self.board.costs(&mut self.random, self.d, number, self.c)
     }
 
-    /// The numbers that are listed once the load is made, and those that are not.
-    fn parted(&self, load: &Call) -> (Vec<u16>, Vec<u16>) {
-        let mut memory = vec![0; 64 * self.c + 1024];
-        let mut rows = vec![Row::default(); self.c];
-        plain::ask(&mut memory, load, &mut []);
-        let count = plain::ask(&mut memory, &Call::List, &mut rows).count;
-        let mut listed = vec![false; self.c];
-        rows[..count].iter().for_each(|row| listed[usize::from(row.number)] = true);
-        (0..self.c as u16).partition(|&number| listed[usize::from(number)])
-    }
-
     /// A hidden move is taken away, if there is one. A listed one is taken away and put back, with other costs where its number
     /// leaves a choice. Another gets costs as a third number has them; of a crown it is the move on top, the only listed one.
-    fn changes(&mut self, load: &Call) -> Vec<(&'static str, Call)> {
-        let (listed, hidden) = self.parted(load);
+    fn changes(&mut self, rows: &[Given]) -> Vec<(&'static str, Call)> {
+        let (listed, hidden) = parted(rows);
         let gone = (!hidden.is_empty()).then(|| self.random.one_of(&hidden));
         let number = self.random.one_of(&listed);
         let left: Vec<u16> = (0..self.c as u16).filter(|&number| Some(number) != gone).collect();
@@ -91,10 +95,9 @@ impl Rounds {
     /// The calls by name.
     pub fn round(&mut self) -> Vec<(&'static str, Call)> {
         let rows = self.board.moves(&mut self.random, self.d, self.c);
-        let load = Call::Load { c: self.c, d: self.d, rows };
-        let changes = self.changes(&load);
+        let changes = self.changes(&rows);
         let mut round = vec![
-            ("load", load),
+            ("load", Call::Load { c: self.c, d: self.d, rows }),
             ("sound", Call::Rank(0)),
             ("list", Call::List),
             ("band", Call::Band(2)),
