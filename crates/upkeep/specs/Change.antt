@@ -27,7 +27,7 @@ use Rattle.memory.specs.declared.sound.Head.{Head}
 use Rattle.dominance.specs.Move.{asMove}
 use Rattle.numbers.specs.Set.{inSet}
 use Rattle.upkeep.specs.declared.change.Change.{Change}
-use Rattle.upkeep.specs.declared.change.Entered.{Entered}
+use Rattle.upkeep.specs.declared.entering.Entered.{Entered}
 use Rattle.upkeep.specs.declared.change.Upkeep.{Upkeep}
 
 -- The moves after the change: one gone, one come.

@@ -1,6 +1,8 @@
 // The kept list: marked anew after a load, kept up by what a change does.
 mod change;
+mod entering;
 mod found;
+mod kept;
 mod mark;
 mod notice;
 mod plan;
@@ -8,11 +10,11 @@ mod telling;
 
 pub use change::Change;
 pub use change::Upkeep;
-pub use change::upkeep_of;
 pub use found::Found;
 pub use found::find_listed;
 pub use found::telling_none;
 pub use found::telling_of;
+pub use kept::upkeep_of;
 pub use mark::mark_all;
 pub use notice::ROW;
 pub use notice::row_of;

@@ -44,7 +44,7 @@ use Rattle.upkeep.specs.Laws.Places.{place-below, below-place, anyTo-pla
 use Rattle.upkeep.specs.Laws.Change.{line-places, others-hide, same-place, rest-without, goes-within, goes-marked, goes-unmarked, enters-none}
 use Rattle.upkeep.specs.Laws.Passing.{none-passes, passing-join, passing-skip}
 use Rattle.upkeep.specs.declared.change.Change.{Change}
-use Rattle.upkeep.specs.declared.change.Entered.{Entered}
+use Rattle.upkeep.specs.declared.entering.Entered.{Entered}
 
 module _ (c d n : ℕ) (m : List ℕ) (s : SoundAt c d n m) (b : Bytes m) where
   abbrev before : List Move

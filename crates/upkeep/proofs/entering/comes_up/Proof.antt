@@ -1,4 +1,4 @@
--- `change::comes_up` meets its contract, test by test. Assumes nothing.
+-- `entering::comes_up` meets its contract, test by test. Assumes nothing.
 use Prim.Native.Nat.{ℕ}
 use mathlib.Core.Bool.{Bool, not, _&&_}
 use mathlib.Core.List.{List}
@@ -14,8 +14,8 @@ use Rattle.upkeep.specs.Change.{goesListed, hiddenByOthers, hiddenByComi
 use Rattle.upkeep.specs.Laws.Change.{goes-within}
 use Rattle.upkeep.specs.Laws.Others.{own-place}
 use Rattle.upkeep.specs.declared.change.Change.{Change}
-use Rattle.upkeep.proofs.change.comes_up.Statement.{statement}
-use Rattle.upkeep.proofs.change.comes_up.Tie as tie
+use Rattle.upkeep.proofs.entering.comes_up.Statement.{statement}
+use Rattle.upkeep.proofs.entering.comes_up.Tie as tie
 
 by-tests : (c d n : ℕ) (k : Change) (x : Move) (m : List ℕ) {gone hid coming others : Bool}
     → goesListed c n (k .goes) m ≡ gone

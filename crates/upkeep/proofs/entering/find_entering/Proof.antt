@@ -1,11 +1,11 @@
--- `change::find_entering` meets its contract. Assumes nothing.
+-- `entering::find_entering` meets its contract. Assumes nothing.
 use mathlib.Core.Path.{sym, _∙_}
 use native.Mathlib.Omega.{arith}
 use Rattle.promises.specs.Run.{Bytes}
 use Rattle.memory.specs.Laws.Held.{held-readable}
 use Rattle.upkeep.specs.Laws.BroughtUp.{entering-none}
-use Rattle.upkeep.proofs.change.find_entering.Statement.{statement}
-use Rattle.upkeep.proofs.change.find_entering.Tie as tie
+use Rattle.upkeep.proofs.entering.find_entering.Statement.{statement}
+use Rattle.upkeep.proofs.entering.find_entering.Tie as tie
 
 find-in-leaves-requires : tie.Need-find-in-leaves-requires
 find-in-leaves-requires c κs =

@@ -1,4 +1,4 @@
--- `change::leaves` meets its contract, test by test. Assumes nothing.
+-- `kept::leaves` meets its contract, test by test. Assumes nothing.
 use Prim.Native.Nat.{ℕ}
 use mathlib.Core.Bool.{Bool, _&&_, _||_}
 use mathlib.Core.List.{List}
@@ -12,8 +12,8 @@ use Rattle.memory.specs.Tests.{isListed}
 use Rattle.memory.specs.Laws.Turns.{listed-at}
 use Rattle.upkeep.specs.Change.{hiddenByComing, leaves, leavesAt}
 use Rattle.upkeep.specs.declared.change.Change.{Change}
-use Rattle.upkeep.proofs.change.leaves.Statement.{statement}
-use Rattle.upkeep.proofs.change.leaves.Tie as tie
+use Rattle.upkeep.proofs.kept.leaves.Statement.{statement}
+use Rattle.upkeep.proofs.kept.leaves.Tie as tie
 
 by-tests : (c d : ℕ) (k : Change) (m : List ℕ) (i : ℕ) {listed gone hidden : Bool}
     → isListed c m i ≡ listed

@@ -1,4 +1,4 @@
--- `change::enters` meets its contract, test by test. Assumes nothing.
+-- `entering::enters` meets its contract, test by test. Assumes nothing.
 use Prim.Native.Nat.{ℕ}
 use mathlib.Core.Bool.{Bool, not, _&&_}
 use mathlib.Core.List.{List}
@@ -12,8 +12,8 @@ use Rattle.memory.specs.Laws.Held.{held-readable}
 use Rattle.memory.specs.Laws.Turns.{listed-at}
 use Rattle.upkeep.specs.Change.{comesUp, entersAt}
 use Rattle.upkeep.specs.declared.change.Change.{Change}
-use Rattle.upkeep.proofs.change.enters.Statement.{statement}
-use Rattle.upkeep.proofs.change.enters.Tie as tie
+use Rattle.upkeep.proofs.entering.enters.Statement.{statement}
+use Rattle.upkeep.proofs.entering.enters.Tie as tie
 
 by-tests : (c d n : ℕ) (k : Change) (m : List ℕ) (i : ℕ) {listed gone up : Bool}
     → isListed c m i ≡ listed

@@ -1,4 +1,4 @@
--- `change::find_leaving` meets its contract. The loop's invariant: of the moves passed those that leave are added. Assumes
+-- `kept::find_leaving` meets its contract. The loop's invariant: of the moves passed those that leave are added. Assumes
 -- nothing.
 use Prim.Native.Nat.{ℕ, _-_, _≤_}
 use mathlib.Core.Logic.{⊎-elim}
@@ -7,8 +7,8 @@ use native.Mathlib.Omega.{arith}
 use Rattle.numbers.specs.Set.{With}
 use Rattle.upkeep.specs.Change.{leavesAt, Passing}
 use Rattle.upkeep.specs.Laws.Passing.{passing-few, passing-none, passing-takes, passing-passes}
-use Rattle.upkeep.proofs.change.find_leaving.Statement.{statement}
-use Rattle.upkeep.proofs.change.find_leaving.Tie as tie
+use Rattle.upkeep.proofs.kept.find_leaving.Statement.{statement}
+use Rattle.upkeep.proofs.kept.find_leaving.Tie as tie
 
 abbrev Inv-loop : tie.InvT-loop
 Inv-loop m h k changed₀ n left₀ i₀ changed left i = (i ≤ n) × Passing (h .size) m (leavesAt (h .size) (h .dimension) k m) changed₀ 0 i changed left

@@ -1,4 +1,4 @@
--- `change::goes_listed` meets its contract. Assumes nothing.
+-- `entering::goes_listed` meets its contract. Assumes nothing.
 use mathlib.Core.Bool.{Bool, _&&_}
 use mathlib.Core.Path.{sym, ap, ap₂, _∙_}
 use native.Mathlib.Omega.{arith}
@@ -7,8 +7,8 @@ use borrow.Author.Tests.{lt-ltb, le-ltb}
 use Rattle.memory.specs.Tests.{isListed}
 use Rattle.memory.specs.Laws.Turns.{listed-at}
 use Rattle.upkeep.specs.Change.{goesListed}
-use Rattle.upkeep.proofs.change.goes_listed.Statement.{statement}
-use Rattle.upkeep.proofs.change.goes_listed.Tie as tie
+use Rattle.upkeep.proofs.entering.goes_listed.Statement.{statement}
+use Rattle.upkeep.proofs.entering.goes_listed.Tie as tie
 
 returns : tie.Need-returns
 unfolding goesListed

@@ -1,4 +1,4 @@
--- `change::coming_listed` meets its contract. Assumes nothing.
+-- `kept::coming_listed` meets its contract. Assumes nothing.
 use mathlib.Core.Bool.{not}
 use mathlib.Core.Path.{ap, _∙_}
 use native.Mathlib.Omega.{arith}
@@ -8,8 +8,8 @@ use Rattle.dominance.specs.Move.{asMove}
 use Rattle.memory.specs.Laws.Held.{held-readable}
 use Rattle.upkeep.specs.Laws.Change.{listed-law, unlisted-law}
 use Rattle.upkeep.specs.Laws.Others.{new-place}
-use Rattle.upkeep.proofs.change.coming_listed.Statement.{statement}
-use Rattle.upkeep.proofs.change.coming_listed.Tie as tie
+use Rattle.upkeep.proofs.kept.coming_listed.Statement.{statement}
+use Rattle.upkeep.proofs.kept.coming_listed.Tie as tie
 
 returns : tie.Need-returns
 unfolding Bytes

@@ -1,4 +1,4 @@
--- `change::find_in_leaves` meets its contract. The loop's invariant: of the moves passed those that enter are added, and the
+-- `entering::find_in_leaves` meets its contract. The loop's invariant: of the moves passed those that enter are added, and the
 -- nodes opened so far and those still to be opened are all. Assumes nothing.
 use Prim.Native.Nat.{_-_}
 use native.Mathlib.Omega.{arith}
@@ -8,8 +8,8 @@ use Rattle.memory.specs.Laws.Held.{held-readable}
 use Rattle.upkeep.specs.Change.{entersAt, Passing}
 use Rattle.upkeep.specs.Laws.Passing.{passing-few, passing-none}
 use Rattle.upkeep.specs.Laws.BroughtUp.{leaf-enters, entering-all}
-use Rattle.upkeep.proofs.change.find_in_leaves.Statement.{statement}
-use Rattle.upkeep.proofs.change.find_in_leaves.Tie as tie
+use Rattle.upkeep.proofs.entering.find_in_leaves.Statement.{statement}
+use Rattle.upkeep.proofs.entering.find_in_leaves.Tie as tie
 
 abbrev Inv-loop : tie.InvT-loop
 Inv-loop m h k corners changed₀ n listed count₀ opened₀ i₀ changed count opened i =

@@ -1,4 +1,4 @@
--- `change::find_in_leaf` meets its contract. The loop's invariant: of the leaf's moves passed those that enter are added.
+-- `entering::find_in_leaf` meets its contract. The loop's invariant: of the leaf's moves passed those that enter are added.
 -- Assumes nothing.
 use Prim.Native.Nat.{ℕ, _-_, _≤_}
 use mathlib.Core.Logic.{⊎-elim}
@@ -8,8 +8,8 @@ use Rattle.memory.specs.Laws.Held.{held-readable}
 use Rattle.numbers.specs.Set.{With}
 use Rattle.upkeep.specs.Change.{entersAt, Passing}
 use Rattle.upkeep.specs.Laws.Passing.{passing-few, passing-none, passing-takes, passing-passes}
-use Rattle.upkeep.proofs.change.find_in_leaf.Statement.{statement}
-use Rattle.upkeep.proofs.change.find_in_leaf.Tie as tie
+use Rattle.upkeep.proofs.entering.find_in_leaf.Statement.{statement}
+use Rattle.upkeep.proofs.entering.find_in_leaf.Tie as tie
 
 abbrev Inv-loop : tie.InvT-loop
 Inv-loop m h k corners start end changed₀ entered₀ i₀ changed entered i =
