@@ -29,13 +29,13 @@
  *
  * What is sound
  *   Memory that holds a board, each move of it in a block of 0 to 63. Accepted loads and changes leave such memory; every call
- *   but dolzhev_load refuses any other with 3. The version before this one had no blocks and never wrote the bytes that they
- *   have now: memory that it left is to be loaded again, also where these bytes happen to be in range.
+ *   but dolzhev_load refuses any other with 3. Versions without blocks never wrote the bytes that these have now: memory that
+ *   one of them left is to be loaded again, also where these bytes happen to be in range.
  *
  * What it takes
  *   stack    at most 12 KB in every call; measured, 6,920 bytes.
  *   time     every call but dolzhev_load judges the whole memory first, and no call remembers what an earlier one saw. On full
- *            boards of 4,096 moves 4.0 ms at most on the drawn boards that were measured with d up to 4, 10.4 ms on one made
+ *            boards of 4,096 moves 4.3 ms at most on the drawn boards that were measured with d up to 4, 10.5 ms on one made
  *            against the search, and 52 ms, on k with d of 8, on a board of one sum (README.md, docs/BENCHMARK.md).
  *   linking  memcpy and memset, and no other function. The archive has no data that can be written. */
 #ifndef DOLZHEV_H
