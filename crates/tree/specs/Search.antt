@@ -25,8 +25,8 @@ cornerDominated c d goes n m corner =
     anyTo (λ j. isListed c m j && (not (eqb j goes) && dominates d (moveIn c d m j .costs) corner)) n
 
 -- Whether the going move, if one goes, is nowhere greater than a corner.
-unfoldable pub reaches : ℕ → ℕ → ℕ → ℕ → List ℕ → List ℕ → Bool
-reaches c d goes n m corner = leb n goes || nowhereGreater (take d (moveIn c d m goes .costs)) (take d corner)
+unfoldable pub goesWithin : ℕ → ℕ → ℕ → ℕ → List ℕ → List ℕ → Bool
+goesWithin c d goes n m corner = leb n goes || nowhereGreater (take d (moveIn c d m goes .costs)) (take d corner)
 
 -- A corner of the node from place i up to place e.
 unfoldable pub cornerAt : (ℕ → List ℕ → List ℕ → List ℕ) → ℕ → ℕ → List ℕ → ℕ → ℕ → List ℕ
@@ -35,12 +35,12 @@ cornerAt corner c d m i e = corner d (moveIn c d m i .costs) (moveIn c d m (e - 
 -- Whether the search opens that node: only places before it are asked.
 unfoldable pub opensPlaces : ℕ → ℕ → ℕ → ℕ → List ℕ → ℕ → ℕ → Bool
 opensPlaces c d goes n m i e =
-    reaches c d goes n m (cornerAt farOf c d m i e) && not (cornerDominated c d goes i m (cornerAt nearOf c d m i e))
+    goesWithin c d goes n m (cornerAt farOf c d m i e) && not (cornerDominated c d goes i m (cornerAt nearOf c d m i e))
 
 -- Whether it opens a node of the tree.
 unfoldable pub opensAt : ℕ → ℕ → ℕ → ℕ → List ℕ → Node → Bool
 opensAt c d goes n m z =
-    reaches c d goes n m (farCornerOf d z) && not (cornerDominated c d goes n m (nearCornerOf d z))
+    goesWithin c d goes n m (farCornerOf d z) && not (cornerDominated c d goes n m (nearCornerOf d z))
 
 pub record LevelAt (c n : ℕ) (m : List ℕ) (i r : ℕ) : Type 0 where
   pub inside : i < n → r ≡ heightIn c m i

@@ -48,10 +48,10 @@ unfolding farCornerOf
 far-corner-row d z = far-row d (z .first .costs) (z .last .costs)
 
 -- Far corners grow and near corners fall towards the root.
-pub corners-downward : (d c : ℕ) → d ≤ rowCosts → (reaches beaten : List ℕ → Bool) → Upward d reaches → Upward d beaten
-    → Downward d c (λ z. reaches (farCornerOf d z) && not (beaten (nearCornerOf d z)))
-corners-downward d c l reaches beaten up down ms fits order ns run some e =
-    byCases (reaches (far ns) && not (beaten (near ns))) (λ h. both-ways (opened h) e) (λ h. h)
+pub corners-downward : (d c : ℕ) → d ≤ rowCosts → (within dominated : List ℕ → Bool) → Upward d within → Upward d dominated
+    → Downward d c (λ z. within (farCornerOf d z) && not (dominated (nearCornerOf d z)))
+corners-downward d c l within dominated up down ms fits order ns run some e =
+    byCases (within (far ns) && not (dominated (near ns))) (λ h. both-ways (opened h) e) (λ h. h)
   where
     near : List Move → List ℕ
     near ms = nearCornerOf d (nodeOf ms)
@@ -59,17 +59,17 @@ corners-downward d c l reaches beaten up down ms fits order ns run some e =
     far : List Move → List ℕ
     far ms = farCornerOf d (nodeOf ms)
 
-    unbeaten : beaten (near ns) ≡ false → beaten (near ms) ≡ false
-    unbeaten h =
-        byCases (beaten (near ms))
+    undominated : dominated (near ns) ≡ false → dominated (near ms) ≡ false
+    undominated h =
+        byCases (dominated (near ms))
         (λ b. both-ways (down (near ms) (near ns) (corner-row d (nodeOf ms) l) (corner-row d (nodeOf ns) l) (near-run d c l ms fits order run some) b) h)
         (λ b. b)
 
-    opened : (reaches (far ns) && not (beaten (near ns))) ≡ true → (reaches (far ms) && not (beaten (near ms))) ≡ true
+    opened : (within (far ns) && not (dominated (near ns))) ≡ true → (within (far ms) && not (dominated (near ms))) ≡ true
     opened h =
-        and-both (reaches (far ms)) (not (beaten (near ms)))
-        (up (far ns) (far ms) (far-corner-row d (nodeOf ns) l) (far-corner-row d (nodeOf ms) l) (far-run d c l ms fits order run some) (and-left (reaches (far ns)) (not (beaten (near ns))) h))
-        (not-flip (beaten (near ms)) (unbeaten (not-back (beaten (near ns)) (and-right (reaches (far ns)) (not (beaten (near ns))) h))))
+        and-both (within (far ms)) (not (dominated (near ms)))
+        (up (far ns) (far ms) (far-corner-row d (nodeOf ns) l) (far-corner-row d (nodeOf ms) l) (far-run d c l ms fits order run some) (and-left (within (far ns)) (not (dominated (near ns))) h))
+        (not-flip (dominated (near ms)) (undominated (not-back (dominated (near ns)) (and-right (within (far ns)) (not (dominated (near ns))) h))))
 
 -- A node of the nest that is not opened, and all below it.
 pub below-unopened : (d c : ℕ) (opens : Node → Bool) → Downward d c opens → (h : ℕ) (es : List (Entry h)) → Each (Fit c d) (movesUnder (suc h) es)
@@ -82,42 +82,42 @@ below-unopened d c opens down h es fits order some full e =
     subst (λ (y : Node). opens y ≡ false) (i .made)
     (down (movesUnder (suc h) es) fits order (z .under) (i .run) (each-mem Some (nodes-some h es some full) m) e))
 
-beaten-upward : (d c : ℕ) (ms : List Move) → Each (Fit c d) ms → Upward d (λ p. any (λ m. dominates d (m .costs) p) ms)
-beaten-upward d c ms es p q h g f =
+dominated-upward : (d c : ℕ) (ms : List Move) → Each (Fit c d) ms → Upward d (λ p. any (λ m. dominates d (m .costs) p) ms)
+dominated-upward d c ms es p q h g f =
     any-mono (λ m. dominates d (m .costs) p) (λ m. dominates d (m .costs) q) ms
     (λ m k e. dominates-below d (m .costs) p q (row-lengths (each-mem (Fit c d) es k .costs) h) (row-lengths h g) e (λ i _. f i))
 
 pub list-downward : (d c : ℕ) → d ≤ rowCosts → (ms : List Move) → Each (Fit c d) ms → Downward d c (opens d ms)
 unfolding opens
-list-downward d c l ms es = corners-downward d c l (λ p. true) (λ p. any (λ m. dominates d (m .costs) p) ms) (λ p q h g f e. e) (beaten-upward d c ms es)
+list-downward d c l ms es = corners-downward d c l (λ p. true) (λ p. any (λ m. dominates d (m .costs) p) ms) (λ p q h g f e. e) (dominated-upward d c ms es)
 
 -- ---- the nodes that a withdrawal opens
 
 -- What dominates a row or equals it is nowhere greater, and the other way round.
 module _ (d : ℕ) (p q : List ℕ) (n : length p ≡ length q) where
-  pub reaches-nowhere : (dominates d p q || equalCosts d p q) ≡ nowhereGreater (take d p) (take d q)
+  pub dominates-or-equals : (dominates d p q || equalCosts d p q) ≡ nowhereGreater (take d p) (take d q)
   unfolding dominates equalCosts
-  reaches-nowhere =
+  dominates-or-equals =
       ap (λ (b : Bool). better (take d p) (take d q) || b) (sym (and-true (equal (take d p) (take d q))))
       ∙ sym (better-or-equal (take d p) (take d q) true (take-same-length d p q n))
       ∙ and-given (nowhereGreater (take d p) (take d q)) (somewhereLess (take d p) (take d q) || true)
       (λ _. or-right (somewhereLess (take d p) (take d q)) true refl)
 
-  places-reach : ((i : ℕ) → i < d → getD p i 0 ≤ getD q i 0) → (dominates d p q || equalCosts d p q) ≡ true
-  places-reach f = reaches-nowhere ∙ places-nowhere-greater (take d p) (take d q) (take-le d p q f)
+  places-dominate-or-equal : ((i : ℕ) → i < d → getD p i 0 ≤ getD q i 0) → (dominates d p q || equalCosts d p q) ≡ true
+  places-dominate-or-equal f = dominates-or-equals ∙ places-nowhere-greater (take d p) (take d q) (take-le d p q f)
 
-reaches-upward : (d : ℕ) (x : List ℕ) → RowCosts d x → Upward d (λ p. dominates d x p || equalCosts d x p)
-reaches-upward d x k p q h g f e =
-    reaches-nowhere d x q (row-lengths k g)
-    ∙ nowhere-below d x p q (row-lengths k h) (sym (reaches-nowhere d x p (row-lengths k h)) ∙ e) (λ i _. f i)
+or-equal-upward : (d : ℕ) (x : List ℕ) → RowCosts d x → Upward d (λ p. dominates d x p || equalCosts d x p)
+or-equal-upward d x k p q h g f e =
+    dominates-or-equals d x q (row-lengths k g)
+    ∙ nowhere-below d x p q (row-lengths k h) (sym (dominates-or-equals d x p (row-lengths k h)) ∙ e) (λ i _. f i)
 
 module _ (d c : ℕ) (l : d ≤ rowCosts) (ms : List Move) (es : Each (Fit c d) ms) (n : ℕ) (on : onBoard n ms ≡ true) where
   pub for-downward : Downward d c (opensFor d ms n)
   unfolding opensFor opens without
   for-downward =
       corners-downward d c l (λ p. dominates d x p || equalCosts d x p) (λ p. any (λ m. dominates d (m .costs) p) (without n ms))
-      (reaches-upward d x (costs-on-fit d n ms (each-mono (Fit c d) (λ m. RowCosts d (m .costs)) ms (λ m f. f .costs) es) on))
-      (beaten-upward d c (without n ms) (each-select _ (Fit c d) ms es))
+      (or-equal-upward d x (costs-on-fit d n ms (each-mono (Fit c d) (λ m. RowCosts d (m .costs)) ms (λ m f. f .costs) es) on))
+      (dominated-upward d c (without n ms) (each-select _ (Fit c d) ms es))
     where
       x : List ℕ
       x = costsOn n ms
@@ -182,7 +182,7 @@ module _ (d c : ℕ) (l : d ≤ rowCosts) (ms : List Move) (es : Each (Fit c d) 
   brought-up-counts once z near far =
       and-both _ (opens d (without n (skyline d ms)) z)
       (ap (λ (p : List ℕ). dominates d p (farCornerOf d z) || equalCosts d p (farCornerOf d z)) (hider-costs once)
-      ∙ places-reach d (hider .hider .costs) (farCornerOf d z) (row-lengths (hider-fit .costs) (far-corner-row d z l))
+      ∙ places-dominate-or-equal d (hider .hider .costs) (farCornerOf d z) (row-lengths (hider-fit .costs) (far-corner-row d z l))
       (λ i b. le-trans (hides-nowhere-greater d (hider .hider) q (row-lengths (hider-fit .costs) (fit .costs)) (hider .hiding) i b) (far i)))
       (unhidden-opened d c l (without n (skyline d ms)) others-fit z q fit near others-hide-not)
     where

@@ -27,7 +27,7 @@ use Rattle.memory.specs.Laws.Hiders.{none-any, listed-fits}
 use Rattle.memory.specs.Laws.Ordered.{ordered-place}
 use Rattle.memory.specs.Laws.Places.{anyTo-found, anyTo-past}
 use Rattle.memory.specs.Laws.Search.{none-empty, none-more, none-join}
-use Rattle.tree.specs.Search.{cornerDominated, reaches, cornerAt, opensPlaces}
+use Rattle.tree.specs.Search.{cornerDominated, goesWithin, cornerAt, opensPlaces}
 
 -- ---- the search
 
@@ -90,15 +90,15 @@ module _ (c d goes i : ℕ) (m corner q : List ℕ) where
 -- ---- the going move and a far corner
 
 module _ (c d goes n : ℕ) (m q : List ℕ) where
-  pub reaches-all : n ≤ goes → reaches c d goes n m q ≡ true
-  unfolding reaches
-  reaches-all l = ap (λ (t : Bool). t || nowhereGreater (take d (moveIn c d m goes .costs)) (take d q)) (le-leb n goes l)
+  pub within-all : n ≤ goes → goesWithin c d goes n m q ≡ true
+  unfolding goesWithin
+  within-all l = ap (λ (t : Bool). t || nowhereGreater (take d (moveIn c d m goes .costs)) (take d q)) (le-leb n goes l)
 
   -- By its number and costs.
-  pub reaches-going : goes < n → {k : ℕ} → k ≡ numberIn c m goes → {p : List ℕ} → p ≡ costsIn c d m k
-      → somewhereLess (take d q) (take d p) ≡ not (reaches c d goes n m q)
-  unfolding reaches moveIn
-  reaches-going l number costs =
+  pub within-going : goes < n → {k : ℕ} → k ≡ numberIn c m goes → {p : List ℕ} → p ≡ costsIn c d m k
+      → somewhereLess (take d q) (take d p) ≡ not (goesWithin c d goes n m q)
+  unfolding goesWithin moveIn
+  within-going l number costs =
       ap (λ (p : List ℕ). somewhereLess (take d q) (take d p)) (costs ∙ ap (costsIn c d m) number)
       ∙ sym (Bool·not-not _)
       ∙ ap not (sym (nowhere-somewhere (take d (costsIn c d m (numberIn c m goes))) (take d q)))
@@ -113,19 +113,19 @@ module _ (c d goes n : ℕ) (m : List ℕ) (i e : ℕ) {p q : ℕ} (f : p ≡ nu
   unfolding cornerAt moveIn
   corner-read corner = ap₂ (corner d) (a ∙ ap (costsIn c d m) f) (b ∙ ap (costsIn c d m) g)
 
-  pub opens-out : not (reaches c d goes n m (farOf d first last)) ≡ true → false ≡ opensPlaces c d goes n m i e
+  pub opens-out : not (goesWithin c d goes n m (farOf d first last)) ≡ true → false ≡ opensPlaces c d goes n m i e
   unfolding opensPlaces
   opens-out h =
       ap (λ (t : Bool). t && not (cornerDominated c d goes i m (cornerAt nearOf c d m i e)))
-      (sym (not-back (reaches c d goes n m (farOf d first last)) h) ∙ ap (reaches c d goes n m) (corner-read farOf))
+      (sym (not-back (goesWithin c d goes n m (farOf d first last)) h) ∙ ap (goesWithin c d goes n m) (corner-read farOf))
 
-  pub opens-near : not (reaches c d goes n m (farOf d first last)) ≡ false → {near : List ℕ} → near ≡ nearOf d first last
+  pub opens-near : not (goesWithin c d goes n m (farOf d first last)) ≡ false → {near : List ℕ} → near ≡ nearOf d first last
       → not (cornerDominated c d goes i m near) ≡ opensPlaces c d goes n m i e
   unfolding opensPlaces
   opens-near h k =
       ap (λ (t : List ℕ). not (cornerDominated c d goes i m t)) (k ∙ corner-read nearOf)
       ∙ ap (λ (t : Bool). t && not (cornerDominated c d goes i m (cornerAt nearOf c d m i e)))
-      (sym (not-false (reaches c d goes n m (farOf d first last)) h) ∙ ap (reaches c d goes n m) (corner-read farOf))
+      (sym (not-false (goesWithin c d goes n m (farOf d first last)) h) ∙ ap (goesWithin c d goes n m) (corner-read farOf))
 
 -- The near corner of the node from place i up to place e is nowhere greater than its first move, so what dominates the corner
 -- stands before that move: places from i on need not be asked.

@@ -39,7 +39,7 @@ use Rattle.memory.specs.Laws.Lines.{length-line, moveAt-line, heightAt-line}
 use Rattle.tree.specs.Rows.{NodeEnd}
 use Rattle.tree.specs.Laws.Corners.{corner-before}
 use Rattle.tree.specs.Laws.Heights.{end-line}
-use Rattle.tree.specs.Search.{cornerDominated, reaches, cornerAt, opensPlaces, opensAt, LevelAt, NodesFrom, Passed, LeafFrom, SoundAt, Opened}
+use Rattle.tree.specs.Search.{cornerDominated, goesWithin, cornerAt, opensPlaces, opensAt, LevelAt, NodesFrom, Passed, LeafFrom, SoundAt, Opened}
 use Rattle.tree.specs.declared.nodes.Leaf.{Leaf}
 
 -- ---- sound memory
@@ -89,9 +89,9 @@ level-height c d n m i k v = go (decLt i n)
 -- ---- which nodes are opened
 
 module _ {c d n : ℕ} {m : List ℕ} (s : Searchable c d n m) where
-  reaches-up : (goes : ℕ) → Upward d (reaches c d goes n m)
-  unfolding reaches
-  reaches-up goes p q f g le e =
+  within-up : (goes : ℕ) → Upward d (goesWithin c d goes n m)
+  unfolding goesWithin
+  within-up goes p q f g le e =
       let x = moveIn c d m goes .costs in
       let in-q = nowhereGreater (take d x) (take d q) in
       byCases (leb n goes) (or-left (leb n goes) in-q)
@@ -118,7 +118,7 @@ module _ {c d n : ℕ} {m : List ℕ} (s : Searchable c d n m) where
   opens-down : (goes : ℕ) → Downward d c (opensAt c d goes n m)
   unfolding opensAt
   opens-down goes =
-      corners-downward d c (s .readable .dimension) (reaches c d goes n m) (cornerDominated c d goes n m) (reaches-up goes) (dominated-up goes)
+      corners-downward d c (s .readable .dimension) (goesWithin c d goes n m) (cornerDominated c d goes n m) (within-up goes) (dominated-up goes)
 
   -- Where none goes: the marks are the list, and it is enough to hold a corner against the listed moves.
   listed-corner : (q : List ℕ) → RowCosts d q → cornerDominated c d n n m q ≡ any (λ x. dominates d (x .costs) q) (movesIn (lineFrom c d n m))
@@ -133,7 +133,7 @@ module _ {c d n : ℕ} {m : List ℕ} (s : Searchable c d n m) where
       by x = dominates d (x .costs) q
 
   opens-list : (z : Node) → opensAt c d n n m z ≡ opens d (movesIn (lineFrom c d n m)) z
-  unfolding opensAt reaches opens
+  unfolding opensAt goesWithin opens
   opens-list z =
       ap₂ (λ (a b : Bool). (a || nowhereGreater (take d (moveIn c d m n .costs)) (take d (farCornerOf d z))) && not b)
       (le-leb n n (le-refl n)) (listed-corner (nearCornerOf d z) (corner-row d z (s .readable .dimension)))
@@ -183,7 +183,7 @@ module _ {c d n : ℕ} {m : List ℕ} (s : Searchable c d n m) (goes from : ℕ)
     opens-node : opensPlaces c d goes n m i e ≡ test (nodeFrom rs i l)
     unfolding opensPlaces opensAt nearCornerOf farCornerOf
     opens-node =
-        ap₂ (λ (a b : Bool). a && not b) (ap (reaches c d goes n m) (corner-node farOf))
+        ap₂ (λ (a b : Bool). a && not b) (ap (goesWithin c d goes n m) (corner-node farOf))
         (corner-before c d n m (s .readable .dimension) (s .fit-at) (s .in-order) i e (f .after) (f .within) goes
         ∙ ap (cornerDominated c d goes n m) (corner-node nearOf))
 

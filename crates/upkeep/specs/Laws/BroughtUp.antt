@@ -24,7 +24,7 @@ use Rattle.model.specs.Laws.Order.{distinct-select, costs-on-own}
 use Rattle.model.specs.Laws.Skyline.{skyline-mem, mem-skyline}
 use Rattle.model.specs.Laws.Changes.{mem-without}
 use Rattle.model.specs.Laws.Nodes.{NodeIn, node-near, node-far}
-use Rattle.model.specs.Laws.Opening.{reaches-nowhere, far-corner-row, brought-up-counts}
+use Rattle.model.specs.Laws.Opening.{dominates-or-equals, far-corner-row, brought-up-counts}
 use Rattle.line.specs.Line.{movesIn}
 use Rattle.line.specs.Search.{openedPast}
 use Rattle.line.specs.Laws.Line.{moves-line}
@@ -36,7 +36,7 @@ use Rattle.memory.specs.Tests.{anyTo, isListed}
 use Rattle.memory.specs.Laws.Places.{anyTo-ext}
 use Rattle.memory.specs.Laws.Lines.{moveAt-line}
 use Rattle.memory.specs.Laws.Held.{held-dimension, held-line, held-order, held-any, held-listed, held-fit, held-fit-at, held-distinct}
-use Rattle.tree.specs.Search.{cornerDominated, reaches, opensAt, Passed, LeafFrom}
+use Rattle.tree.specs.Search.{cornerDominated, goesWithin, opensAt, Passed, LeafFrom}
 use Rattle.tree.specs.Laws.Search.{Counting, counting-all, opened-nodes}
 use Rattle.tree.specs.declared.nodes.Leaf.{Leaf}
 use Rattle.upkeep.specs.Change.{goesListed, hiddenByOthers, hiddenByComing, comesUp, entersAt, Passing, Entering}
@@ -92,20 +92,20 @@ module _ (c d n : ℕ) (m : List ℕ) (s : SoundAt c d n m) (b : Bytes m) where
       unfolding skyline moveIn
       own-costs = costs-on-own (skyline d before) (distinct-select (λ x. x .number) (λ x. not (hidden d before x)) before (held-distinct c d n m s b)) in-list
 
-      reaches-counts : (z : Node)
-          → reaches c d g n m (farCornerOf d z) ≡ (dominates d (costsOn number (skyline d before)) (farCornerOf d z) || equalCosts d (costsOn number (skyline d before)) (farCornerOf d z))
-      unfolding reaches
-      reaches-counts z =
+      within-counts : (z : Node)
+          → goesWithin c d g n m (farCornerOf d z) ≡ (dominates d (costsOn number (skyline d before)) (farCornerOf d z) || equalCosts d (costsOn number (skyline d before)) (farCornerOf d z))
+      unfolding goesWithin
+      within-counts z =
           let far = farCornerOf d z in
           ap (λ (t : Bool). t || nowhereGreater (take d (moveIn c d m g .costs)) (take d far)) (lt-leb n g l)
-          ∙ sym (reaches-nowhere d (moveIn c d m g .costs) far (row-lengths (held-fit-at c d n m s b g l .costs) (far-corner-row d z (held-dimension c d n m s))))
+          ∙ sym (dominates-or-equals d (moveIn c d m g .costs) far (row-lengths (held-fit-at c d n m s b g l .costs) (far-corner-row d z (held-dimension c d n m s))))
           ∙ ap (λ (x : List ℕ). dominates d x far || equalCosts d x far) (sym own-costs)
 
       -- The search opens the nodes that are counted.
       pub opens-counts : (z : Node) → opensAt c d g n m z ≡ opensFor d (skyline d (movesIn (lineFrom c d n m))) (numberIn c m g) z
       unfolding opensAt opensFor opens cornerDominated
       opens-counts z =
-          ap₂ (λ (t u : Bool). t && not u) (reaches-counts z) (sym (others-listed (λ x. dominates d (x .costs) (nearCornerOf d z))))
+          ap₂ (λ (t u : Bool). t && not u) (within-counts z) (sym (others-listed (λ x. dominates d (x .costs) (nearCornerOf d z))))
 
       pub opened-counts : (t : Tree) → Stands m t → openedPast (opensAt c d g n m) (lineFrom c d n m) 0 ≡ withdrawOpens d (numberIn c m g) t
       unfolding withdrawOpens

@@ -6,7 +6,7 @@ use super::search::{Listed, Search};
 use crate::Costs;
 use std::ops::Range;
 
-/// What opens a node. Where a move goes, it is not among the listed ones, and opens only what it reaches.
+/// What opens a node. Where a move goes, it is not among the listed ones, and opens only nodes whose far corner it does not exceed.
 struct Opening<'a> {
     m: &'a [u8],
     head: Head,
@@ -23,13 +23,13 @@ impl Opening<'_> {
     }
 
     /// Whether a move goes and is somewhere greater than the far corner of a node.
-    fn out_of_reach(&self, corner: &Costs) -> bool {
+    fn exceeds_far(&self, corner: &Costs) -> bool {
         self.goes.is_some_and(|goes| exceeds(&self.head.costs_at(self.m, goes), corner))
     }
 
     fn opens(&self, node: &Range<usize>) -> bool {
         let [first, last] = [node.start, node.end - 1].map(|place| self.head.costs_at(self.m, place));
-        !self.out_of_reach(&far(&first, &last)) && !self.corner_dominated(node.start, &near(&first, &last))
+        !self.exceeds_far(&far(&first, &last)) && !self.corner_dominated(node.start, &near(&first, &last))
     }
 }
 

@@ -25,7 +25,7 @@ returns c =
     let a = c .before .before .before .before .before .before .before .args in
     opens-out (a .h .size) (a .h .dimension) (a .goes) (a .h .count) (a .m .now) (a .i) (a .e) (c .before .before .before .before .before .number-at .ensures)
     (c .before .before .before .number-at2 .ensures) (c .before .before .before .before .costs-of .ensures) (c .before .before .costs-of2 .ensures)
-    (sym (c .before .out-of-reach .ensures) ∙ c .if1 .taken)
+    (sym (c .before .exceeds-far .ensures) ∙ c .if1 .taken)
 
 corner-dominated-requires : tie.Need-corner-dominated-requires
 corner-dominated-requires c κs =
@@ -38,7 +38,7 @@ returns-2 c =
     ap not (c .corner-dominated .ensures)
     ∙ opens-near (a .h .size) (a .h .dimension) (a .goes) (a .h .count) (a .m .now) (a .i) (a .e) (c .before .before .before .before .before .before .before .number-at .ensures)
     (c .before .before .before .before .before .number-at2 .ensures) (c .before .before .before .before .before .before .costs-of .ensures)
-    (c .before .before .before .before .costs-of2 .ensures) (sym (c .before .before .before .out-of-reach .ensures) ∙ c .before .before .if1 .left) (c .before .near-of .ensures)
+    (c .before .before .before .before .costs-of2 .ensures) (sym (c .before .before .before .exceeds-far .ensures) ∙ c .before .before .if1 .left) (c .before .near-of .ensures)
 
 pub opens-spec : {M : Type 1} → statement M
 opens-spec =

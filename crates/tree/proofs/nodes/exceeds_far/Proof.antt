@@ -1,4 +1,4 @@
--- `nodes::out_of_reach` meets its contract. Assumes nothing.
+-- `nodes::exceeds_far` meets its contract. Assumes nothing.
 use Prim.Native.Nat.{ℕ}
 use mathlib.Core.Bool.{not}
 use mathlib.Core.List.{List}
@@ -8,14 +8,14 @@ use borrow.Author.Needs.{needs}
 use lib.ListN.{take}
 use Rattle.zorder.specs.Between.{farOf}
 use Rattle.model.specs.Dominance.{somewhereLess}
-use Rattle.tree.specs.Laws.Corners.{reaches-all, reaches-going}
-use Rattle.tree.proofs.nodes.out_of_reach.Statement.{statement}
-use Rattle.tree.proofs.nodes.out_of_reach.Tie as tie
+use Rattle.tree.specs.Laws.Corners.{within-all, within-going}
+use Rattle.tree.proofs.nodes.exceeds_far.Statement.{statement}
+use Rattle.tree.proofs.nodes.exceeds_far.Tie as tie
 
 returns : tie.Need-returns
 returns c =
     let a = c .before .before .before .args in
-    ap not (sym (reaches-all (a .h .size) (a .h .dimension) (a .goes) (a .h .count) (a .m .now) (farOf (a .h .dimension) (a .first) (a .last)) (omega (arith, c .if1 .taken))))
+    ap not (sym (within-all (a .h .size) (a .h .dimension) (a .goes) (a .h .count) (a .m .now) (farOf (a .h .dimension) (a .first) (a .last)) (omega (arith, c .if1 .taken))))
 
 costs-of-requires : tie.Need-costs-of-requires
 costs-of-requires c κs =
@@ -29,11 +29,11 @@ returns-2 c =
     let far = c .before .far-of in
     c .exceeds .ensures
     ∙ ap (λ (q : List ℕ). somewhereLess (take (a .h .dimension) q) (take (a .h .dimension) (c .before .before .costs-of .result))) (far .ensures)
-    ∙ reaches-going (a .h .size) (a .h .dimension) (a .goes) (a .h .count) (a .m .now) (farOf (a .h .dimension) (a .first) (a .last))
+    ∙ within-going (a .h .size) (a .h .dimension) (a .goes) (a .h .count) (a .m .now) (farOf (a .h .dimension) (a .first) (a .last))
     (omega (arith, c .before .before .before .before .if1 .left)) (number .ensures) (c .before .before .costs-of .ensures)
 
-pub out-of-reach-spec : {M : Type 1} → statement M
-out-of-reach-spec =
+pub exceeds-far-spec : {M : Type 1} → statement M
+exceeds-far-spec =
     tie.close
     (tie.spec
     returns
