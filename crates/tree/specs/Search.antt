@@ -1,5 +1,5 @@
 -- What the search through the nodes computes. `goes` is the place of a move that goes, or past the last where none does.
-use Prim.Native.Nat.{ℕ, _+_, _-_, _*_, _<_, _≤_}
+use Prim.Native.Nat.{ℕ, _+_, _-_, _<_, _≤_}
 use mathlib.Core.Bool.{Bool, false, not, _&&_, _||_}
 use mathlib.Core.Path.{_≡_}
 use mathlib.Core.List.{List, List·Memᴰ}
@@ -19,10 +19,13 @@ use Rattle.memory.specs.Tests.{anyTo, isListed}
 use Rattle.tree.specs.declared.nodes.Leaf.{Leaf}
 pub use Rattle.memory.specs.Held.{SoundAt}
 
--- Whether a listed move at a place below n, but for the going one, dominates a corner.
+-- Whether the move at place j is listed, is not the going one, and dominates a corner.
+abbrev pub dominatesCorner : ℕ → ℕ → ℕ → List ℕ → List ℕ → ℕ → Bool
+dominatesCorner c d goes m corner j = isListed c m j && (not (eqb j goes) && dominates d (moveIn c d m j .costs) corner)
+
+-- Whether such a move stands at a place below n.
 unfoldable pub cornerDominated : ℕ → ℕ → ℕ → ℕ → List ℕ → List ℕ → Bool
-cornerDominated c d goes n m corner =
-    anyTo (λ j. isListed c m j && (not (eqb j goes) && dominates d (moveIn c d m j .costs) corner)) n
+cornerDominated c d goes n m corner = anyTo (dominatesCorner c d goes m corner) n
 
 -- Whether the going move, if one goes, is nowhere greater than a corner.
 unfoldable pub goesWithin : ℕ → ℕ → ℕ → ℕ → List ℕ → List ℕ → Bool
@@ -64,7 +67,6 @@ pub record NextLeaf (opens : Node → Bool) (rs : List Placed) (n i : ℕ) (r : 
   pub from : i ≤ r .start
   pub order : r .start ≤ r .end
   pub further : i < n → i < r .end
-  pub few : i < n → r .opened ≤ 511 * (r .end - i)
   pub total : openedPast opens rs i ≡ r .opened + openedPast opens rs (r .end)
   pub passed : (j : ℕ) → i ≤ j → j < r .start → Passed opens rs j
 

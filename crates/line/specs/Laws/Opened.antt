@@ -1,12 +1,12 @@
 -- What a search of a line opens: under a node that is not opened, none.
-use Prim.Native.Nat.{ℕ, zero, suc, _+_, _-_, _≤_, _<_}
+use Prim.Native.Nat.{ℕ, zero, suc, _+_, _*_, _-_, _≤_, _<_}
 use mathlib.Core.Bool.{Bool, true, false, cond}
 use mathlib.Core.List.{List, [], _∷_, _++_, map-append, append-nil, append-assoc, List·Memᴰ, Memᴰ·map}
 use mathlib.Core.Path.{_≡_, refl, sym, ap, ap₂, _∙_, subst}
 use native.Mathlib.Nat.{zero-add, le-refl}
 use native.Mathlib.Omega.{arith}
 use lib.Dec.{leb}
-use lib.ListN.{length, take, drop, getD, length-take, take-append-drop, drop-of-length-le}
+use lib.ListN.{length, take, drop, getD, length-take, length-append, take-append-drop, drop-of-length-le}
 use lib.Seq.{drop-cons, drop-drop, getD-drop, getD-take}
 use Rattle.zorder.specs.Between.{rowCosts}
 use Rattle.model.specs.Basics.{Each, select, count, firstOr, lastOr}
@@ -15,7 +15,7 @@ use Rattle.model.specs.Tree.{Tree, empty, rooted}
 use Rattle.model.specs.Nodes.{Node, nodeOf, nodesOf}
 use Rattle.model.specs.Sound.{Fit}
 use Rattle.model.specs.Laws.Bool.{testCases}
-use Rattle.model.specs.Laws.Basics.{each-append, each-mono, mem-at, count-append, count-none, count-cons}
+use Rattle.model.specs.Laws.Basics.{each-append, each-mono, mem-at, select-few, count-append, count-none, count-cons}
 use Rattle.model.specs.Laws.Nodes.{RunOf, NodeIn, Some, run-trans, node-wider, run-fit, run-ordered}
 use Rattle.model.specs.Laws.Opening.{Downward}
 use Rattle.line.specs.Line.{Placed, none, lineOf, movesIn, heightsIn}
@@ -183,6 +183,24 @@ all-left [] (suc i) = refl
 all-left (r ∷ rs) zero = refl
 all-left (r ∷ rs) (suc i) = all-left rs i
 
+-- A row starts as many nodes as its height says.
+nodes-at-count : (l : ℕ) (r : Placed) (rs : List Placed) → length (nodesAt l r rs) ≡ l
+unfolding nodesAt
+nodes-at-count zero r rs = refl
+nodes-at-count (suc l) r rs = ap suc (nodes-at-count l r rs)
+
+nodes-few : (rs : List Placed) → Each (λ r. r .height < 256) rs → length (nodesIn rs) ≤ 255 * length rs
+unfolding nodesIn
+nodes-few [] low = omega arith
+nodes-few (r ∷ rs) low =
+    omega (arith, length-append (nodesAt (r .height) r rs) (nodesIn rs), nodes-at-count (r .height) r rs, low .0, nodes-few rs (low .1))
+
+past-few : (rs : List Placed) (i : ℕ) → Each (λ r. r .height < 256) rs → length (nodesIn (drop i rs)) ≤ 255 * length rs
+unfolding nodesIn
+past-few rs zero low = nodes-few rs low
+past-few [] (suc i) low = omega arith
+past-few (r ∷ rs) (suc i) low = omega (arith, past-few rs i (low .1))
+
 module _ (rs : List Placed) (i : ℕ) (h : i < length rs) (l : ℕ) where
   here : Placed
   here = getD rs i none
@@ -251,6 +269,11 @@ module _ (opens : Node → Bool) where
   pub opened-all : (t : Tree) → WholeTree t → openedPast opens (lineOf t) 0 ≡ count opens (nodesOf t)
   unfolding openedFrom
   opened-all t w = ap (count opens) (sym (all-left (lineOf t) 0) ∙ nodes-line t w)
+
+  -- Heights are bytes.
+  pub opened-few : (rs : List Placed) (i : ℕ) → Each (λ r. r .height < 256) rs → openedPast opens rs i ≤ 255 * length rs
+  unfolding openedFrom count
+  opened-few rs i low = omega (arith, select-few opens (nodesLeft (heightAt rs i) (drop i rs)), ap length (all-left rs i), past-few rs i low)
 
   pub opened-end : (rs : List Placed) (i l : ℕ) → length rs ≤ i → openedFrom opens rs i l ≡ 0
   unfolding openedFrom nodesLeft count select

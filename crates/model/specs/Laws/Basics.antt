@@ -196,6 +196,15 @@ module _ {A : Type 0} where
     unfolding count
     count-none xs es = ap length (select-none xs es)
 
+    few-kept : (b : Bool) (x : A) (xs : List A) → length (consIf b x xs) ≤ suc (length xs)
+    few-kept true x xs = omega arith
+    few-kept false x xs = omega arith
+
+    pub select-few : (xs : List A) → length (select p xs) ≤ length xs
+    unfolding select
+    select-few [] = omega arith
+    select-few (x ∷ xs) = omega (arith, few-kept (p x) x (select p xs), select-few xs)
+
     pub count-cons : (x : A) (xs : List A) → count p (x ∷ xs) ≡ cond (p x) (suc (count p xs)) (count p xs)
     unfolding count select
     count-cons x xs = length-consIf (p x) x (select p xs)

@@ -27,7 +27,7 @@ use Rattle.memory.specs.Laws.Hiders.{none-any, listed-fits}
 use Rattle.memory.specs.Laws.Ordered.{ordered-place}
 use Rattle.memory.specs.Laws.Places.{anyTo-found, anyTo-past}
 use Rattle.memory.specs.Laws.Search.{none-empty, none-more, none-join}
-use Rattle.tree.specs.Search.{cornerDominated, goesWithin, cornerAt, opensPlaces}
+use Rattle.tree.specs.Search.{dominatesCorner, cornerDominated, goesWithin, cornerAt, opensPlaces}
 
 -- ---- the search
 
@@ -38,9 +38,8 @@ turned true true c d = refl
 turned true false c d = sym (and-false c)
 
 module _ (c d goes i : ℕ) (m corner q : List ℕ) where
-  -- Whether a listed move at place j, but for the going one, dominates the corner.
   abbrev by : ℕ → Bool
-  by j = isListed c m j && (not (eqb j goes) && dominates d (moveIn c d m j .costs) corner)
+  by = dominatesCorner c d goes m corner
 
   -- What of it is asked of a move that fits.
   abbrev asked : ℕ → Bool
@@ -104,7 +103,7 @@ module _ (c d goes n : ℕ) (m q : List ℕ) where
       ∙ ap not (sym (nowhere-somewhere (take d (costsIn c d m (numberIn c m goes))) (take d q)))
       ∙ ap (λ (t : Bool). not (t || nowhereGreater (take d (costsIn c d m (numberIn c m goes))) (take d q))) (sym (lt-leb n goes l))
 
--- ---- near corners
+-- ---- the corners of a node
 
 -- The corners of a node by the costs that were read.
 module _ (c d goes n : ℕ) (m : List ℕ) (i e : ℕ) {p q : ℕ} (f : p ≡ numberIn c m i) (g : q ≡ numberIn c m (e - 1))
@@ -168,12 +167,9 @@ module _ (c d n : ℕ) (m : List ℕ) (few : d ≤ rowCosts) (fit : (j : ℕ) �
 
   pub corner-before : (goes : ℕ) → cornerDominated c d goes i m near ≡ cornerDominated c d goes n m near
   unfolding cornerDominated
-  corner-before goes = sym (anyTo-past here i (n - i) past) ∙ ap (anyTo here) all
+  corner-before goes = sym (anyTo-past (dominatesCorner c d goes m near) i (n - i) past) ∙ ap (anyTo (dominatesCorner c d goes m near)) all
     where
-      here : ℕ → Bool
-      here j = isListed c m j && (not (eqb j goes) && dominates d (moveIn c d m j .costs) near)
-
-      past : (j : ℕ) → i ≤ j → j < i + (n - i) → here j ≡ false
+      past : (j : ℕ) → i ≤ j → j < i + (n - i) → dominatesCorner c d goes m near j ≡ false
       past j l h =
           let dominated = dominates d (moveIn c d m j .costs) near in
           and-false-right (isListed c m j) (not (eqb j goes) && dominated)

@@ -27,8 +27,9 @@ use Rattle.line.specs.Places.{moveAt, heightAt, nodeEnd}
 use Rattle.line.specs.Search.{nodeFrom, openedFrom, openedPast}
 use Rattle.line.specs.Laws.Line.{WholeTree, tree-whole, moves-line}
 use Rattle.line.specs.Laws.Places.{height-among, length-heights, end-high}
-use Rattle.line.specs.Laws.Opened.{first-node, last-node, node-in, node-under, first-height, opened-all, opened-end, opened-upper, opened-leaf, opened-passed}
-use Rattle.promises.specs.Layout.{dimensionIn, moveIn, lineFrom}
+use Rattle.line.specs.Laws.Opened.{first-node, last-node, node-in, node-under, first-height, opened-all, opened-few, opened-end, opened-upper, opened-leaf, opened-passed}
+use Rattle.promises.specs.Layout.{dimensionIn, heightPlace, heightIn, moveIn, placedIn, lineFrom}
+use Rattle.promises.specs.Laws.Tab.{each-tab}
 use Rattle.promises.specs.Sound.{Stands}
 use Rattle.promises.specs.Run.{Bytes}
 use Rattle.memory.specs.Room.{ReadableRows, Ordered}
@@ -39,7 +40,7 @@ use Rattle.memory.specs.Laws.Lines.{length-line, moveAt-line, heightAt-line}
 use Rattle.tree.specs.Rows.{NodeEnd}
 use Rattle.tree.specs.Laws.Corners.{corner-before}
 use Rattle.tree.specs.Laws.Heights.{end-line}
-use Rattle.tree.specs.Search.{cornerDominated, goesWithin, cornerAt, opensPlaces, opensAt, LevelAt, NodesFrom, Passed, LeafFrom, SoundAt, Opened}
+use Rattle.tree.specs.Search.{dominatesCorner, cornerDominated, goesWithin, cornerAt, opensPlaces, opensAt, LevelAt, NodesFrom, Passed, LeafFrom, SoundAt, Opened}
 use Rattle.tree.specs.declared.nodes.Leaf.{Leaf}
 
 -- ---- sound memory
@@ -53,6 +54,7 @@ pub record Searchable (c d n : ℕ) (m : List ℕ) : Type 0 where
   pub in-order : Ordered c d n m
   pub listed : (p : Move → Bool) → any p (skyline d (movesIn (lineFrom c d n m))) ≡ anyTo (λ i. isListed c m i && p (moveIn c d m i)) n
   pub first : 0 < n → 0 < heightAt (lineFrom c d n m) 0
+  pub low : Each (λ r. r .height < 256) (lineFrom c d n m)
 
 stands-whole : (m : List ℕ) (t : Tree) → Stands m t → WholeTree t
 stands-whole m t s = tree-whole t (ruled-filled (dimensionIn m) t (s .rules))
@@ -65,6 +67,7 @@ first-held {c} {d} {n} {m} s h =
     (first-height t (stands-whole m t (s .sound .stands)) (omega (arith, ap length line, length-line c d n m)))
 
 pub sound-searchable : (c d n : ℕ) (m : List ℕ) → SoundAt c d n m → Bytes m → Searchable c d n m
+unfolding Bytes lineFrom placedIn heightIn
 sound-searchable c d n m s b =
     record {
       readable = held-readable s;
@@ -74,6 +77,7 @@ sound-searchable c d n m s b =
       in-order = held-ordered c d n m s;
       listed = held-any c d n m s;
       first = first-held s;
+      low = each-tab (placedIn c d m) (λ r. r .height < 256) n (λ i _. b (heightPlace c i));
     }
 
 level-height : (c d n : ℕ) (m : List ℕ) (i k : ℕ) → LevelAt c n m i k → k ≡ heightAt (lineFrom c d n m) i
@@ -102,7 +106,7 @@ module _ {c d n : ℕ} {m : List ℕ} (s : Searchable c d n m) where
   dominated-up : (goes : ℕ) → Upward d (cornerDominated c d goes n m)
   unfolding cornerDominated
   dominated-up goes p q f g le =
-      anyTo-mono (by p) (by q) n
+      anyTo-mono (dominatesCorner c d goes m p) (dominatesCorner c d goes m q) n
       (λ j l h.
       let x = moveIn c d m j .costs in
       let other = not (eqb j goes) in
@@ -110,9 +114,6 @@ module _ {c d n : ℕ} {m : List ℕ} (s : Searchable c d n m) where
       and-both (isListed c m j) (other && dominates d x q) (and-left (isListed c m j) (other && dominates d x p) h)
       (and-both other (dominates d x q) (and-left other (dominates d x p) rest)
       (dominates-below d x p q (row-lengths (s .fit-at j l .costs) f) (row-lengths f g) (and-right other (dominates d x p) rest) (λ i _. le i))))
-    where
-      by : List ℕ → ℕ → Bool
-      by corner j = isListed c m j && (not (eqb j goes) && dominates d (moveIn c d m j .costs) corner)
 
   -- Under a node that is not opened none is.
   opens-down : (goes : ℕ) → Downward d c (opensAt c d goes n m)
@@ -146,7 +147,6 @@ pub record Searching (c d goes n : ℕ) (m : List ℕ) (from opened i l : ℕ) :
   pub after : from ≤ i
   pub inside : i ≤ n
   pub level : i < n → 0 < l
-  pub few : opened + l ≤ 256 * (i - from) + 255
   pub total : openedPast (opensAt c d goes n m) (lineFrom c d n m) from ≡ opened + openedFrom (opensAt c d goes n m) (lineFrom c d n m) i l
   pub passed : (j : ℕ) → from ≤ j → j < i → Passed (opensAt c d goes n m) (lineFrom c d n m) j
 
@@ -157,16 +157,18 @@ module _ {c d n : ℕ} {m : List ℕ} (s : Searchable c d n m) (goes from : ℕ)
   abbrev test : Node → Bool
   test = opensAt c d goes n m
 
-  pub search-start : NodesFrom c n m from → (k : ℕ) → LevelAt c n m from k → k < 256 → Searching c d goes n m from 0 from k
-  search-start w k v b =
+  pub search-start : NodesFrom c n m from → (k : ℕ) → LevelAt c n m from k → Searching c d goes n m from 0 from k
+  search-start w k v =
       record {
         after = le-refl from;
         inside = w .within;
         level = λ h. omega (arith, v .inside h, w .starts h);
-        few = omega arith;
         total = omega (arith, ap (openedFrom test rs from) (level-height c d n m from k v));
         passed = λ j f g. absurd (omega arith);
       }
+
+  pub search-few : (opened i l : ℕ) → Searching c d goes n m from opened i l → opened ≤ 255 * n
+  search-few opened i l w = omega (arith, w .total, opened-few test rs from (s .low), length-line c d n m)
 
   module _ (opened i l e : ℕ) (w : Searching c d goes n m from opened i l) (h : i < n) (f : NodeEnd c n l i m e) where
     -- The place is one of the line's.
@@ -197,13 +199,12 @@ module _ {c d n : ℕ} {m : List ℕ} (s : Searchable c d n m) (goes from : ℕ)
       opens-is = p ∙ opens-node
 
       -- A node that is passed by: the search goes on after it.
-      pub search-on : opens ≡ false → (k : ℕ) → LevelAt c n m e k → k < 256 → Searching c d goes n m from opened e k
-      search-on q k v b =
+      pub search-on : opens ≡ false → (k : ℕ) → LevelAt c n m e k → Searching c d goes n m from opened e k
+      search-on q k v =
           record {
             after = omega (arith, w .after, f .after);
             inside = f .within;
             level = λ j. omega (arith, w .level h, high, end-height j);
-            few = omega (arith, w .few, w .after, f .after);
             total =
                 w .total
                 ∙ ap (λ (k : ℕ). opened + k)
@@ -234,7 +235,6 @@ module _ {c d n : ℕ} {m : List ℕ} (s : Searchable c d n m) (goes from : ℕ)
             after = w .after;
             inside = w .inside;
             level = λ j. omega (arith, w .level h, up);
-            few = omega (arith, w .few, w .level h);
             total = omega (arith, w .total, subst (λ (x : ℕ). test (nodeFrom rs i x) ≡ true → openedFrom test rs i x ≡ suc (openedFrom test rs i (l - 1))) back (opened-upper test rs i placed (l - 1)) (sym opens-is ∙ q));
             passed = w .passed;
           }
@@ -247,7 +247,6 @@ module _ {c d n : ℕ} {m : List ℕ} (s : Searchable c d n m) (goes from : ℕ)
               from = w .after;
               order = omega (arith, f .after);
               further = λ g. omega (arith, w .after, f .after);
-              few = λ g. omega (arith, w .few, w .after, f .after);
               total = omega (arith, w .total, past);
               passed = w .passed;
             };
@@ -267,7 +266,6 @@ module _ {c d n : ℕ} {m : List ℕ} (s : Searchable c d n m) (goes from : ℕ)
           from = omega (arith, w .after, w .inside);
           order = le-refl n;
           further = λ g. g;
-          few = λ g. omega (arith, w .few, w .after, w .inside);
           total =
               omega
               (arith, w .total, opened-end test rs i l (omega (arith, length-line c d n m)), opened-end test rs n (heightAt rs n) (omega (arith, length-line c d n m)));
@@ -281,7 +279,6 @@ module _ {c d n : ℕ} {m : List ℕ} (s : Searchable c d n m) (goes from : ℕ)
 -- The nodes opened before place i, where nodes start, and those that are opened from there on are all.
 pub record Counting (c d goes n : ℕ) (m : List ℕ) (opened i : ℕ) : Type 0 where
   pub start : NodesFrom c n m i
-  pub few : opened ≤ 511 * i
   pub total : openedPast (opensAt c d goes n m) (lineFrom c d n m) 0 ≡ opened + openedPast (opensAt c d goes n m) (lineFrom c d n m) i
 
 module _ {c d goes n : ℕ} {m : List ℕ} where
@@ -289,17 +286,19 @@ module _ {c d goes n : ℕ} {m : List ℕ} where
   counting-none s =
       record {
         start = record { within = omega arith; starts = λ h. omega (arith, s .first h, heightAt-line c d n m 0 h) };
-        few = omega arith;
         total = sym (zero-add _);
       }
 
-  pub counting-leaf : (opened i : ℕ) (r : Leaf) → Counting c d goes n m opened i → i < n → LeafFrom c d goes n m i r → Counting c d goes n m (opened + r .opened) (r .end)
-  counting-leaf opened i r w h leaf =
+  pub counting-leaf : (opened i : ℕ) (r : Leaf) → Counting c d goes n m opened i → LeafFrom c d goes n m i r → Counting c d goes n m (opened + r .opened) (r .end)
+  counting-leaf opened i r w leaf =
       record {
         start = leaf .after;
-        few = omega (arith, w .few, leaf .next .few h, leaf .next .further h);
         total = omega (arith, w .total, leaf .next .total);
       }
+
+  pub counting-few : Searchable c d n m → (opened i : ℕ) (r : Leaf) → Counting c d goes n m opened i → LeafFrom c d goes n m i r → opened + r .opened ≤ 255 * n
+  counting-few s opened i r w leaf =
+      omega (arith, w .total, leaf .next .total, opened-few (opensAt c d goes n m) (lineFrom c d n m) 0 (s .low), length-line c d n m)
 
   pub counting-all : (opened i : ℕ) → Counting c d goes n m opened i → n ≤ i → opened ≡ openedPast (opensAt c d goes n m) (lineFrom c d n m) 0
   counting-all opened i w h =

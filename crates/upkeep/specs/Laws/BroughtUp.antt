@@ -41,7 +41,7 @@ use Rattle.tree.specs.Laws.Search.{Counting, counting-all, opened-nodes}
 use Rattle.tree.specs.declared.nodes.Leaf.{Leaf}
 use Rattle.upkeep.specs.Change.{goesListed, hiddenByOthers, hiddenByComing, comesUp, entersAt, Passing, Entering}
 use Rattle.upkeep.specs.Laws.Places.{place-below, below-place, anyTo-places}
-use Rattle.upkeep.specs.Laws.Change.{line-places, others-hide, same-place, rest-without, goes-within, goes-marked, goes-unmarked, enters-none}
+use Rattle.upkeep.specs.Laws.Change.{line-places, others-hide, same-place, rest-without, goes-on-board, goes-marked, goes-unmarked, enters-none}
 use Rattle.upkeep.specs.Laws.Passing.{none-passes, passing-join, passing-skip}
 use Rattle.upkeep.specs.declared.change.Change.{Change}
 use Rattle.upkeep.specs.declared.entering.Entered.{Entered}
@@ -151,7 +151,7 @@ module _ (c d n : ℕ) (m : List ℕ) (s : SoundAt c d n m) (b : Bytes m) where
         (and-left goes-hides (not (hiddenByComing d k x)) (and-left (goes-hides && not (hiddenByComing d k x)) (not (hiddenByOthers c d n g x m)) came))
 
     on-board : g < n
-    on-board = goes-within c n g m goes
+    on-board = goes-on-board c n g m goes
 
     others-hide-not : hidden d (without (numberIn c m g) before) x ≡ false
     others-hide-not =

@@ -125,9 +125,9 @@ changed-hidden d k ms x =
 
 -- A listed move goes: it is on the board, and marked.
 module _ (c n g : ℕ) (m : List ℕ) (e : goesListed c n g m ≡ true) where
-  pub goes-within : g < n
+  pub goes-on-board : g < n
   unfolding goesListed
-  goes-within = ltb-true g n (and-left (ltb g n) (isListed c m g) e)
+  goes-on-board = ltb-true g n (and-left (ltb g n) (isListed c m g) e)
 
   pub goes-marked : isListed c m g ≡ true
   unfolding goesListed

@@ -11,7 +11,7 @@ use lib.Dec.{eqb}
 use lib.ListN.{length}
 use Rattle.model.specs.Basics.{consIf, select, any, count, numbersFrom}
 use Rattle.model.specs.Moves.{Move}
-use Rattle.model.specs.Laws.Basics.{each-mem, select-append, select-all, select-none, any-map, count-append, count-cons}
+use Rattle.model.specs.Laws.Basics.{each-mem, select-append, select-all, select-none, select-few, any-map, count-append, count-cons}
 use Rattle.model.specs.Laws.Range.{each-numbers, each-place, numbers-append, length-numbers}
 use Rattle.promises.specs.Layout.{tab}
 use Rattle.memory.specs.Tests.{anyTo}
@@ -45,24 +45,15 @@ module _ (p : ℕ → Bool) where
       ∙ count-append p (numbersFrom 0 n) (n ∷ [])
       ∙ ap (λ (k : ℕ). count p (numbersFrom 0 n) + k) (count-cons p n [])
 
-  few-kept : (b : Bool) (i : ℕ) (is : List ℕ) → length (consIf b i is) ≤ suc (length is)
-  few-kept true i is = omega arith
-  few-kept false i is = omega arith
-
-  few-selected : (is : List ℕ) → length (select p is) ≤ length is
-  unfolding select
-  few-selected [] = omega arith
-  few-selected (i ∷ is) = omega (arith, few-kept (p i) i (select p is), few-selected is)
-
   pub count-le : (n : ℕ) → count p (numbersFrom 0 n) ≤ n
   unfolding count
-  count-le n = omega (arith, few-selected (numbersFrom 0 n), length-numbers n 0)
+  count-le n = omega (arith, select-few p (numbersFrom 0 n), length-numbers n 0)
 
   -- ---- the places from one up to another that pass
 
   pub places-few : (a b : ℕ) → length (placesIn a b p) ≤ b - a
   unfolding placesIn
-  places-few a b = omega (arith, few-selected (numbersFrom a (b - a)), length-numbers (b - a) a)
+  places-few a b = omega (arith, select-few p (numbersFrom a (b - a)), length-numbers (b - a) a)
 
   pub places-all : (n : ℕ) → placesIn 0 n p ≡ select p (numbersFrom 0 n)
   unfolding placesIn

@@ -7,7 +7,7 @@ use borrow.Author.Tests.{not-true, not-false}
 use Rattle.promises.specs.Run.{Bytes}
 use Rattle.memory.specs.Laws.Held.{held-readable}
 use Rattle.memory.specs.Laws.Search.{corners-fewer}
-use Rattle.tree.specs.Laws.Search.{Searchable, sound-searchable, Searching, search-start, search-on, search-down, search-leaf, search-end}
+use Rattle.tree.specs.Laws.Search.{Searchable, sound-searchable, Searching, search-start, search-few, search-on, search-down, search-leaf, search-end}
 use Rattle.tree.proofs.nodes.next_leaf.Statement.{statement}
 use Rattle.tree.proofs.nodes.next_leaf.Tie as tie
 
@@ -27,7 +27,7 @@ loop-holds c =
     let start = c .before .before in
     let a = start .args in
     let s = sound-searchable (a .h .size) (a .h .dimension) (a .h .count) (a .m .now) (start .pre .0 .0) (λ j. omega (arith, c .before .shared-slice-known .given j)) in
-    (s, search-start s (a .goes) (a .from) (start .pre .1) (c .level-at .result) (c .level-at .ensures) (omega arith))
+    (s, search-start s (a .goes) (a .from) (start .pre .1) (c .level-at .result) (c .level-at .ensures))
 
 node-end-requires : tie.Need-node-end-requires Inv-loop μ-loop
 node-end-requires c κs = let s = c .before .loop .inv .0 in (s .readable .room, s .readable .rows, omega arith)
@@ -49,11 +49,14 @@ loop-again c =
     let test = c .before .before .opens in (
       own .inv .0,
       search-on (own .inv .0) (a .goes) (a .from) (own .opened) (own .i) (own .l) (end .result) (own .inv .1) (omega arith) (end .ensures) (test .result) (test .ensures)
-          (not-true (test .result) (c .before .if1 .taken)) (c .level-at2 .result) (c .level-at2 .ensures) (omega arith),
+          (not-true (test .result) (c .before .if1 .taken)) (c .level-at2 .result) (c .level-at2 .ensures),
     )
 
 add-t14 : tie.Need-add-t14 Inv-loop μ-loop
-add-t14 c = let own = c .before .before .before .before .before .loop in omega (arith, own .inv .1 .few, own .inv .1 .inside, own .inv .0 .readable .rows, own .inv .0 .readable .room .1)
+add-t14 c =
+    let a = c .before .before .before .before .before .before .before .before .args in
+    let own = c .before .before .before .before .before .loop in
+    omega (arith, search-few (own .inv .0) (a .goes) (a .from) (own .opened) (own .i) (own .l) (own .inv .1), own .inv .0 .readable .rows, own .inv .0 .readable .room .1)
 
 returns : tie.Need-returns Inv-loop μ-loop
 returns c =
@@ -65,7 +68,10 @@ returns c =
     (not-false (test .result) (c .before .if1 .left)) (c .if2 .taken)
 
 add-opened : tie.Need-add-opened Inv-loop μ-loop
-add-opened c = let own = c .before .before .before .before .before .loop in omega (arith, own .inv .1 .few, own .inv .1 .inside, own .inv .0 .readable .rows, own .inv .0 .readable .room .1)
+add-opened c =
+    let a = c .before .before .before .before .before .before .before .before .args in
+    let own = c .before .before .before .before .before .loop in
+    omega (arith, search-few (own .inv .0) (a .goes) (a .from) (own .opened) (own .i) (own .l) (own .inv .1), own .inv .0 .readable .rows, own .inv .0 .readable .room .1)
 
 sub-l : tie.Need-sub-l Inv-loop μ-loop
 sub-l c = let own = c .before .before .before .before .before .loop in omega (arith, own .inv .1 .level (omega arith))

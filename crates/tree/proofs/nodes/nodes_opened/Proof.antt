@@ -4,7 +4,7 @@ use Prim.Native.Nat.{_-_}
 use native.Mathlib.Omega.{arith}
 use Rattle.promises.specs.Run.{Bytes}
 use Rattle.memory.specs.Laws.Held.{held-readable}
-use Rattle.tree.specs.Laws.Search.{sound-searchable, Counting, counting-none, counting-leaf, list-opened}
+use Rattle.tree.specs.Laws.Search.{sound-searchable, Counting, counting-none, counting-few, counting-leaf, list-opened}
 use Rattle.tree.proofs.nodes.nodes_opened.Statement.{statement}
 use Rattle.tree.proofs.nodes.nodes_opened.Tie as tie
 
@@ -26,10 +26,14 @@ next-leaf-requires c κs =
     ((c .before .before .before .before .before .pre, c .before .before .before .corners-of .ensures), c .before .before .loop .inv .start)
 
 add-opened : tie.Need-add-opened Inv-loop μ-loop
+unfolding Bytes
 add-opened c =
+    let start = c .before .before .before .before .before .before .before in
+    let a = start .args in
     let own = c .before .before .before .before .loop in
-    let rows = held-readable (c .before .before .before .before .before .before .before .pre) in
-    omega (arith, own .inv .few, c .before .next-leaf .ensures .next .few (omega arith), c .before .next-leaf .ensures .after .within, rows .rows, rows .room .1)
+    let leaf = c .before .next-leaf in
+    let s = sound-searchable (a .h .size) (a .h .dimension) (a .h .count) (a .m .now) (start .pre) (λ j. omega (arith, c .before .before .before .before .before .before .shared-slice-known .given j)) in
+    omega (arith, counting-few s (own .opened) (own .i) (leaf .result) (own .inv) (leaf .ensures), s .readable .rows, s .readable .room .1)
 
 loop-less : tie.Need-loop-less Inv-loop μ-loop
 loop-less c = omega (arith, c .before .next-leaf .ensures .next .further (omega arith), c .before .next-leaf .ensures .after .within)
@@ -38,7 +42,7 @@ loop-again : tie.Need-loop-again Inv-loop μ-loop
 loop-again c =
     let own = c .before .before .before .before .loop in
     let leaf = c .before .next-leaf in
-    counting-leaf (own .opened) (own .i) (leaf .result) (own .inv) (omega arith) (leaf .ensures)
+    counting-leaf (own .opened) (own .i) (leaf .result) (own .inv) (leaf .ensures)
 
 returns : tie.Need-returns Inv-loop μ-loop
 unfolding Bytes

@@ -11,7 +11,7 @@ use Rattle.promises.specs.Layout.{moveIn}
 use Rattle.promises.specs.Run.{Bytes}
 use Rattle.memory.specs.Laws.Held.{held-readable}
 use Rattle.upkeep.specs.Change.{goesListed, hiddenByOthers, hiddenByComing, comesUp, Parted}
-use Rattle.upkeep.specs.Laws.Change.{goes-within}
+use Rattle.upkeep.specs.Laws.Change.{goes-on-board}
 use Rattle.upkeep.specs.Laws.Others.{own-place}
 use Rattle.upkeep.specs.declared.change.Change.{Change}
 use Rattle.upkeep.proofs.entering.comes_up.Statement.{statement}
@@ -37,7 +37,7 @@ move-at-requires-2 c κs =
     let start = c .before .before in
     let pre = start .pre in
     let rows = held-readable (pre .0 .sound) in
-    let on = goes-within (start .args .h .size) (start .args .h .count) (start .args .k .goes) (start .args .m .now) (pre .0 .goes) in
+    let on = goes-on-board (start .args .h .size) (start .args .h .count) (start .args .k .goes) (start .args .m .now) (pre .0 .goes) in
     (rows .room, omega (arith, rows .rows, on), rows .numbers (start .args .k .goes) on, rows .dimension)
 
 returns : tie.Need-returns

@@ -2,7 +2,7 @@
 -- nodes opened so far and those still to be opened are all. Assumes nothing.
 use Prim.Native.Nat.{_-_}
 use native.Mathlib.Omega.{arith}
-use Rattle.tree.specs.Laws.Search.{Counting, sound-searchable, counting-none, counting-leaf}
+use Rattle.tree.specs.Laws.Search.{Counting, sound-searchable, counting-none, counting-few, counting-leaf}
 use Rattle.promises.specs.Run.{Bytes}
 use Rattle.memory.specs.Laws.Held.{held-readable}
 use Rattle.upkeep.specs.Change.{entersAt, Passing}
@@ -46,12 +46,15 @@ add-count c =
     (arith, rows .rows, rows .room .1, leaf .after .within, c .before .before .before .before .before .loop .inv .0 .start .within, passing-few (a .h .size) (a .m .now) test (c .before .before .before .before .before .loop .inv .1), passing-few (a .h .size) (a .m .now) test (c .find-in-leaf .ensures))
 
 add-opened : tie.Need-add-opened Inv-loop μ-loop
+unfolding Bytes
 add-opened c =
-    let rows = held-readable (c .before .before .before .before .before .before .before .before .before .pre .0 .sound) in
-    let leaf = c .before .before .before .next-leaf .ensures in
-    let found = c .before .before .before .before .before .before .loop .inv .0 in
-    let more = c .before .before .before .before .before .loop-test .taken in
-    omega (arith, rows .rows, rows .room .1, found .few, found .start .within, leaf .next .few more, leaf .next .further more, leaf .after .within)
+    let start = c .before .before .before .before .before .before .before .before .before in
+    let a = start .args in
+    let own = c .before .before .before .before .before .before .loop in
+    let leaf = c .before .before .before .next-leaf in
+    let bytes : Bytes (a .m .now) = λ i. omega (arith, c .before .before .before .before .before .before .before .before .shared-slice-known .given i) in
+    let s = sound-searchable (a .h .size) (a .h .dimension) (a .h .count) (a .m .now) (start .pre .0 .sound) bytes in
+    omega (arith, counting-few s (own .opened) (own .i) (leaf .result) (own .inv .0) (leaf .ensures), s .readable .rows, s .readable .room .1)
 
 loop-less : tie.Need-loop-less Inv-loop μ-loop
 loop-less c = let more = c .before .before .before .before .before .loop-test .taken in omega (arith, c .before .before .before .next-leaf .ensures .next .further more)
@@ -64,7 +67,7 @@ loop-again c =
     let own = c .before .before .before .before .before .before .loop in
     let leaf = c .before .before .before .next-leaf in
     let bytes : Bytes (a .m .now) = λ i. omega (arith, c .before .before .before .before .before .before .before .before .shared-slice-known .given i) in (
-      counting-leaf (own .opened) (own .i) (leaf .result) (own .inv .0) (c .before .before .before .before .before .loop-test .taken) (leaf .ensures),
+      counting-leaf (own .opened) (own .i) (leaf .result) (own .inv .0) (leaf .ensures),
       leaf-enters (a .h .size) (a .h .dimension) (a .h .count) (a .m .now) (start .pre .0 .sound) bytes (a .k) (leaf .result) (own .inv .1) (leaf .ensures) (c .before .find-in-leaf .ensures),
     )
 
