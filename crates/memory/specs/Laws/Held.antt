@@ -14,11 +14,12 @@ use Rattle.model.specs.Moves.{Move, ordered}
 use Rattle.model.specs.Lists.{hidden, skyline}
 use Rattle.model.specs.Calls.{memoryNeed}
 use Rattle.model.specs.Sound.{Fit}
-use Rattle.model.specs.Tree.{Tree}
+use Rattle.model.specs.Tree.{Tree, movesOf}
 use Rattle.model.specs.Laws.Loading.{size-most}
 use Rattle.model.specs.Laws.Bool.{and-left, and-right, not-back}
 use Rattle.model.specs.Laws.Basics.{mem-at, select-same, each-mem, any-false, any-select}
 use Rattle.line.specs.Line.{Placed, lineOf, movesIn}
+use Rattle.line.specs.Laws.Line.{moves-line}
 use Rattle.promises.specs.Layout.{sizeIn, dimensionIn, countIn, numberIn, markIn, moveIn, placedIn, tab, lineFrom, lineIn, boardIn, keptFrom, keptIn}
 use Rattle.promises.specs.Sound.{Stands, Sound}
 use Rattle.promises.specs.Run.{Bytes}
@@ -79,6 +80,9 @@ module _ (c d n : ℕ) (m : List ℕ) (s : SoundAt c d n m) where
   -- The line is that of every tree that stands there.
   pub held-line : (t : Tree) → Stands m t → lineFrom c d n m ≡ lineOf t
   held-line t x = sym (lineIn-line c d n m (sym (s .size)) (sym (s .dimension)) (sym (s .count))) ∙ x .line
+
+  pub held-moves : (t : Tree) → Stands m t → movesIn (lineFrom c d n m) ≡ movesOf t
+  held-moves t x = ap movesIn (held-line t x) ∙ moves-line t
 
   pub held-order : ordered d (movesIn (lineFrom c d n m)) ≡ true
   unfolding boardIn lineIn

@@ -25,7 +25,7 @@ use Rattle.model.specs.Laws.Opening.{Downward, Upward, corners-downward}
 use Rattle.line.specs.Line.{Placed, none, movesIn, heightsIn}
 use Rattle.line.specs.Places.{moveAt, heightAt, nodeEnd}
 use Rattle.line.specs.Search.{nodeFrom, openedFrom, openedPast}
-use Rattle.line.specs.Laws.Line.{WholeTree, tree-whole, moves-line}
+use Rattle.line.specs.Laws.Line.{WholeTree, tree-whole}
 use Rattle.line.specs.Laws.Places.{height-among, length-heights, end-high}
 use Rattle.line.specs.Laws.Opened.{first-node, last-node, node-in, node-under, first-height, opened-all, opened-few, opened-end, opened-upper, opened-leaf, opened-passed}
 use Rattle.promises.specs.Layout.{dimensionIn, heightPlace, heightIn, moveIn, placedIn, lineFrom}
@@ -34,7 +34,7 @@ use Rattle.promises.specs.Sound.{Stands}
 use Rattle.promises.specs.Run.{Bytes}
 use Rattle.memory.specs.Room.{ReadableRows, Ordered}
 use Rattle.memory.specs.Tests.{anyTo, isListed}
-use Rattle.memory.specs.Laws.Held.{held-readable, held-line, held-order, held-ordered, held-any, held-fit, held-fit-at}
+use Rattle.memory.specs.Laws.Held.{held-readable, held-line, held-moves, held-order, held-ordered, held-any, held-fit, held-fit-at}
 use Rattle.memory.specs.Laws.Places.{anyTo-mono, anyTo-ext}
 use Rattle.memory.specs.Laws.Lines.{length-line, moveAt-line, heightAt-line}
 use Rattle.tree.specs.Rows.{NodeEnd}
@@ -320,5 +320,5 @@ list-opened {c} {d} {n} {m} s b opened i w h =
           counting-all opened i w h
           ∙ opened-nodes n s t x
           ∙ (λ j. count (λ z. opens-list (sound-searchable c d n m s b) z j) (nodesOf t))
-          ∙ ap (λ (ms : List Move). count (opens d ms) (nodesOf t)) (ap movesIn (held-line c d n m s t x) ∙ moves-line t);
+          ∙ ap (λ (ms : List Move). count (opens d ms) (nodesOf t)) (held-moves c d n m s t x);
     }

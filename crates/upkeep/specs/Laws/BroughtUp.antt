@@ -27,7 +27,6 @@ use Rattle.model.specs.Laws.Nodes.{NodeIn, node-near, node-far}
 use Rattle.model.specs.Laws.Opening.{dominates-or-equals, far-corner-row, brought-up-counts}
 use Rattle.line.specs.Line.{movesIn}
 use Rattle.line.specs.Search.{openedPast}
-use Rattle.line.specs.Laws.Line.{moves-line}
 use Rattle.promises.specs.Layout.{numberIn, moveIn, lineFrom}
 use Rattle.promises.specs.Sound.{Stands}
 use Rattle.promises.specs.Run.{Bytes}
@@ -35,7 +34,7 @@ use Rattle.memory.specs.Held.{SoundAt}
 use Rattle.memory.specs.Tests.{anyTo, isListed}
 use Rattle.memory.specs.Laws.Places.{anyTo-ext}
 use Rattle.memory.specs.Laws.Lines.{moveAt-line}
-use Rattle.memory.specs.Laws.Held.{held-dimension, held-line, held-order, held-any, held-listed, held-fit, held-fit-at, held-distinct}
+use Rattle.memory.specs.Laws.Held.{held-dimension, held-moves, held-order, held-any, held-listed, held-fit, held-fit-at, held-distinct}
 use Rattle.tree.specs.Search.{cornerDominated, goesWithin, opensAt, Passed, LeafFrom}
 use Rattle.tree.specs.Laws.Search.{Counting, counting-all, opened-nodes}
 use Rattle.tree.specs.declared.nodes.Leaf.{Leaf}
@@ -49,9 +48,6 @@ use Rattle.upkeep.specs.declared.entering.Entered.{Entered}
 module _ (c d n : ℕ) (m : List ℕ) (s : SoundAt c d n m) (b : Bytes m) where
   abbrev before : List Move
   before = movesIn (lineFrom c d n m)
-
-  tree-moves : (t : Tree) → Stands m t → before ≡ movesOf t
-  tree-moves t x = ap movesIn (held-line c d n m s t x) ∙ moves-line t
 
   on-line : (i : ℕ) → i < n → List·Memᴰ (moveIn c d m i) before
   on-line i l = subst (List·Memᴰ (moveIn c d m i)) (sym (line-places c d n m)) (Memᴰ·map (moveIn c d m) (below-place n i l))
@@ -114,14 +110,14 @@ module _ (c d n : ℕ) (m : List ℕ) (s : SoundAt c d n m) (b : Bytes m) where
           ∙ count-ext (opensAt c d g n m) (opensFor d (skyline d before) number) (nodesOf t)
           (mem-each (λ z. opensAt c d g n m z ≡ opensFor d (skyline d before) number z) (nodesOf t) (λ z _. opens-counts z))
           ∙ sym (ap (λ (t' : Bool). cond t' (count (opensFor d (skyline d before) number) (nodesOf t)) 0) (number-listed ∙ e))
-          ∙ ap (λ (ms : List Move). cond (onBoard number (skyline d ms)) (count (opensFor d (skyline d ms) number) (nodesOf t)) 0) (tree-moves t x)
+          ∙ ap (λ (ms : List Move). cond (onBoard number (skyline d ms)) (count (opensFor d (skyline d ms) number) (nodesOf t)) 0) (held-moves c d n m s t x)
 
     -- A move that is not listed opens none.
     pub unlisted-counts : isListed c m g ≡ false → (t : Tree) → Stands m t → 0 ≡ withdrawOpens d (numberIn c m g) t
     unfolding withdrawOpens
     unlisted-counts e t x =
         sym (ap (λ (u : Bool). cond u (count (opensFor d (skyline d (movesOf t)) number) (nodesOf t)) 0)
-        (ap (λ (ms : List Move). onBoard number (skyline d ms)) (sym (tree-moves t x)) ∙ number-listed ∙ e))
+        (ap (λ (ms : List Move). onBoard number (skyline d ms)) (sym (held-moves c d n m s t x)) ∙ number-listed ∙ e))
 
   module _ (k : Change) (j : ℕ) (h : j < n) (e : entersAt c d n k m j ≡ true) where
     abbrev g : ℕ
