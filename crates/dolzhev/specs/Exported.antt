@@ -6,7 +6,7 @@ use lib.ListN.{length}
 use Rattle.model.specs.Moves as model
 use Rattle.model.specs.Calls as calls
 use Rattle.promises.specs.Answers.{numberOf, detailOf, resultRow}
-use Rattle.promises.specs.Promise.{LoadPromise, ChangePromise, QueryPromise}
+use Rattle.promises.specs.Promise.{LoadPromise, ChangePromise, PreviewPromise, QueryPromise}
 use Rattle.promises.specs.declared.Answer as said
 use Rattle.promises.specs.declared.Verdict.{Verdict}
 use Rattle.upkeep.specs.Telling.{TellingAsked, filledRows}
@@ -15,6 +15,7 @@ use Rattle.rows.specs.declared.Row.{Row}
 use Rattle.board.specs.Plan.{Able, CarriedOut}
 use Rattle.upkeep.specs.declared.plan.Plan.{Plan}
 use Rattle.dolzhev.specs.declared.answer.Answer.{Answer}
+use Rattle.dolzhev.specs.declared.answer.Move.{Move}
 
 -- A verdict handed on: its number and detail, and what is told.
 pub record Handed (v : Verdict) (told nodes : ℕ) (r : Answer) : Type 0 where
@@ -27,6 +28,13 @@ pub record Handed (v : Verdict) (told nodes : ℕ) (r : Answer) : Type 0 where
 unfoldable pub rowsOf : List Row → List model.Row
 rowsOf rows = map resultRow (map rowNumbers rows)
 
+-- The changes that are given a move.
+abbrev pub entering : Move → calls.Change
+entering given = calls.enter (given .number) (given .block) (given .costs)
+
+abbrev pub recosting : Move → calls.Change
+recosting given = calls.recost (given .number) (given .block) (given .costs)
+
 -- ---- what is promised
 
 pub record LoadExported (c d : ℕ) (rows : List model.InputRow) (m : List ℕ) (r : Answer) (m' : List ℕ) : Type 0 where
@@ -38,6 +46,11 @@ pub record ChangeExported (x : calls.Change) (m : List ℕ) (lent : List model.R
   pub answer : said.Answer
   pub handed : Handed (answer .verdict) (answer .count) (answer .opened) r
   pub promise : ChangePromise x m lent answer m' lent'
+
+pub record PreviewExported (x : calls.Change) (m : List ℕ) (lent : List model.Row) (r : Answer) (lent' : List model.Row) : Type 0 where
+  pub answer : said.Answer
+  pub handed : Handed (answer .verdict) (answer .count) (answer .opened) r
+  pub promise : PreviewPromise x m lent answer lent'
 
 pub record QueryExported (q : calls.Query) (m : List ℕ) (lent : List model.Row) (r : Answer) (lent' : List model.Row) : Type 0 where
   pub answer : said.Answer

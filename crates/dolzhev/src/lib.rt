@@ -5,6 +5,8 @@ mod change;
 mod lists;
 mod load;
 mod open;
+mod plans;
+mod preview;
 mod ranked;
 
 pub use answer::Answer;
@@ -18,4 +20,7 @@ pub use lists::dolzhev_list;
 pub use lists::dolzhev_on_k;
 pub use load::dolzhev_load;
 pub use open::dolzhev_hours;
+pub use preview::dolzhev_preview_enter;
+pub use preview::dolzhev_preview_recost;
+pub use preview::dolzhev_preview_withdraw;
 pub use ranked::dolzhev_rank;

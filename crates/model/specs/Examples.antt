@@ -1,4 +1,4 @@
--- Computed examples of the tree's rules, the notice and the hours, beside document 01's own cases (d = 2), and of eight costs.
+-- Computed examples of the tree's rules, the notice, previews and the hours, beside document 01's own cases (d = 2), and of eight costs.
 use Prim.Native.Nat.{ℕ, zero, suc, _+_, _-_, _*_, _^_}
 use mathlib.Core.Bool.{true, false, cond}
 use mathlib.Core.List.{List, [], _∷_, _++_, map, flatMap}
@@ -15,9 +15,10 @@ use Rattle.model.specs.Loading.{loadTree}
 use Rattle.model.specs.Entering.{enterTree}
 use Rattle.model.specs.Withdrawing.{enterAll, withdrawTree, recostTree}
 use Rattle.model.specs.Nodes.{nodesOpened}
-use Rattle.model.specs.Lists.{skyline, band, rank}
+use Rattle.model.specs.Lists.{skyline, band, rank, listedRows}
 use Rattle.model.specs.Hours.{Window, Hours, openIn, noHours}
-use Rattle.model.specs.Calls.{Board, loaded, enter, withdraw, recost, changedMoves, changed, changesNothing, chosenQuery, hoursQuery, queryRefusal, queryRows}
+use Rattle.model.specs.Calls.{Board, accepted, loaded, enter, withdraw, recost, changedMoves, changed, changesNothing, listOf, changeNotice, chosenQuery, hoursQuery, queryRefusal, queryRows}
+use Rattle.model.specs.Holder.{Call, change, preview, Event, isAccepted, plainNext, marked, putIn, takeOut, followed, heldAfter}
 use Rattle.model.specs.Computing.{computing}
 use Rattle.model.specs.Cases.{pair, move, numbers, marks, notices}
 
@@ -121,6 +122,19 @@ chain-notices : map (λ c. notices chain (c ∷ [])) (withdraw 0 ∷ recost 0 0 
     ≡ ((1 ∷ 0 ∷ 2 ∷ 1 ∷ []) ∷ []) ∷ ([] ∷ []) ∷ ((1 ∷ 0 ∷ 2 ∷ 1 ∷ []) ∷ []) ∷ []
 unfolding showing chain
 chain-notices = refl
+
+-- ---- previews
+
+-- The withdrawal of 0 made or only looked at, with the same rows told.
+seen : Call → Event
+seen c = record { call = c; lent = 2; answer = accepted; rows = changeNotice chain (withdraw 0) }
+
+-- The moves on the plain board, then the rows of one who held the list: 1 and 2, and 1 listed; after the preview all three, and 0
+-- listed.
+preview-passed : map (λ c. numbers (plainNext chain c 2 .moves) ++ marks (heldAfter 2 (listedRows (listOf chain)) (seen c) c)) (change (withdraw 0) ∷ preview (withdraw 0) ∷ [])
+    ≡ (1 ∷ 2 ∷ 0 ∷ 1 ∷ []) ∷ (0 ∷ 1 ∷ 2 ∷ 0 ∷ 0 ∷ []) ∷ []
+unfolding showing chain seen isAccepted plainNext marked putIn takeOut followed heldAfter
+preview-passed = refl
 
 -- ---- twins
 

@@ -20,6 +20,7 @@ pub mod Nodes
 pub mod Numbers
 pub mod Notice
 pub mod Holder
+pub mod Previews
 pub mod Changes
 pub mod TwinChanges
 pub mod Opening

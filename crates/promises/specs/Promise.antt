@@ -55,15 +55,24 @@ pub record QueryPromise (q : Query) (m : List ℕ) (lent : List Row) (r : Answer
   pub sound : (s : Sound m) → QuerySaid q (boardIn m) (queryOpens (dimensionIn m) q (s .tree)) lent r lent'
   pub unsound : (Sound m → ⊥) → UnsoundSaid lent r lent'
 
--- Enter, withdraw and re-cost. A re-cost with equal costs writes no byte but its number's block.
-abbrev pub ChangeSaid : Change → Board → ℕ → List Row → Answer → List Row → Type 0
-ChangeSaid x b nodes lent = Said (changeAnswer b x (length lent)) (changeNotice b x) nodes lent
+-- Enter, withdraw and re-cost: what is said of a change, be it made or previewed.
+abbrev pub SaidOf : Change → Board → ℕ → List Row → Answer → List Row → Type 0
+SaidOf x b nodes lent = Said (changeAnswer b x (length lent)) (changeNotice b x) nodes lent
 
+pub record ChangeSaid (x : Change) (m : List ℕ) (lent : List Row) (r : Answer) (lent' : List Row) : Type 0 where
+  pub sound : (s : Sound m) → SaidOf x (boardIn m) (changeOpens (dimensionIn m) x (s .tree)) lent r lent'
+  pub unsound : (Sound m → ⊥) → UnsoundSaid lent r lent'
+
+-- The call. A re-cost with equal costs writes no byte but its number's block.
 pub record ChangePromise (x : Change) (m : List ℕ) (lent : List Row) (r : Answer) (m' : List ℕ) (lent' : List Row) : Type 0 where
-  pub sound : (s : Sound m) → ChangeSaid x (boardIn m) (changeOpens (dimensionIn m) x (s .tree)) lent r lent'
+  pub said : ChangeSaid x m lent r lent'
   pub left :
       (s : Sound m)
       → MemoryAfter (changeWrites (sizeIn m) x) (numberOf (r .verdict)) m m' (changed (boardIn m) x) (changeTree (dimensionIn m) x (s .tree))
   pub alone : Sound m → keepsMoves (boardIn m) x ≡ true → (i : ℕ) → blockWrites (sizeIn m) x i ≡ false → getD m' i 0 ≡ getD m i 0
   pub nothing : Sound m → changesNothing (boardIn m) x ≡ true → m' ≡ m
-  pub unsound : (Sound m → ⊥) → UnsoundSaid lent r lent' × (m' ≡ m)
+  pub unsound : (Sound m → ⊥) → m' ≡ m
+
+-- Its preview (Card 2). The memory is lent for reading only.
+pub record PreviewPromise (x : Change) (m : List ℕ) (lent : List Row) (r : Answer) (lent' : List Row) : Type 0 where
+  pub said : ChangeSaid x m lent r lent'

@@ -7,9 +7,9 @@ use lib.ListN.{length, take, getD}
 use Rattle.model.specs.Moves.{InputRow, Row}
 use Rattle.model.specs.Calls as calls
 use Rattle.model.specs.Calls.{Change, list, loaded}
-use Rattle.model.specs.Holder.{change, listCall, other, Event, Demand3}
+use Rattle.model.specs.Holder.{change, preview, listCall, other, Event, Demand3}
 use Rattle.promises.specs.Answers.{answerOf, numberOf}
-use Rattle.promises.specs.Promise.{LoadPromise, QueryPromise, ChangePromise}
+use Rattle.promises.specs.Promise.{LoadPromise, QueryPromise, ChangePromise, PreviewPromise}
 use Rattle.promises.specs.declared.Verdict.{Verdict}
 use Rattle.promises.specs.declared.Answer.{Answer}
 
@@ -21,6 +21,7 @@ Bytes m = (i : ℕ) → getD m i 0 < 256
 -- call that leaves the memory, whatever it answers.
 pub data Step : List ℕ → List ℕ → Type 0 where
   changes : (x : Change) (lent lent' : List Row) (r : Answer) {m m' : List ℕ} → Bytes m' → ChangePromise x m lent r m' lent' → Step m m'
+  previews : (x : Change) (lent lent' : List Row) (r : Answer) {m : List ℕ} → PreviewPromise x m lent r lent' → Step m m
   lists : (lent lent' : List Row) (r : Answer) {m : List ℕ} → QueryPromise list m lent r lent' → Step m m
   loadRefused : (c d : ℕ) (rows : List InputRow) (v : Verdict) {m m' : List ℕ} → LoadPromise c d rows m v m' → (numberOf v ≡ 0 → ⊥) → Step m m'
   leaves : (answer : calls.Answer) {m : List ℕ} → Step m m
@@ -34,6 +35,8 @@ pub data Steps : List ℕ → List ℕ → Type 0 where
 unfoldable pub eventOf : {m m' : List ℕ} → Step m m' → Event
 eventOf (changes x lent lent' r bytes p) =
     record { call = change x; lent = length lent; answer = answerOf (r .verdict); rows = take (r .count) lent' }
+eventOf (previews x lent lent' r p) =
+    record { call = preview x; lent = length lent; answer = answerOf (r .verdict); rows = take (r .count) lent' }
 eventOf (lists lent lent' r p) =
     record { call = listCall; lent = length lent; answer = answerOf (r .verdict); rows = take (r .count) lent' }
 eventOf (loadRefused c d rows v p refused) = record { call = other; lent = 0; answer = answerOf v; rows = [] }

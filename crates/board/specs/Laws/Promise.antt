@@ -16,14 +16,20 @@ use Rattle.promises.specs.Layout.{sizeIn, dimensionIn, boardIn}
 use Rattle.promises.specs.Sound.{Sound}
 use Rattle.promises.specs.Answers.{answerOf, numberOf, resultRow}
 use Rattle.promises.specs.Written.{blockWrites, changeWrites}
-use Rattle.promises.specs.Promise.{MemoryAfter, ChangePromise}
+use Rattle.promises.specs.Promise.{MemoryAfter, ChangeSaid, ChangePromise}
 use Rattle.upkeep.specs.Telling.{toldRows}
-use Rattle.upkeep.specs.Planned.{answerIn, Plans}
+use Rattle.upkeep.specs.Planned.{answerIn}
 use Rattle.upkeep.specs.Laws.Planned.{plans-said, plans-unsaid}
 use Rattle.upkeep.specs.declared.plan.Plan.{Plan}
 use Rattle.board.specs.Change.{Made}
 use Rattle.board.specs.Plan.{CarriedOut, Planned}
 use Rattle.board.specs.Laws.Give.{kept-given, given-alone, given-again}
+
+-- A plan that is told says what is said of its change, carried out or not.
+pub plan-said : {x : calls.Change} {m : List ℕ} {p : Plan} (rows rows' : List Row) → Planned x m (length rows) p → rows' ≡ map resultRow (toldRows (p .telling) m) ++ drop (p .count) rows
+    → ChangeSaid x m rows (answerIn p) rows'
+plan-said rows rows' plan tells =
+    record { sound = plans-said (plan .moves .plans) rows rows' tells; unsound = plans-unsaid (plan .moves .plans) rows rows' tells }
 
 module _ {x : calls.Change} {m m' : List ℕ} {lent : ℕ} {p : Plan} (plan : Planned x m lent p) (out : CarriedOut p m m') where
   -- A refused plan makes nothing.
@@ -77,11 +83,10 @@ module _ {x : calls.Change} {m m' : List ℕ} {lent : ℕ} {p : Plan} (plan : Pl
       → ChangePromise x m rows (answerIn p) m' rows'
   unfolding numberOf
   plan-promise rows rows' enough tells =
-      let plans = subst (λ (n : ℕ). Plans (changeAnswer (boardIn m) x n) (changeNotice (boardIn m) x) (changeOpens (dimensionIn m) x) m lent p) enough (plan .moves .plans) in
       record {
-        sound = plans-said plans rows rows' tells;
+        said = plan-said rows rows' (subst (λ (n : ℕ). Planned x m n p) enough plan) tells;
         left = plan-left (numberOf (p .verdict)) refl;
         alone = plan-alone;
         nothing = plan-nothing;
-        unsound = λ bad. (plans-unsaid plans rows rows' tells bad, refused-idle (omega (arith, ap numberOf (plans .answered .unsound bad))));
+        unsound = λ bad. refused-idle (omega (arith, ap numberOf (plan .moves .plans .answered .unsound bad)));
       }

@@ -1,4 +1,4 @@
--- A plan told and carried out, or a list planned and told, keeps the exported promise.
+-- A plan told and carried out, one that is told alone, or a list planned and told, keeps the exported promise.
 use Prim.Native.Nat.{ℕ, _≤_, _<_}
 use mathlib.Core.List.{List, _++_, map}
 use mathlib.Core.Path.{_≡_, sym, ap, _∙_, subst}
@@ -14,9 +14,9 @@ use Rattle.upkeep.specs.declared.plan.Plan.{Plan}
 use Rattle.upkeep.specs.declared.telling.Telling.{Telling}
 use Rattle.rows.specs.Rows.{rowNumbers}
 use Rattle.rows.specs.declared.Row.{Row}
-use Rattle.board.specs.Laws.Promise.{plan-promise}
+use Rattle.board.specs.Laws.Promise.{plan-said, plan-promise}
 use Rattle.board.specs.Plan.{Planned}
-use Rattle.dolzhev.specs.Exported.{Handed, rowsOf, ChangeExported, QueryExported, DoneAsked, Done}
+use Rattle.dolzhev.specs.Exported.{Handed, rowsOf, ChangeExported, PreviewExported, QueryExported, DoneAsked, Done}
 use Rattle.dolzhev.specs.declared.answer.Answer.{Answer}
 
 rows-length : (lent : List Row) → length (rowsOf lent) ≡ length lent
@@ -44,6 +44,20 @@ module _ {x : calls.Change} {m : List ℕ} {lent : List Row} {p : Plan} (plan : 
             plan-promise plan (d .out) (rowsOf lent) (rowsOf lent') (sym (rows-length lent))
             (rows-filled (p .telling) m lent lent' (p .count) (plan .moves .plans .asked) (plan .moves .plans .told) (plan .moves .plans .answered .enough) (d .tells));
       }
+
+pub preview-exported : {x : calls.Change} {m : List ℕ} (lent lent' : List Row) {p : Plan} {r : Answer} → Planned x m (length lent) p
+    → map rowNumbers lent' ≡ filledRows (p .telling) m (p .count) (map rowNumbers lent) → Handed (p .verdict) (p .count) (p .opened) r → PreviewExported x m (rowsOf lent) r (rowsOf lent')
+preview-exported {x} {m} lent lent' {p} plan e h =
+    record {
+      answer = answerIn p;
+      handed = h;
+      promise =
+          record {
+            said =
+                plan-said (rowsOf lent) (rowsOf lent') (subst (λ (n : ℕ). Planned x m n p) (sym (rows-length lent)) plan)
+                (rows-filled (p .telling) m lent lent' (p .count) (plan .moves .plans .asked) (plan .moves .plans .told) (plan .moves .plans .answered .enough) e);
+          };
+    }
 
 pub query-exported : {q : calls.Query} {m : List ℕ} (lent lent' : List Row) {p : Plan} {r : Answer} → QueryPlanned q m (length lent) p
     → map rowNumbers lent' ≡ filledRows (p .telling) m (p .count) (map rowNumbers lent) → Handed (p .verdict) (p .count) (p .opened) r → QueryExported q m (rowsOf lent) r (rowsOf lent')

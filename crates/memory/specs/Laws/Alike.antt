@@ -2,7 +2,7 @@
 use Prim.Native.Nat.{ℕ}
 use mathlib.Core.List.{List}
 use mathlib.Core.Logic.{_⊎_, inl, inr, ⊎-elim}
-use mathlib.Core.Path.{_≡_, sym, ap, _∙_, subst}
+use mathlib.Core.Path.{_≡_, refl, sym, ap, _∙_, subst}
 use Rattle.model.specs.Tree.{Tree}
 use Rattle.model.specs.Calls.{Board}
 use Rattle.model.specs.Sound.{BlocksFit}
@@ -22,6 +22,9 @@ use Rattle.memory.specs.Laws.Front.{one-tree}
 pub record Alike (m m' : List ℕ) : Type 0 where
   pub board : boardIn m' ≡ boardIn m
   pub trees : (t : Tree) → (Stands m t → Stands m' t) × (Stands m' t → Stands m t)
+
+pub same-alike : (m : List ℕ) → Alike m m
+same-alike m = record { board = refl; trees = λ t. (λ s. s, λ s. s) }
 
 pub used-alike : (m m' : List ℕ) → SameInUse m m' → Alike m m'
 used-alike m m' same = record { board = used-board m m' same; trees = used-alone m m' same }

@@ -1,4 +1,4 @@
--- No answer depends on bytes not in use: what two calls say, from their promises alone.
+-- No answer depends on bytes not in use, and a preview says what the call would: what two calls say, from their promises alone.
 use Prim.Native.Nat.{ℕ, zero, suc}
 use mathlib.Core.Bool.{Bool, cond}
 use mathlib.Core.List.{List, map}
@@ -16,12 +16,12 @@ use Rattle.promises.specs.Layout.{sizeIn, dimensionIn, boardIn}
 use Rattle.promises.specs.Written.{changeWrites, loadWrites}
 use Rattle.promises.specs.Used.{SameInUse}
 use Rattle.promises.specs.Answers.{answerOf, numberOf, detailOf, counted, rowsAfter}
-use Rattle.promises.specs.Promise.{MemoryAfter, LoadPromise, Said, QuerySaid, QueryPromise, ChangeSaid, ChangePromise}
+use Rattle.promises.specs.Promise.{MemoryAfter, LoadPromise, Said, QuerySaid, QueryPromise, SaidOf, ChangeSaid, ChangePromise, PreviewPromise}
 use Rattle.promises.specs.Run.{Bytes}
 use Rattle.promises.specs.declared.Verdict.{Verdict}
 use Rattle.promises.specs.declared.Verdict.the-variants.{Accepted, ShortMemory, OutOfRange, Unsound, NumberTooLarge, NumberTwice, NumberAbsent, BadArgument, FewRows, BlockTooLarge, BadHours}
 use Rattle.promises.specs.declared.Answer.{Answer}
-use Rattle.memory.specs.Laws.Alike.{Alike, used-alike, holding-alike, alike-dimension, alike-sound, by-soundness}
+use Rattle.memory.specs.Laws.Alike.{Alike, same-alike, used-alike, holding-alike, alike-dimension, alike-sound, by-soundness}
 
 -- ---- what is said
 
@@ -93,15 +93,16 @@ module _ {m n : List ℕ} (bytes : Bytes m) (alike : Alike m n) {lent lent' lent
       (subst₂ (λ (b : Board) (d : ℕ). QuerySaid q b (queryOpens d q (k .tree)) lent s lent'') (alike .board) (alike-dimension alike) (p' .sound (alike-sound alike k))))
       (λ f f'. said-same (p .unsound f) (p' .unsound f'))
 
-  module _ (x : Change) {m' n' : List ℕ} (p : ChangePromise x m lent r m' lent') (p' : ChangePromise x n lent s n' lent'') where
-    change-alone : (s ≡ r) × (lent'' ≡ lent')
-    change-alone =
-        by-soundness alike bytes
-        (λ k.
-        said-same (p .sound k)
-        (subst₂ (λ (b : Board) (d : ℕ). ChangeSaid x b (changeOpens d x (k .tree)) lent s lent'') (alike .board) (alike-dimension alike) (p' .sound (alike-sound alike k))))
-        (λ f f'. said-same (p .unsound f .0) (p' .unsound f' .0))
+  -- A change, be it made or previewed.
+  change-alone : (x : Change) → ChangeSaid x m lent r lent' → ChangeSaid x n lent s lent'' → (s ≡ r) × (lent'' ≡ lent')
+  change-alone x p p' =
+      by-soundness alike bytes
+      (λ k.
+      said-same (p .sound k)
+      (subst₂ (λ (b : Board) (d : ℕ). SaidOf x b (changeOpens d x (k .tree)) lent s lent'') (alike .board) (alike-dimension alike) (p' .sound (alike-sound alike k))))
+      (λ f f'. said-same (p .unsound f) (p' .unsound f'))
 
+  module _ (x : Change) {m' n' : List ℕ} (p : ChangePromise x m lent r m' lent') (p' : ChangePromise x n lent s n' lent'') where
     change-alike : Alike m' n'
     change-alike =
         by-soundness alike bytes
@@ -110,8 +111,8 @@ module _ {m n : List ℕ} (bytes : Bytes m) (alike : Alike m n) {lent lent' lent
         (p .left k)
         (subst₃
         (λ (v : Verdict) (b : Board) (d : ℕ). MemoryAfter (changeWrites (sizeIn n) x) (numberOf v) n n' (changed b x) (changeTree d x (k .tree)))
-        (ap (λ (a : Answer). a .verdict) (change-alone .0)) (alike .board) (alike-dimension alike) (p' .left (alike-sound alike k))))
-        (λ f f'. same-memory alike m' n' (p .unsound f .1) (p' .unsound f' .1))
+        (ap (λ (a : Answer). a .verdict) (change-alone x (p .said) (p' .said) .0)) (alike .board) (alike-dimension alike) (p' .left (alike-sound alike k))))
+        (λ f f'. same-memory alike m' n' (p .unsound f) (p' .unsound f'))
 
 -- ---- the whole
 
@@ -121,6 +122,8 @@ pub record SameAnswers (m n : List ℕ) : Type 0 where
   pub loads : (c d : ℕ) (rows : List InputRow) (v w : Verdict) (m' n' : List ℕ) → length n ≡ length m → LoadPromise c d rows m v m' → LoadPromise c d rows n w n'
       → (w ≡ v) × Alike m' n'
   pub queries : (q : Query) (lent lent' lent'' : List Row) (r s : Answer) → QueryPromise q m lent r lent' → QueryPromise q n lent s lent'' → (s ≡ r) × (lent'' ≡ lent')
+  pub previews : (x : Change) (lent lent' lent'' : List Row) (r s : Answer) → PreviewPromise x m lent r lent' → PreviewPromise x n lent s lent''
+      → (s ≡ r) × (lent'' ≡ lent')
   pub changes : (x : Change) (lent lent' lent'' : List Row) (r s : Answer) (m' n' : List ℕ) → ChangePromise x m lent r m' lent' → ChangePromise x n lent s n' lent''
       → (s ≡ r) × (lent'' ≡ lent') × Alike m' n'
 
@@ -129,8 +132,14 @@ alike-answers m n bytes alike =
     record {
       loads = λ c d rows v w m' n' same p p'. (load-alone c d rows alike p p' same, load-alike c d rows alike p p' same);
       queries = λ q lent lent' lent'' r s p p'. query-alone bytes alike q p p';
-      changes = λ x lent lent' lent'' r s m' n' p p'. let same = change-alone bytes alike x p p' in (same .0, same .1, change-alike bytes alike x p p');
+      previews = λ x lent lent' lent'' r s p p'. change-alone bytes alike x (p .said) (p' .said);
+      changes = λ x lent lent' lent'' r s m' n' p p'. let same = change-alone bytes alike x (p .said) (p' .said) in (same .0, same .1, change-alike bytes alike x p p');
     }
 
 pub answers-alone : (m n : List ℕ) → Bytes m → SameInUse m n → SameAnswers m n
 answers-alone m n bytes same = alike-answers m n bytes (used-alike m n same)
+
+-- Card 2: a preview answers, counts, opens and tells what the call does on the same memory with the same rows lent.
+pub preview-equal : (x : Change) (m : List ℕ) → Bytes m → {m' : List ℕ} {lent lent' lent'' : List Row} {r s : Answer} → PreviewPromise x m lent r lent' → ChangePromise x m lent s m' lent''
+    → (r ≡ s) × (lent' ≡ lent'')
+preview-equal x m bytes p c = change-alone bytes (same-alike m) x (c .said) (p .said)

@@ -13,7 +13,7 @@ use Rattle.model.specs.Lists.{hidden, skyline, listedRows}
 use Rattle.model.specs.Notice.{missing, noticeOf}
 use Rattle.model.specs.Calls.{Board, Change, changed, listOf, changeNotice}
 use Rattle.model.specs.Sound.{Fit, SoundBoard}
-use Rattle.model.specs.Holder.{Call, change, listCall, other, Event, isAccepted, plainNext, Answered, marked, putIn, takeOut, followed, heldAfter, HoldsList, Starts, Demand3}
+use Rattle.model.specs.Holder.{Call, change, preview, listCall, other, Event, isAccepted, plainNext, Answered, marked, putIn, takeOut, followed, heldAfter, HoldsList, Starts, Demand3}
 use Rattle.model.specs.Laws.Bool.{cond-map}
 use Rattle.model.specs.Laws.Basics.{Once, mem-each, each-select, each-map, select-append, select-all, select-none}
 use Rattle.model.specs.Laws.Sorting.{insert-mem, mem-insert-new, mem-insert-old, each-insert, rising-insert, rising-select, rising-once, rising-ext}
@@ -194,6 +194,7 @@ change-held b x false s r = nothing-followed (b .dimension) (listedRows (listOf 
 -- An accepted list call tells the list.
 unfoldable pub Reads : Board → Event → Call → Type 0
 Reads b e (change x) = Unit {0}
+Reads b e (preview x) = Unit {0}
 Reads b e listCall = isAccepted (e .answer) ≡ true → e .rows ≡ listedRows (listOf b)
 Reads b e other = Unit {0}
 
@@ -217,6 +218,7 @@ keeps-holds b (e ∷ es) k =
 keeps-starts : (b : Board) (e : Event) (c : Call) (es : List Event) → Reads b e c → EachKeeps (plainNext b c (e .lent)) es → Starts b e c es
 unfolding Starts Reads plainNext
 keeps-starts b e (change x) es r k = tt
+keeps-starts b e (preview x) es r k = tt
 keeps-starts b e listCall es r k = λ a. subst (λ (held : List Row). HoldsList b held es) (sym (r a)) (keeps-holds b es k)
 keeps-starts b e other es r k = tt
 

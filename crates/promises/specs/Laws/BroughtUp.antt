@@ -1,5 +1,5 @@
--- Card 1, of a withdrawal that keeps its promise: every move that it tells as entered lies, in the tree before it, under nodes that
--- its count counts, and under no other.
+-- Card 1, of what is said of a withdrawal, be it made or previewed: every move that is told as entered lies, in the tree before it,
+-- under nodes that the count counts, and under no other.
 use Prim.Native.Nat.{ℕ}
 use mathlib.Core.Bool.{Bool, true, false, cond}
 use mathlib.Core.List.{List, [], List·Memᴰ, List·Memᴰ·not-nil}
@@ -16,7 +16,7 @@ use Rattle.model.specs.Laws.Opening.{brought-up-opened}
 use Rattle.promises.specs.Layout.{dimensionIn, boardIn}
 use Rattle.promises.specs.Sound.{Sound}
 use Rattle.promises.specs.Answers.{answerOf}
-use Rattle.promises.specs.Promise.{ChangePromise}
+use Rattle.promises.specs.Promise.{ChangeSaid}
 use Rattle.promises.specs.Run.{Bytes}
 use Rattle.promises.specs.Laws.Stands.{stands-moves, sound-board}
 use Rattle.promises.specs.Laws.Demand3.{said-rows}
@@ -27,7 +27,7 @@ told-accepted : {r : Row} (accepted : Bool) (rows : List Row) → List·Memᴰ r
 told-accepted true rows k = k
 told-accepted false rows k = absurd (List·Memᴰ·not-nil k)
 
-pub told-under-counted : (n : ℕ) {m m' : List ℕ} {lent lent' : List Row} {r : Answer} → ChangePromise (withdraw n) m lent r m' lent'
+pub told-under-counted : (n : ℕ) {m : List ℕ} {lent lent' : List Row} {r : Answer} → ChangeSaid (withdraw n) m lent r lent'
     → (s : Sound m) → Bytes m → {q : Move} → List·Memᴰ (rowOf entered q) (take (r .count) lent')
     → {z : Node} → List·Memᴰ z (nodesOf (s .tree)) → List·Memᴰ q (z .under)
     → (onBoard n (skyline (dimensionIn m) (movesOf (s .tree))) ≡ true) × (opensFor (dimensionIn m) (skyline (dimensionIn m) (movesOf (s .tree))) n z ≡ true)

@@ -12,18 +12,18 @@ use Rattle.model.specs.Tree.{Tree}
 use Rattle.model.specs.Loading.{loadTree}
 use Rattle.model.specs.Lists.{listedRows}
 use Rattle.model.specs.Calls as calls
-use Rattle.model.specs.Calls.{Board, loaded, Change, changed, listOf, list, queryRows}
+use Rattle.model.specs.Calls.{Board, loaded, Change, changed, changeNotice, listOf, list, queryRows}
 use Rattle.model.specs.Changing.{changeTree}
 use Rattle.model.specs.Opening.{queryOpens, changeOpens}
 use Rattle.model.specs.Sound.{SoundBoard}
-use Rattle.model.specs.Holder.{change, isAccepted, plainNext, Answered, followed, heldAfter, Demand3}
+use Rattle.model.specs.Holder.{change, preview, isAccepted, ChangeAnswered, plainNext, Answered, followed, heldAfter, Demand3}
 use Rattle.model.specs.Laws.Holder.{Reads, Keeps, EachKeeps, change-held, keeps-demand3}
 use Rattle.promises.specs.Layout.{sizeIn, dimensionIn}
 use Rattle.promises.specs.Written.{changeWrites, loadWrites}
 use Rattle.promises.specs.Sound.{Holding}
 use Rattle.promises.specs.Answers.{answerOf, numberOf, counted, rowsAfter}
-use Rattle.promises.specs.Promise.{MemoryAfter, LoadPromise, Said, QueryPromise, QuerySaid, ChangePromise, ChangeSaid}
-use Rattle.promises.specs.Run.{Bytes, Step, changes, lists, loadRefused, leaves, Steps, done, then, eventOf, eventsOf, History, end, call, load, runOf, EachRun}
+use Rattle.promises.specs.Promise.{MemoryAfter, LoadPromise, Said, QueryPromise, QuerySaid, SaidOf, ChangeSaid, ChangePromise, PreviewPromise}
+use Rattle.promises.specs.Run.{Bytes, Step, changes, previews, lists, loadRefused, leaves, Steps, done, then, eventOf, eventsOf, History, end, call, load, runOf, EachRun}
 use Rattle.promises.specs.Laws.Stands.{holding-sound, holding-board}
 use Rattle.promises.specs.declared.Verdict.{Verdict}
 use Rattle.promises.specs.declared.Answer.{Answer}
@@ -69,12 +69,17 @@ module _ (writes : ℕ → Bool) (m m' : List ℕ) (b' : Board) (t : Tree) where
       subst (λ (c : Bool). At m' (cond c b' b)) (sym (eqb·suc-zero n))
       (subst (λ (m : List ℕ). At m b) (sym (left-refused (suc n) (λ e. omega arith) l)) a)
 
-module _ (x : Change) (m m' : List ℕ) (lent lent' : List Row) (r : Answer) (p : ChangePromise x m lent r m' lent') (b : Board) (a : At m b) where
-  change-said : ChangeSaid x b (changeOpens (dimensionIn m) x (a .tree)) lent r lent'
-  change-said =
-      subst (λ (b : Board). ChangeSaid x b (changeOpens (dimensionIn m) x (a .tree)) lent r lent') (a .holding .board)
+-- What is said of a change, made or previewed.
+module _ (x : Change) (m : List ℕ) (lent lent' : List Row) (r : Answer) (p : ChangeSaid x m lent r lent') (b : Board) (a : At m b) where
+  said-here : SaidOf x b (changeOpens (dimensionIn m) x (a .tree)) lent r lent'
+  said-here =
+      subst (λ (b : Board). SaidOf x b (changeOpens (dimensionIn m) x (a .tree)) lent r lent') (a .holding .board)
       (p .sound (holding-sound (a .holding)))
 
+  rows-here : take (r .count) lent' ≡ cond (isAccepted (answerOf (r .verdict))) (changeNotice b x) []
+  rows-here = said-rows _ _ _ _ _ _ said-here
+
+module _ (x : Change) (m m' : List ℕ) (lent lent' : List Row) (r : Answer) (p : ChangePromise x m lent r m' lent') (b : Board) (a : At m b) where
   change-left : MemoryAfter (changeWrites (sizeIn m) x) (numberOf (r .verdict)) m m' (changed b x) (changeTree (dimensionIn m) x (a .tree))
   change-left =
       subst (λ (b : Board). MemoryAfter (changeWrites (sizeIn m) x) (numberOf (r .verdict)) m m' (changed b x) (changeTree (dimensionIn m) x (a .tree))) (a .holding .board)
@@ -86,18 +91,18 @@ module _ (x : Change) (m m' : List ℕ) (lent lent' : List Row) (r : Answer) (p 
 
   change-next : plainNext b (change x) (length lent) ≡ next
   unfolding plainNext
-  change-next = ap (λ (a : calls.Answer). cond (isAccepted a) (changed b x) b) (sym (change-said .answers))
+  change-next = ap (λ (a : calls.Answer). cond (isAccepted a) (changed b x) b) (sym (said-here x m lent lent' r (p .said) b a .answers))
 
   change-at : Bytes m' → At m' next
   unfolding isAccepted answerOf
   change-at k = left-at (changeWrites (sizeIn m) x) m m' (changed b x) (changeTree (dimensionIn m) x (a .tree)) (numberOf (r .verdict)) change-left k a
 
   change-keeps : (k : Bytes m') → Keeps b (eventOf (changes x lent lent' r k p))
-  unfolding eventOf Answered Reads heldAfter
+  unfolding eventOf ChangeAnswered Answered Reads heldAfter
   change-keeps k =
-      let rows = said-rows _ _ _ _ _ _ change-said in
+      let rows = rows-here x m lent lent' r (p .said) b a in
       record {
-        answered = (change-said .answers, rows);
+        answered = (said-here x m lent lent' r (p .said) b a .answers, rows);
         reads = tt;
         held =
             ap (λ (rs : List Row). followed (b .dimension) rs (listedRows (listOf b))) rows
@@ -123,8 +128,10 @@ module _ (m : List ℕ) (lent lent' : List Row) (r : Answer) (p : QueryPromise l
 -- ---- each call of a run
 
 step-keeps : {m m' : List ℕ} (s : Step m m') (b : Board) → At m b → Keeps b (eventOf s)
-unfolding eventOf Answered Reads heldAfter plainNext
+unfolding eventOf ChangeAnswered Answered Reads heldAfter plainNext
 step-keeps {m} {m'} (changes x lent lent' r k p) b a = change-keeps x m m' lent lent' r p b a k
+step-keeps {m} (previews x lent lent' r p) b a =
+    record { answered = (said-here x m lent lent' r (p .said) b a .answers, rows-here x m lent lent' r (p .said) b a); reads = tt; held = refl }
 step-keeps {m} (lists lent lent' r p) b a = list-keeps m lent lent' r p b a
 step-keeps (loadRefused c d rows v p f) b a = record { answered = tt; reads = tt; held = refl }
 step-keeps (leaves answer) b a = record { answered = tt; reads = tt; held = refl }
@@ -133,6 +140,7 @@ step-at : {m m' : List ℕ} (s : Step m m') (b : Board) → At m b → At m' (pl
 unfolding eventOf plainNext
 step-at {m} {m'} (changes x lent lent' r k p) b a =
     subst (At m') (sym (change-next x m m' lent lent' r p b a)) (change-at x m m' lent lent' r p b a k)
+step-at (previews x lent lent' r p) b a = a
 step-at (lists lent lent' r p) b a = a
 step-at {m} {m'} (loadRefused c d rows v p f) b a =
     subst (λ (m : List ℕ). At m b) (sym (left-refused (loadWrites c) m m' (loaded c d rows) (loadTree d (map moveOf rows)) (numberOf v) f (p .left))) a

@@ -143,4 +143,4 @@ module _ {m m' : List ℕ} where
       number : numberOf (r .verdict) ≡ 0 → changeNumber x < sizeIn m
       number e =
           change-number (boardIn m) x
-          (accepted-passes (boardIn m) x (length lent) (sym (ap (λ (a : calls.Answer). a .number) (p .sound s .answers)) ∙ e))
+          (accepted-passes (boardIn m) x (length lent) (sym (ap (λ (a : calls.Answer). a .number) (p .said .sound s .answers)) ∙ e))
