@@ -1,7 +1,6 @@
 -- What the walks of band, on k, chosen costs and the previews share: all of them but the parameter between memory and rows, the name of the plan that is called and what is asked for. The memory is lent shared to the plan and to `fill`; the rows are given up for good.
 --     Asking               what the plan and the function promise, and that a plan told keeps the function's promise
 --     function             their MIR, by parameter and name
---     PlanOf               the plan's contract
 --     asked-meets          the MIR meets the contract
 -- Assumes `Given`.
 use mathlib.Core.Path.{_≡_, refl, ap}
@@ -58,6 +57,7 @@ use Rattle.dolzhev.proofs.answer.Answer.Laws as N′
 use Rattle.dolzhev.proofs.answer.handed.Symbol.{name as #dolzhev·answer·handed}
 use Rattle.dolzhev.proofs.ByValue.{ByValue, typeOf}
 use Rattle.dolzhev.proofs.Shared.{at-list}
+use Rattle.dolzhev.proofs.Planning.{PlanOf, calls-plan}
 use Rattle.dolzhev.proofs.Filled.{FillC, HandC, calls-fill, calls-handed}
 
 abbrev row : Ty
@@ -102,29 +102,11 @@ signatureOf P = record {
 abbrev endedOf : ByValue → Ended
 endedOf P = record { signature = signatureOf P; kept = (yes, (yes, (yes, tt))) }
 
-abbrev planSignature : ByValue → Signature
-planSignature P = record {
-  lifetimes = 1;
-  outlives = [];
-  params = SliceRefOf (0 ∷ []) tt (plain (λ κs. u8)) (λ κs. tt) ∷ plain (λ κs. typeOf P) ∷ plain (λ κs. usize) ∷ [];
-  result = plain (λ κs. Q.the-row);
-}
-
-abbrev planEnded : ByValue → Ended
-planEnded P = record { signature = planSignature P; kept = (yes, (yes, (yes, tt))) }
-
 abbrev stayed : (P : ByValue) → Stays (endedOf P .signature .params) (endedOf P .kept)
 stayed P = (stay-none-slice (0 ∷ []) tt (plain (λ _. u8)) yes, (stay-none (λ _. typeOf P) yes, (gave-slice (1 ∷ []) tt (plain (λ _. T.the-row)), tt)))
 
-module _ {M : Type 1} (𝓤 : URA M) {P : ByValue} (asking : Asking P) where
-  abbrev clausesOf : Clauses 𝓤 (endedOf P)
-  clausesOf κs a = record { ghost = Unit {0}; requires = λ _. emp 𝓤; ensures = λ _ r e. fact 𝓤 (asking .Ensured (a .1 .0) (a .0 .now) (a .1 .1 .0 .now) r (e .1 .1 .0 .now)) }
-
-  abbrev planClauses : Clauses 𝓤 (planEnded P)
-  planClauses κs a = record { ghost = Unit {0}; requires = λ _. emp 𝓤; ensures = λ _ r e. fact 𝓤 (asking .Planned (a .1 .0) (a .0 .now) (a .1 .1 .0) r) }
-
-abbrev pub PlanOf : {M : Type 1} (𝓤 : URA M) (H : Heap 𝓤) (A : Atoms 𝓤) {P : ByValue} → Asking P → Contract 𝓤
-PlanOf 𝓤 H A {P} asking = tripleOf 𝓤 H A (planSignature P) (closing 𝓤 H A (planEnded P) (planClauses 𝓤 asking))
+abbrev clausesOf : {M : Type 1} (𝓤 : URA M) {P : ByValue} → Asking P → Clauses 𝓤 (endedOf P)
+clausesOf 𝓤 asking κs a = record { ghost = Unit {0}; requires = λ _. emp 𝓤; ensures = λ _ r e. fact 𝓤 (asking .Ensured (a .1 .0) (a .0 .now) (a .1 .1 .0 .now) r (e .1 .1 .0 .now)) }
 
 module _ {M : Type 1} (𝓤 : URA M) (H : Heap 𝓤) (A : Atoms 𝓤) (W : Given 𝓤 H A) (mem : Memory → SProp 𝓤) (run : Routine → Fun 𝓤) {P : ByValue} (asking : Asking P) (κ κr : Lft) (q qr : Share) (b o br or : ℕ) (γ γr : GName) (m : List ℕ) (x : P .Denot) (ys : List Row) (x-is : Is (typeOf P) x (P .val x ∷ [])) where
   abbrev s : Val
@@ -156,16 +138,7 @@ module _ {M : Type 1} (𝓤 : URA M) (H : Heap 𝓤) (A : Atoms 𝓤) (W : Given
       nothing ! $ move ! (1 ∷ 0 ∷ []) $ fjoin ! $ owned ! (typeOf P) (Is (typeOf P)) (P .makes 𝓤 H A W) x _ x-is $ fjoin ! $ move ! (1 ∷ 0 ∷ []) $ fjoin ! $
       owned ! N.the-row (Is N.the-row) (LL.makes N.the-type N′.the-plain 𝓤 H A) r _ is $ move ! (1 ∷ 0 ∷ []) $ done !
 
-  -- what the plan's triple binds outside, and that the caller has what it asks
-  abbrev to-plan : PlanOf 𝓤 H A asking .Ghost
-  to-plan = (((κ, tt), (q, tt), tt, (at-list u8 b o γ m, (x, (length ys, tt))), (s ∷ [], (P .val x ∷ [], (vint w64 (length ys) ∷ [], tt)))), tt)
-
-  goes-plan : Room T.the-row (length ys) → ent 𝓤 (sep 𝓤 (A .lft κ q) (sem 𝓤 H A (ShrSlice (named 0) κ u8 .own (at-list u8 b o γ m) (s ∷ [])))) (PlanOf 𝓤 H A asking .pre to-plan)
-  goes-plan r-room =
-      qed W (‵ (flft κ q) ∷ Bytes ∷ []) ∵ nothing ! $ nothing ! $ owned ! usize (Is usize) (uint-makes 𝓤 H A W w64) (length ys) _ (refl, r-room .0) $ fjoin ! $ owned ! (typeOf P) (Is (typeOf P)) (P .makes 𝓤 H A W) x _ x-is $ fjoin ! $
-      move ! (3 ∷ 0 ∷ []) $ fjoin ! $ nothing ! $ move ! (3 ∷ 0 ∷ []) $ join ! $ join ! $ done !
-
-  module _ (𝓣 : Tables 𝓤 H) (fm : FmC 𝓤 H (W .laws) (𝓣 .C)) (name : Name) (known-plan : Triple 𝓤 (𝓣 .C name) (PlanOf 𝓤 H A asking)) (known-fill : Triple 𝓤 (𝓣 .C #rows·fill) (FillC 𝓤 H A mem run)) (known-handed : Triple 𝓤 (𝓣 .C #dolzhev·answer·handed) (HandC 𝓤 H A mem run)) where
+  module _ (𝓣 : Tables 𝓤 H) (fm : FmC 𝓤 H (W .laws) (𝓣 .C)) (name : Name) (known-plan : Triple 𝓤 (𝓣 .C name) (PlanOf P (asking .Planned) 𝓤 H A)) (known-fill : Triple 𝓤 (𝓣 .C #rows·fill) (FillC 𝓤 H A mem run)) (known-handed : Triple 𝓤 (𝓣 .C #dolzhev·answer·handed) (HandC 𝓤 H A mem run)) where
     walk : Room u8 (length m) → Room T.the-row (length ys) → ent 𝓤 (onEntry 𝓤 H A (signatureOf P) (κ, (κr, tt)) (q, (qr, tt)) a vals) (WpFn 𝓤 H (𝓣 .C) (𝓣 .Λ) (function P name) (s ∷ P .val x ∷ sr ∷ []) Post)
     walk room r-room =
         qed W ((‵ (flft κ q) ⊛ (‵ (flft κr qr) ⊛ ‵ ftrue)) ∷ ‵ (owns (ShrSlice (named 0) κ u8 ∷ typeOf P ∷ MutSlice (named 1) κr T.the-row ∷ []) a vals) ∷ []) ∵ enter ! (𝓣 .C) (𝓣 .Λ) (function P name) (s ∷ P .val x ∷ sr ∷ []) _ $
@@ -178,12 +151,10 @@ module _ {M : Type 1} (𝓤 : URA M) (H : Heap 𝓤) (A : Atoms 𝓤) (W : Given
         move ! (20 ∷ []) $ split ! $ move ! (1 ∷ []) $ split ! $ move ! (1 ∷ []) $ drop ! $
         move ! (3 ∷ []) $ use1 W (Bytes ⊛ Bytes) (shr-slice-copy 𝓤 H A W (named 0) κ u8 .twice (at-list u8 b o γ m) (s ∷ [])) $ split ! $ use1 W (Bytes ⊛ Bytes) (shr-slice-copy 𝓤 H A W (named 0) κ u8 .twice (at-list u8 b o γ m) (s ∷ [])) $ split ! $
         -- the plan
-        move ! (4 ∷ 0 ∷ []) $ use2 W (raw (PlanOf 𝓤 H A asking .pre to-plan)) (goes-plan r-room) $
+        move ! (4 ∷ 0 ∷ []) $ calls-plan P (asking .Planned) 𝓤 H A κ q b o γ m x (length ys) ! fm known-plan x-is (r-room .0)
         -- [what it asks; what the memory owns, twice; the rows' token; what they own; _8; …]
-        calls-at ! fm (PlanOf 𝓤 H A asking) known-plan to-plan (and-then ! (load ! (from ! (stop !)) (look ! 19 refl)) (and-then ! (load ! (from ! (stop !)) (look ! 17 refl)) (and-then ! (load ! (from ! (stop !)) (look ! 11 refl)) (no-more !)))) (λ w.
-        returned (planEnded P) (planClauses 𝓤 asking) ! tt to-plan w (λ p. asking .Planned x m (length ys) p) (λ p e. id⊢ 𝓤 _) (λ p e is.
+        (and-then ! (load ! (from ! (stop !)) (look ! 19 refl)) (and-then ! (load ! (from ! (stop !)) (look ! 17 refl)) (and-then ! (load ! (from ! (stop !)) (look ! 11 refl)) (no-more !)))) (λ w p e is.
         land ! (from ! (stop !)) (init ! 13 refl (LL.lawful Q.the-type Q′.the-laws 𝓤 H A W .typed p _ is .0)) $ rewrite ! 13 (λ (u : Val). ‵ (fat fullShare Q′.mir l₄ 0 u)) (ap only (LL.tells Q.the-type Q′.the-laws p _ is)) refl $
-        use1 W (‵ (flft κ q) ⊛ ‵ ftrue) (id⊢ 𝓤 _) $ split ! $ move ! (1 ∷ []) $ drop ! $
         assigns ! (addr ! (from ! (fld ! refl (hop ! (look-in ! 15 (sub ! 0 refl (whole !))) (stop !))))) (from ! (stop !)) (init ! 7 refl (tt, tt)) $
         assigns ! (agg ! (and-then ! (load ! (from ! (stop !)) (look ! 7 refl)) (and-then ! (load ! (from ! (fld ! refl (stop !))) (look-in ! 15 (sub ! 1 refl (whole !)))) (no-more !)))) (from ! (stop !)) (init ! 5 refl (tt, (tt, (record { fits = r-room .0 }, tt)))) $
         -- `fill`
@@ -197,9 +168,9 @@ module _ {M : Type 1} (𝓤 : URA M) (H : Heap 𝓤) (A : Atoms 𝓤) (W : Given
         land ! (from ! (stop !)) (init ! 20 refl (LL.lawful N.the-type N′.the-laws 𝓤 H A W .typed r _ is₂ .0)) $
         returns ! (look ! 20 refl) $ forget ! 4 refl $ forget ! 6 refl $ forget ! 8 refl $ forget ! 10 refl $ forget ! 12 refl $ forget ! 14 refl $ forget ! 16 refl $ forget ! 18 refl $ forget ! 20 refl $
         move ! (20 ∷ 21 ∷ 18 ∷ 19 ∷ 16 ∷ 17 ∷ 14 ∷ 15 ∷ 12 ∷ 13 ∷ 10 ∷ 11 ∷ 8 ∷ 9 ∷ 6 ∷ 7 ∷ 4 ∷ 5 ∷ []) $ free-all ! (envOf 𝓤 H (function P name .locals) (l₀ ∷ l₁ ∷ l₂ ∷ l₃ ∷ l₄ ∷ l₅ ∷ l₆ ∷ l₇ ∷ l₈ ∷ [])) $
-        by ! (exits r w₂ zs (asking .ensures ys zs e e₁ e₂) l is₂))))))))))))))
+        by ! (exits r w₂ zs (asking .ensures ys zs e e₁ e₂) l is₂)))))))))))))
 
-module _ {M : Type 1} (𝓤 : URA M) (H : Heap 𝓤) (A : Atoms 𝓤) (W : Given 𝓤 H A) (mem : Memory → SProp 𝓤) (run : Routine → Fun 𝓤) {P : ByValue} (asking : Asking P) (𝓣 : Tables 𝓤 H) (name : Name) (known-plan : Triple 𝓤 (𝓣 .C name) (PlanOf 𝓤 H A asking)) (known-fill : Triple 𝓤 (𝓣 .C #rows·fill) (FillC 𝓤 H A mem run)) (known-handed : Triple 𝓤 (𝓣 .C #dolzhev·answer·handed) (HandC 𝓤 H A mem run)) where
+module _ {M : Type 1} (𝓤 : URA M) (H : Heap 𝓤) (A : Atoms 𝓤) (W : Given 𝓤 H A) (mem : Memory → SProp 𝓤) (run : Routine → Fun 𝓤) {P : ByValue} (asking : Asking P) (𝓣 : Tables 𝓤 H) (name : Name) (known-plan : Triple 𝓤 (𝓣 .C name) (PlanOf P (asking .Planned) 𝓤 H A)) (known-fill : Triple 𝓤 (𝓣 .C #rows·fill) (FillC 𝓤 H A mem run)) (known-handed : Triple 𝓤 (𝓣 .C #dolzhev·answer·handed) (HandC 𝓤 H A mem run)) where
   asked-walks : Walks 𝓤 H A (endedOf P) (stayed P) (WpFn 𝓤 H (𝓣 .C) (𝓣 .Λ) (function P name)) (clausesOf 𝓤 asking)
   asked-walks = walked 𝓤 H A (endedOf P) (stayed P) (clausesOf 𝓤 asking) (WpFn 𝓤 H (𝓣 .C) (𝓣 .Λ) (function P name))
       (λ κs. (slice-vals, ((λ x. P .val x ∷ []), (slice-vals, tt)))) (λ κs. (shr-slice-tells (named 0) (κs .0) u8, (P .tells, (mut-slice-tells (named 1) (κs .1 .0) T.the-row, tt))))

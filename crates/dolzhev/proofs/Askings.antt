@@ -20,7 +20,7 @@ ask query =
     }
 
 abbrev pub look : {P : ByValue} → (P .Denot → Change) → Asking P
-look change =
+look {P} change =
     record {
       Planned = λ x m lent p. Planned (change x) m lent p;
       Ensured = λ x m ys r zs. PreviewExported (change x) m (rowsOf ys) r (rowsOf zs);

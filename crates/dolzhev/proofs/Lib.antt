@@ -1,8 +1,9 @@
 -- What the walks share.
 pub mod ByValue
 pub mod Shared
+pub mod Planning
 pub mod Filled
 pub mod Passed
-pub mod Costed
+pub mod Changed
 pub mod Asked
 pub mod Askings

@@ -1,3 +1,4 @@
 -- Laws of the exported calls.
 pub mod Exported
+pub mod Previews
 pub mod Demand3

@@ -7,14 +7,15 @@ use lib.ListN.{length, take}
 use Rattle.model.specs.Moves.{InputRow, Row}
 use Rattle.model.specs.Calls as calls
 use Rattle.model.specs.Calls.{Change, Query, list, loaded}
-use Rattle.model.specs.Holder.{change, listCall, other, Event, Demand3}
+use Rattle.model.specs.Holder.{change, preview, listCall, other, Event, Demand3}
 use Rattle.promises.specs.Run.{Bytes}
-use Rattle.dolzhev.specs.Exported.{LoadExported, ChangeExported, QueryExported}
+use Rattle.dolzhev.specs.Exported.{LoadExported, ChangeExported, PreviewExported, QueryExported}
 use Rattle.dolzhev.specs.declared.answer.Answer.{Answer}
 
--- One call, from the memory before it to the memory after it. Lists lend their memory for reading only: it stays.
+-- One call, from the memory before it to the memory after it. Previews and lists are lent the memory for reading only: it stays.
 pub data ExportedStep : List ℕ → List ℕ → Type 0 where
   changes : (x : Change) (lent lent' : List Row) (r : Answer) {m m' : List ℕ} → Bytes m' → ChangeExported x m lent r m' lent' → ExportedStep m m'
+  previews : (x : Change) (lent lent' : List Row) (r : Answer) {m : List ℕ} → PreviewExported x m lent r lent' → ExportedStep m m
   lists : (lent lent' : List Row) (r : Answer) {m : List ℕ} → QueryExported list m lent r lent' → ExportedStep m m
   queries : (q : Query) (lent lent' : List Row) (r : Answer) {m : List ℕ} → QueryExported q m lent r lent' → ExportedStep m m
   loadRefused : (c d : ℕ) (rows : List InputRow) (r : Answer) {m m' : List ℕ} → LoadExported c d rows m r m' → (r .refusal ≡ 0 → ⊥) → ExportedStep m m'
@@ -27,6 +28,8 @@ answered r = record { number = r .refusal; detail = r .detail }
 unfoldable pub exportedEvent : {m m' : List ℕ} → ExportedStep m m' → Event
 exportedEvent (changes x lent lent' r bytes p) =
     record { call = change x; lent = length lent; answer = answered r; rows = take (r .count) lent' }
+exportedEvent (previews x lent lent' r p) =
+    record { call = preview x; lent = length lent; answer = answered r; rows = take (r .count) lent' }
 exportedEvent (lists lent lent' r p) =
     record { call = listCall; lent = length lent; answer = answered r; rows = take (r .count) lent' }
 exportedEvent (queries q lent lent' r p) = record { call = other; lent = 0; answer = answered r; rows = [] }

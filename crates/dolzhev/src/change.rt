@@ -2,15 +2,15 @@
 use crate::answer::Answer;
 use crate::answer::Move;
 use crate::answer::handed;
+use crate::plans::plan_entering;
+use crate::plans::plan_recosting;
 use board::carry_out;
-use board::plan_enter;
-use board::plan_recost;
 use board::plan_withdraw;
 use rows::Row;
 use rows::fill;
 use upkeep::Plan;
-ghost use Rattle.model.specs.Calls as calls;
-ghost use Rattle.dolzhev.specs.Exported.{rowsOf, ChangeExported, DoneAsked, Done};
+ghost use Rattle.model.specs.Calls.{withdraw};
+ghost use Rattle.dolzhev.specs.Exported.{entering, recosting, rowsOf, ChangeExported, DoneAsked, Done};
 
 // A plan told and carried out.
 pub fn done(memory: &mut [u8], p: Plan, rows: &mut [Row]) -> Answer
@@ -24,15 +24,15 @@ pub fn done(memory: &mut [u8], p: Plan, rows: &mut [Row]) -> Answer
 
 #[no_mangle]
 pub extern "C" fn dolzhev_enter(memory: &mut [u8], given: Move, rows: &mut [Row]) -> Answer
-    ensures { λ r. ⌜ ChangeExported (calls.enter (given .number) (given .block) (given .costs)) (now (memory .entry)) (rowsOf (now (rows .entry))) r (now (memory .exit)) (rowsOf (now (rows .exit))) ⌝ }
+    ensures { λ r. ⌜ ChangeExported (entering given) (now (memory .entry)) (rowsOf (now (rows .entry))) r (now (memory .exit)) (rowsOf (now (rows .exit))) ⌝ }
 {
-    let p = plan_enter(memory, given.number, given.block, given.costs, rows.len());
+    let p = plan_entering(memory, given, rows.len());
     done(memory, p, rows)
 }
 
 #[no_mangle]
 pub extern "C" fn dolzhev_withdraw(memory: &mut [u8], number: u16, rows: &mut [Row]) -> Answer
-    ensures { λ r. ⌜ ChangeExported (calls.withdraw number) (now (memory .entry)) (rowsOf (now (rows .entry))) r (now (memory .exit)) (rowsOf (now (rows .exit))) ⌝ }
+    ensures { λ r. ⌜ ChangeExported (withdraw number) (now (memory .entry)) (rowsOf (now (rows .entry))) r (now (memory .exit)) (rowsOf (now (rows .exit))) ⌝ }
 {
     let p = plan_withdraw(memory, number, rows.len());
     done(memory, p, rows)
@@ -40,8 +40,8 @@ pub extern "C" fn dolzhev_withdraw(memory: &mut [u8], number: u16, rows: &mut [R
 
 #[no_mangle]
 pub extern "C" fn dolzhev_recost(memory: &mut [u8], given: Move, rows: &mut [Row]) -> Answer
-    ensures { λ r. ⌜ ChangeExported (calls.recost (given .number) (given .block) (given .costs)) (now (memory .entry)) (rowsOf (now (rows .entry))) r (now (memory .exit)) (rowsOf (now (rows .exit))) ⌝ }
+    ensures { λ r. ⌜ ChangeExported (recosting given) (now (memory .entry)) (rowsOf (now (rows .entry))) r (now (memory .exit)) (rowsOf (now (rows .exit))) ⌝ }
 {
-    let p = plan_recost(memory, given.number, given.block, given.costs, rows.len());
+    let p = plan_recosting(memory, given, rows.len());
     done(memory, p, rows)
 }

@@ -21,11 +21,7 @@ pub extern "C" fn dolzhev_preview_enter(memory: &[u8], given: Move, rows: &mut [
 }
 
 #[no_mangle]
-pub extern "C" fn dolzhev_preview_withdraw(
-    memory: &[u8],
-    number: u16,
-    rows: &mut [Row],
-) -> Answer
+pub extern "C" fn dolzhev_preview_withdraw(memory: &[u8], number: u16, rows: &mut [Row]) -> Answer
     ensures { λ r. ⌜ PreviewExported (withdraw number) (now (memory .entry)) (rowsOf (now (rows .entry))) r (rowsOf (now (rows .exit))) ⌝ }
 {
     let p = plan_withdraw(memory, number, rows.len());

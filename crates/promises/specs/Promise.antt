@@ -73,6 +73,6 @@ pub record ChangePromise (x : Change) (m : List ℕ) (lent : List Row) (r : Answ
   pub nothing : Sound m → changesNothing (boardIn m) x ≡ true → m' ≡ m
   pub unsound : (Sound m → ⊥) → m' ≡ m
 
--- Its preview (Card 2). The memory is lent for reading only.
-pub record PreviewPromise (x : Change) (m : List ℕ) (lent : List Row) (r : Answer) (lent' : List Row) : Type 0 where
-  pub said : ChangeSaid x m lent r lent'
+-- Its preview (Card 2) says what the call does. Its memory is lent for reading only.
+abbrev pub PreviewPromise : Change → List ℕ → List Row → Answer → List Row → Type 0
+PreviewPromise x m lent = ChangeSaid x m lent

@@ -6,18 +6,19 @@ use mathlib.Core.Path.{_≡_, refl, sym, ap, ap₂, _∙_, subst}
 use lib.ListN.{length, take}
 use Rattle.model.specs.Calls as calls
 use Rattle.model.specs.Calls.{loaded}
-use Rattle.model.specs.Holder.{change, listCall, other, Demand3}
+use Rattle.model.specs.Holder.{change, preview, listCall, other, Demand3}
 use Rattle.promises.specs.Answers.{answerOf}
 use Rattle.promises.specs.Run as run
 use Rattle.promises.specs.Run.{Step, History, eventOf, runOf, EachRun}
 use Rattle.promises.specs.Laws.Demand3.{each-run}
 use Rattle.promises.specs.declared.Verdict.{Verdict}
 use Rattle.dolzhev.specs.Exported.{Handed}
-use Rattle.dolzhev.specs.Run.{ExportedStep, changes, lists, queries, loadRefused, answered, exportedEvent, ExportedHistory, end, call, load, exportedRun, EachExported}
+use Rattle.dolzhev.specs.Run.{ExportedStep, changes, previews, lists, queries, loadRefused, answered, exportedEvent, ExportedHistory, end, call, load, exportedRun, EachExported}
 use Rattle.dolzhev.specs.declared.answer.Answer.{Answer}
 
 stepOf : {m m' : List ℕ} → ExportedStep m m' → Step m m'
 stepOf (changes x lent lent' r bytes p) = run.changes x lent lent' (p .answer) bytes (p .promise)
+stepOf (previews x lent lent' r p) = run.previews x lent lent' (p .answer) (p .promise)
 stepOf (lists lent lent' r p) = run.lists lent lent' (p .answer) (p .promise)
 stepOf (queries q lent lent' r p) = run.leaves (answered r)
 stepOf (loadRefused c d rows r p refused) = run.loadRefused c d rows (p .verdict) (p .promise) (λ e. refused (p .handed .refusal ∙ e))
@@ -36,6 +37,8 @@ event-same : {m m' : List ℕ} (s : ExportedStep m m') → exportedEvent s ≡ e
 unfolding exportedEvent eventOf stepOf
 event-same (changes x lent lent' r bytes p) =
     λ i. record { call = change x; lent = length lent; answer = handed-answer (p .handed) i; rows = take (p .handed .count i) lent' }
+event-same (previews x lent lent' r p) =
+    λ i. record { call = preview x; lent = length lent; answer = handed-answer (p .handed) i; rows = take (p .handed .count i) lent' }
 event-same (lists lent lent' r p) =
     λ i. record { call = listCall; lent = length lent; answer = handed-answer (p .handed) i; rows = take (p .handed .count i) lent' }
 event-same (queries q lent lent' r p) = refl

@@ -52,11 +52,8 @@ preview-exported {x} {m} lent lent' {p} plan e h =
       answer = answerIn p;
       handed = h;
       promise =
-          record {
-            said =
-                plan-said (rowsOf lent) (rowsOf lent') (subst (λ (n : ℕ). Planned x m n p) (sym (rows-length lent)) plan)
-                (rows-filled (p .telling) m lent lent' (p .count) (plan .moves .plans .asked) (plan .moves .plans .told) (plan .moves .plans .answered .enough) e);
-          };
+          plan-said (rowsOf lent) (rowsOf lent') (subst (λ (n : ℕ). Planned x m n p) (sym (rows-length lent)) plan)
+          (rows-filled (p .telling) m lent lent' (p .count) (plan .moves .plans .asked) (plan .moves .plans .told) (plan .moves .plans .answered .enough) e);
     }
 
 pub query-exported : {q : calls.Query} {m : List ℕ} (lent lent' : List Row) {p : Plan} {r : Answer} → QueryPlanned q m (length lent) p

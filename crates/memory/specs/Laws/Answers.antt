@@ -132,7 +132,7 @@ alike-answers m n bytes alike =
     record {
       loads = λ c d rows v w m' n' same p p'. (load-alone c d rows alike p p' same, load-alike c d rows alike p p' same);
       queries = λ q lent lent' lent'' r s p p'. query-alone bytes alike q p p';
-      previews = λ x lent lent' lent'' r s p p'. change-alone bytes alike x (p .said) (p' .said);
+      previews = λ x lent lent' lent'' r s p p'. change-alone bytes alike x p p';
       changes = λ x lent lent' lent'' r s m' n' p p'. let same = change-alone bytes alike x (p .said) (p' .said) in (same .0, same .1, change-alike bytes alike x p p');
     }
 
@@ -142,4 +142,4 @@ answers-alone m n bytes same = alike-answers m n bytes (used-alike m n same)
 -- Card 2: a preview answers, counts, opens and tells what the call does on the same memory with the same rows lent.
 pub preview-equal : (x : Change) (m : List ℕ) → Bytes m → {m' : List ℕ} {lent lent' lent'' : List Row} {r s : Answer} → PreviewPromise x m lent r lent' → ChangePromise x m lent s m' lent''
     → (r ≡ s) × (lent' ≡ lent'')
-preview-equal x m bytes p c = change-alone bytes (same-alike m) x (c .said) (p .said)
+preview-equal x m bytes p c = change-alone bytes (same-alike m) x (c .said) p

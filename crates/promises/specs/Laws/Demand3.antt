@@ -22,7 +22,7 @@ use Rattle.promises.specs.Layout.{sizeIn, dimensionIn}
 use Rattle.promises.specs.Written.{changeWrites, loadWrites}
 use Rattle.promises.specs.Sound.{Holding}
 use Rattle.promises.specs.Answers.{answerOf, numberOf, counted, rowsAfter}
-use Rattle.promises.specs.Promise.{MemoryAfter, LoadPromise, Said, QueryPromise, QuerySaid, SaidOf, ChangeSaid, ChangePromise, PreviewPromise}
+use Rattle.promises.specs.Promise.{MemoryAfter, LoadPromise, Said, QueryPromise, QuerySaid, SaidOf, ChangeSaid, ChangePromise}
 use Rattle.promises.specs.Run.{Bytes, Step, changes, previews, lists, loadRefused, leaves, Steps, done, then, eventOf, eventsOf, History, end, call, load, runOf, EachRun}
 use Rattle.promises.specs.Laws.Stands.{holding-sound, holding-board}
 use Rattle.promises.specs.declared.Verdict.{Verdict}
@@ -131,7 +131,7 @@ step-keeps : {m m' : List ℕ} (s : Step m m') (b : Board) → At m b → Keeps 
 unfolding eventOf ChangeAnswered Answered Reads heldAfter plainNext
 step-keeps {m} {m'} (changes x lent lent' r k p) b a = change-keeps x m m' lent lent' r p b a k
 step-keeps {m} (previews x lent lent' r p) b a =
-    record { answered = (said-here x m lent lent' r (p .said) b a .answers, rows-here x m lent lent' r (p .said) b a); reads = tt; held = refl }
+    record { answered = (said-here x m lent lent' r p b a .answers, rows-here x m lent lent' r p b a); reads = tt; held = refl }
 step-keeps {m} (lists lent lent' r p) b a = list-keeps m lent lent' r p b a
 step-keeps (loadRefused c d rows v p f) b a = record { answered = tt; reads = tt; held = refl }
 step-keeps (leaves answer) b a = record { answered = tt; reads = tt; held = refl }

@@ -1,14 +1,16 @@
--- `dolzhev_recost` meets its contract, by the walk that it shares with enter.
+-- `dolzhev_recost` meets its contract, by the walk that the three changes share.
 -- Assumes nothing.
 use contract.Running.{givenOf, tables, tablesOf}
 use denote.Triple.Spec.{tripleOf}
 use denote.Triple.Table.{entered, cited}
-use Rattle.model.specs.Calls as calls
-use Rattle.board.proofs.plan_recost.Symbol as plan-def
-use Rattle.board.proofs.plan_recost.Symbol.{name as #board·plan-recost}
-use Rattle.board.proofs.plan_recost.Met as plan-thm
+use Rattle.dolzhev.specs.Exported.{recosting}
+use Rattle.dolzhev.proofs.plans.plan_recosting.Symbol as plan-def
+use Rattle.dolzhev.proofs.plans.plan_recosting.Symbol.{name as #dolzhev·plans·plan-recosting}
+use Rattle.dolzhev.proofs.plans.plan_recosting.Met as plan-thm
+use Rattle.dolzhev.proofs.ByValue.{given}
+use Rattle.dolzhev.proofs.Planning.{PlanOf}
 use Rattle.dolzhev.proofs.Passed.{DoneC}
-use Rattle.dolzhev.proofs.Costed.{PlanOf, costed-meets}
+use Rattle.dolzhev.proofs.Changed.{planned, change-meets}
 use Rattle.dolzhev.proofs.change.done.Symbol as done-def
 use Rattle.dolzhev.proofs.change.done.Symbol.{name as #dolzhev·change·done}
 use Rattle.dolzhev.proofs.change.done.Met as done-thm
@@ -22,6 +24,6 @@ unfolding code.routine tablesOf
 dolzhev-recost-spec 𝓤 H 𝓜 𝓖 𝓡 =
     entered 𝓤 H (tripleOf 𝓤 H (𝓖 .A) f.signature (f.spec 𝓤 H (𝓖 .A) (𝓜 .mem) (𝓡 .run)))
     (tables 𝓤 H 𝓜 𝓡 code.env .C) (tables 𝓤 H 𝓜 𝓡 code.env .Λ) #dolzhev·change·dolzhev-recost code.function (code.unfolded 𝓤 H 𝓜 𝓡)
-    (costed-meets 𝓤 H (𝓖 .A) (givenOf 𝓤 H 𝓜 𝓖) (𝓜 .mem) (𝓡 .run) calls.recost (tablesOf 𝓤 H 𝓜 (tables 𝓤 H 𝓜 𝓡 code.env)) #board·plan-recost
-    (cited 𝓤 H (PlanOf 𝓤 H (𝓖 .A) calls.recost) 𝓜 𝓡 code.env #board·plan-recost plan-def.routine code.calls-board·plan-recost (plan-thm.met 𝓤 H 𝓜 𝓖 𝓡))
+    (change-meets 𝓤 H (𝓖 .A) (givenOf 𝓤 H 𝓜 𝓖) (𝓜 .mem) (𝓡 .run) given recosting (tablesOf 𝓤 H 𝓜 (tables 𝓤 H 𝓜 𝓡 code.env)) #dolzhev·plans·plan-recosting
+    (cited 𝓤 H (PlanOf given (planned given recosting) 𝓤 H (𝓖 .A)) 𝓜 𝓡 code.env #dolzhev·plans·plan-recosting plan-def.routine code.calls-dolzhev·plans·plan-recosting (plan-thm.met 𝓤 H 𝓜 𝓖 𝓡))
     (cited 𝓤 H (DoneC 𝓤 H (𝓖 .A) (𝓜 .mem) (𝓡 .run)) 𝓜 𝓡 code.env #dolzhev·change·done done-def.routine code.calls-dolzhev·change·done (done-thm.met 𝓤 H 𝓜 𝓖 𝓡)))

@@ -15,7 +15,8 @@ use Rattle.dolzhev.proofs.answer.handed.Symbol.{name as #dolzhev·answe
 use Rattle.dolzhev.proofs.answer.handed.Met as handed-thm
 use Rattle.dolzhev.proofs.ByValue.{given}
 use Rattle.dolzhev.proofs.Filled.{FillC, HandC}
-use Rattle.dolzhev.proofs.Asked.{Asking, PlanOf, asked-meets}
+use Rattle.dolzhev.proofs.Planning.{PlanOf}
+use Rattle.dolzhev.proofs.Asked.{Asking, asked-meets}
 use Rattle.dolzhev.proofs.Askings.{look}
 use Rattle.dolzhev.proofs.preview.dolzhev_preview_recost.Key.{name as #dolzhev·preview·dolzhev-preview-recost}
 use Rattle.dolzhev.proofs.preview.dolzhev_preview_recost as f
@@ -31,6 +32,6 @@ dolzhev-preview-recost-spec 𝓤 H 𝓜 𝓖 𝓡 =
     entered 𝓤 H (tripleOf 𝓤 H (𝓖 .A) f.signature (f.spec 𝓤 H (𝓖 .A) (𝓜 .mem) (𝓡 .run)))
     (tables 𝓤 H 𝓜 𝓡 code.env .C) (tables 𝓤 H 𝓜 𝓡 code.env .Λ) #dolzhev·preview·dolzhev-preview-recost code.function (code.unfolded 𝓤 H 𝓜 𝓡)
     (asked-meets 𝓤 H (𝓖 .A) (givenOf 𝓤 H 𝓜 𝓖) (𝓜 .mem) (𝓡 .run) asking (tablesOf 𝓤 H 𝓜 (tables 𝓤 H 𝓜 𝓡 code.env)) #dolzhev·plans·plan-recosting
-    (cited 𝓤 H (PlanOf 𝓤 H (𝓖 .A) asking) 𝓜 𝓡 code.env #dolzhev·plans·plan-recosting plan-def.routine code.calls-dolzhev·plans·plan-recosting (plan-thm.met 𝓤 H 𝓜 𝓖 𝓡))
+    (cited 𝓤 H (PlanOf given (asking .Planned) 𝓤 H (𝓖 .A)) 𝓜 𝓡 code.env #dolzhev·plans·plan-recosting plan-def.routine code.calls-dolzhev·plans·plan-recosting (plan-thm.met 𝓤 H 𝓜 𝓖 𝓡))
     (cited 𝓤 H (FillC 𝓤 H (𝓖 .A) (𝓜 .mem) (𝓡 .run)) 𝓜 𝓡 code.env #rows·fill fill-def.routine code.calls-rows·fill (fill-thm.met 𝓤 H 𝓜 𝓖 𝓡))
     (cited 𝓤 H (HandC 𝓤 H (𝓖 .A) (𝓜 .mem) (𝓡 .run)) 𝓜 𝓡 code.env #dolzhev·answer·handed handed-def.routine code.calls-dolzhev·answer·handed (handed-thm.met 𝓤 H 𝓜 𝓖 𝓡)))
