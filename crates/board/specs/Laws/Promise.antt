@@ -8,9 +8,8 @@ use native.Mathlib.Omega.{arith}
 use lib.ListN.{length, drop, getD}
 use Rattle.model.specs.Moves.{Row}
 use Rattle.model.specs.Calls as calls
-use Rattle.model.specs.Calls.{changeRefusal, changeAnswer, changeNotice, changed, keepsMoves, changesNothing}
+use Rattle.model.specs.Calls.{changeRefusal, changed, keepsMoves, changesNothing}
 use Rattle.model.specs.Changing.{changeTree}
-use Rattle.model.specs.Opening.{changeOpens}
 use Rattle.model.specs.Laws.Changes.{accepted-passes, nothing-keeps}
 use Rattle.promises.specs.Layout.{sizeIn, dimensionIn, boardIn}
 use Rattle.promises.specs.Sound.{Sound}

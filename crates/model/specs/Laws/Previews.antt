@@ -1,14 +1,13 @@
 -- Card 2: wherever previews stand in a run, accepted or refused, the rows held and the claim of demand 3 are those of the run
 -- without them.
 use Prim.Native.Nat.{ℕ}
-use mathlib.Core.Bool.{true}
 use mathlib.Core.List.{List, [], _∷_}
 use mathlib.Core.Path.{_≡_}
 use Rattle.model.specs.Basics.{select}
 use Rattle.model.specs.Moves.{Row}
 use Rattle.model.specs.Lists.{listedRows}
 use Rattle.model.specs.Calls.{Answer, Board, listOf}
-use Rattle.model.specs.Holder.{Call, change, preview, listCall, other, Event, isAccepted, plainNext, Answered, heldAfter, HoldsList, Starts, Demand3, isPreview, withoutPreviews}
+use Rattle.model.specs.Holder.{Call, change, preview, listCall, other, Event, plainNext, heldAfter, HoldsList, Starts, Demand3, isPreview, withoutPreviews}
 
 abbrev event : Call → ℕ → Answer → List Row → Event
 event c lent answer rows = record { call = c; lent = lent; answer = answer; rows = rows }

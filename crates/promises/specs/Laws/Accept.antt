@@ -1,4 +1,4 @@
--- What a change's promise allows of sound memory: when it takes a move, and when it has rows enough.
+-- What is said of a change on sound memory, be it made or previewed: when a move is taken, and when rows are enough.
 use Prim.Native.Nat.{ℕ, _+_, _≤_, _<_}
 use mathlib.Core.Bool.{false}
 use mathlib.Core.List.{List}
@@ -12,20 +12,20 @@ use Rattle.model.specs.Laws.Changes.{changes-accepted, never-eight, enter-passe
 use Rattle.promises.specs.Layout.{sizeIn, dimensionIn, boardIn}
 use Rattle.promises.specs.Sound.{Sound}
 use Rattle.promises.specs.Answers.{answerOf, numberOf}
-use Rattle.promises.specs.Promise.{ChangePromise}
+use Rattle.promises.specs.Promise.{ChangeSaid}
 use Rattle.promises.specs.Run.{Bytes}
 use Rattle.promises.specs.Laws.Stands.{sound-board}
 use Rattle.promises.specs.declared.Answer.{Answer}
 
-module _ {m m' : List ℕ} {lent lent' : List Row} {r : Answer} (s : Sound m) where
-  change-number : (x : Change) → ChangePromise x m lent r m' lent' → numberOf (r .verdict) ≡ changeAnswer (boardIn m) x (length lent) .number
+module _ {m : List ℕ} {lent lent' : List Row} {r : Answer} (s : Sound m) where
+  change-number : (x : Change) → ChangeSaid x m lent r lent' → numberOf (r .verdict) ≡ changeAnswer (boardIn m) x (length lent) .number
   unfolding answerOf
-  change-number x p = ap (λ (a : calls.Answer). a .number) (p .said .sound s .answers)
+  change-number x p = ap (λ (a : calls.Answer). a .number) (p .sound s .answers)
 
   -- "A board with a free number always takes one more move, given costs past d of zero and rows enough for its notice", and a block
   -- of 0 to 63 (Card 8).
   pub enter-accepted : (n block : ℕ) (costs : List ℕ) → n < sizeIn m → onBoard n (boardIn m .moves) ≡ false → blockBad block ≡ false → costPastBad (dimensionIn m) costs ≡ false
-      → length (changeNotice (boardIn m) (enter n block costs)) ≤ length lent → ChangePromise (enter n block costs) m lent r m' lent' → numberOf (r .verdict) ≡ 0
+      → length (changeNotice (boardIn m) (enter n block costs)) ≤ length lent → ChangeSaid (enter n block costs) m lent r lent' → numberOf (r .verdict) ≡ 0
   unfolding accepted boardIn
   enter-accepted n block costs l o k c e p =
       change-number (enter n block costs) p
@@ -33,7 +33,7 @@ module _ {m m' : List ℕ} {lent lent' : List Row} {r : Answer} (s : Sound m) wh
       (changes-accepted (boardIn m) (enter n block costs) (length lent) (enter-passes (boardIn m) n block costs l k c o) e)
 
   -- "For these three C + 1 rows always suffice."
-  pub rows-suffice : (x : Change) → Bytes m → sizeIn m + 1 ≤ length lent → ChangePromise x m lent r m' lent' → ¬ (numberOf (r .verdict) ≡ 8)
+  pub rows-suffice : (x : Change) → Bytes m → sizeIn m + 1 ≤ length lent → ChangeSaid x m lent r lent' → ¬ (numberOf (r .verdict) ≡ 8)
   unfolding boardIn
   rows-suffice x b l p e =
       never-eight (boardIn m) x (length lent) (sound-board m s b) l (sym (change-number x p) ∙ e)

@@ -16,7 +16,7 @@ use Rattle.model.specs.Calls.{Board, loaded, Change, changed, changeNotice, lis
 use Rattle.model.specs.Changing.{changeTree}
 use Rattle.model.specs.Opening.{queryOpens, changeOpens}
 use Rattle.model.specs.Sound.{SoundBoard}
-use Rattle.model.specs.Holder.{change, preview, isAccepted, ChangeAnswered, plainNext, Answered, followed, heldAfter, Demand3}
+use Rattle.model.specs.Holder.{change, isAccepted, ChangeAnswered, plainNext, Answered, followed, heldAfter, Demand3}
 use Rattle.model.specs.Laws.Holder.{Reads, Keeps, EachKeeps, change-held, keeps-demand3}
 use Rattle.promises.specs.Layout.{sizeIn, dimensionIn}
 use Rattle.promises.specs.Written.{changeWrites, loadWrites}
