@@ -16,7 +16,7 @@ ask query =
       Ensured = λ x m ys r zs. QueryExported (query x) m (rowsOf ys) r (rowsOf zs);
       asked = λ e. e .asked;
       enough = λ e. e .answered .enough;
-      ensures = query-exported;
+      ensures = λ ys zs e told h. query-exported ys zs e told h;
     }
 
 abbrev pub look : {P : ByValue} → (P .Denot → Change) → Asking P
@@ -26,5 +26,5 @@ look {P} change =
       Ensured = λ x m ys r zs. PreviewExported (change x) m (rowsOf ys) r (rowsOf zs);
       asked = λ e. e .moves .plans .asked;
       enough = λ e. e .moves .plans .answered .enough;
-      ensures = preview-exported;
+      ensures = λ ys zs e told h. preview-exported ys zs e told h;
     }

@@ -42,20 +42,20 @@ pub record LoadExported (c d : ℕ) (rows : List model.InputRow) (m : List ℕ) 
   pub handed : Handed verdict 0 0 r
   pub promise : LoadPromise c d rows m verdict m'
 
-pub record ChangeExported (x : calls.Change) (m : List ℕ) (lent : List model.Row) (r : Answer) (m' : List ℕ) (lent' : List model.Row) : Type 0 where
+-- An answer handed on, of which this is promised.
+pub record AnswerExported (Promised : said.Answer → Type 0) (r : Answer) : Type 0 where
   pub answer : said.Answer
   pub handed : Handed (answer .verdict) (answer .count) (answer .opened) r
-  pub promise : ChangePromise x m lent answer m' lent'
+  pub promise : Promised answer
 
-pub record PreviewExported (x : calls.Change) (m : List ℕ) (lent : List model.Row) (r : Answer) (lent' : List model.Row) : Type 0 where
-  pub answer : said.Answer
-  pub handed : Handed (answer .verdict) (answer .count) (answer .opened) r
-  pub promise : PreviewPromise x m lent answer lent'
+abbrev pub ChangeExported : calls.Change → List ℕ → List model.Row → Answer → List ℕ → List model.Row → Type 0
+ChangeExported x m lent r m' lent' = AnswerExported (λ a. ChangePromise x m lent a m' lent') r
 
-pub record QueryExported (q : calls.Query) (m : List ℕ) (lent : List model.Row) (r : Answer) (lent' : List model.Row) : Type 0 where
-  pub answer : said.Answer
-  pub handed : Handed (answer .verdict) (answer .count) (answer .opened) r
-  pub promise : QueryPromise q m lent answer lent'
+abbrev pub PreviewExported : calls.Change → List ℕ → List model.Row → Answer → List model.Row → Type 0
+PreviewExported x m lent r lent' = AnswerExported (λ a. PreviewPromise x m lent a lent') r
+
+abbrev pub QueryExported : calls.Query → List ℕ → List model.Row → Answer → List model.Row → Type 0
+QueryExported q m lent r lent' = AnswerExported (λ a. QueryPromise q m lent a lent') r
 
 -- ---- a plan told and carried out
 
