@@ -30,7 +30,7 @@ impl Holder {
         match (call, &mut self.0) {
             (Call::Load { .. }, held) => *held = None,
             (Call::List, held @ None) => *held = Some(rows.iter().map(moved).collect()),
-            (Call::Enter(_) | Call::Withdraw { .. } | Call::Recost(_), Some(held)) => follow(d, held, rows),
+            (Call::Change(_), Some(held)) => follow(d, held, rows),
             _ => {}
         }
     }

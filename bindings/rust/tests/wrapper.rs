@@ -3,7 +3,7 @@ use dolzhev::{Board, Mark, Ranked, Refusal, Row};
 use reference::against::Against;
 use reference::draw::Draw;
 use reference::random::Shape;
-use reference::{library, Call, Costs};
+use reference::{library, Call, Change, Costs};
 
 /// A row with its mark as a number, or with the number of moves dominated.
 type Told = (u16, u16, Costs);
@@ -26,11 +26,11 @@ fn ask(board: &mut Board, call: &Call, lent: usize) -> Result<(Vec<Told>, usize)
     let rows = &mut vec![Row::default(); lent][..];
     let rows = match *call {
         Call::Load { c, d, rows: ref moves } => return board.load(c, d, moves).map(|()| (Vec::new(), 0)),
-        Call::Enter(given) => board.enter(given, rows)?,
-        Call::Withdraw { number } => {
+        Call::Change(Change::Enter(given)) => board.enter(given, rows)?,
+        Call::Change(Change::Withdraw(number)) => {
             return board.withdraw(number, rows).map(|notice| (notice.rows.iter().map(told).collect(), notice.opened));
         }
-        Call::Recost(given) => board.recost(given, rows)?,
+        Call::Change(Change::Recost(given)) => board.recost(given, rows)?,
         Call::List => return board.list(rows).map(|list| (list.rows.iter().map(told).collect(), list.opened)),
         Call::Band(b) => board.band(b, rows)?,
         Call::Rank(t) => {

@@ -6,7 +6,7 @@ use super::layout;
 use super::loading::load;
 use super::node::Node;
 use super::withdrawing::{recost, withdraw};
-use crate::{Call, Costs, Given, Move};
+use crate::{Call, Change, Costs, Given, Move};
 
 /// `board` is none until a load is accepted.
 #[derive(Clone, Debug, Default)]
@@ -44,7 +44,7 @@ impl Model {
         let count = |passes: &dyn Fn(&Node) -> bool| self.tree.as_ref().map_or(0, |root| root.count(passes));
         match *call {
             Call::List => count(&|node| node.opens(board.d, &board.moves)),
-            Call::Withdraw { number } => {
+            Call::Change(Change::Withdraw(number)) => {
                 let listed = board.list.iter().find(|x| x.number == number);
                 listed.map_or(0, |x| count(&|node| node.opens_for(board.d, &board.list, x)))
             }
@@ -59,9 +59,9 @@ impl Model {
         };
         self.tree = match *call {
             Call::Load { .. } => load(&after.moves),
-            Call::Enter(given) => Some(enter(after.d, self.tree.take(), &given.into())),
-            Call::Withdraw { number } => self.without(number),
-            Call::Recost(Given { number, costs, .. }) => self.recosted(number, costs),
+            Call::Change(Change::Enter(given)) => Some(enter(after.d, self.tree.take(), &given.into())),
+            Call::Change(Change::Withdraw(number)) => self.without(number),
+            Call::Change(Change::Recost(Given { number, costs, .. })) => self.recosted(number, costs),
             _ => unreachable!("a list call changes nothing"),
         };
         self.board = Some(after.clone());

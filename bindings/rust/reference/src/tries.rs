@@ -25,9 +25,9 @@ fn each_call(random: &mut Random, d: usize) -> Vec<Call> {
     let number = random.below(20) as u16;
     let costs = std::array::from_fn(|i| if i < d { random.below(8) as u16 } else { 0 });
     vec![
-        Call::Enter(Given { number, block: random.block(), costs }),
-        Call::Withdraw { number },
-        Call::Recost(Given { number, block: random.block(), costs }),
+        Call::enter(Given { number, block: random.block(), costs }),
+        Call::withdraw(number),
+        Call::recost(Given { number, block: random.block(), costs }),
         Call::List,
         Call::Band(random.below(4)),
         Call::Rank(1 + random.below(8)),
@@ -63,7 +63,7 @@ pub fn used_board(ask: Ask, c: usize, d: usize, n: usize, seed: u64) -> Vec<u8> 
     against.check(&draw.load(c, d, n), 0);
     for _ in 0..30 {
         let board = against.model().board.clone().unwrap();
-        against.check(&draw.change(&board), c + 1);
+        against.check(&Call::Change(draw.change(&board)), c + 1);
     }
     against.memory().to_vec()
 }

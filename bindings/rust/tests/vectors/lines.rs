@@ -77,9 +77,9 @@ pub fn call_of(asked: &str) -> (Call, usize) {
     let call = match kind(asked) {
         "L" | "LB" => return (load(&w, with_block), 0),
         "HO" => return (Call::Hours { minute: argument, hours: hours(w[2], &w[3..]) }, w[1] as usize),
-        "E" | "EB" => Call::Enter(given(&w, with_block)),
-        "W" | "X" => Call::Withdraw { number },
-        "C" | "CB" => Call::Recost(given(&w, with_block)),
+        "E" | "EB" => Call::enter(given(&w, with_block)),
+        "W" | "X" => Call::withdraw(number),
+        "C" | "CB" => Call::recost(given(&w, with_block)),
         "Q" => Call::List,
         "B" => Call::Band(argument),
         "K" => Call::Rank(argument),

@@ -83,11 +83,11 @@ impl Rounds {
         }
         let costs = self.costs(number);
         let [block, moved] = [(); 2].map(|()| self.random.block());
-        let withdrawn = gone.map(|number| ("withdraw, hidden", Call::Withdraw { number }));
+        let withdrawn = gone.map(|number| ("withdraw, hidden", Call::withdraw(number)));
         let others = [
-            ("withdraw, listed", Call::Withdraw { number }),
-            ("enter", Call::Enter(Given { number, block, costs })),
-            ("re-cost", Call::Recost(Given { number: other, block: moved, costs: new })),
+            ("withdraw, listed", Call::withdraw(number)),
+            ("enter", Call::enter(Given { number, block, costs })),
+            ("re-cost", Call::recost(Given { number: other, block: moved, costs: new })),
         ];
         withdrawn.into_iter().chain(others).collect()
     }
