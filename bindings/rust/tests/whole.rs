@@ -44,12 +44,12 @@ fn two_boards_in_turn() {
     let board = |d, seed| (Draw::new(seed, Shape::Uniform, 30, 16), empty_board(16, d));
     let mut boards = [board(2, 1), board(COSTS, 2)];
     let mut accepted = 0;
-    for _ in 0..1500 {
+    for _ in 0..1800 {
         for (draw, against) in &mut boards {
             let board = against.model().board.clone().unwrap();
             let answer = against.check(&draw.call(&board), 17).answer;
             accepted += usize::from(answer.refusal == 0);
         }
     }
-    assert!(accepted > 1500, "{accepted} calls were accepted");
+    assert!(accepted > 1800, "{accepted} calls were accepted");
 }

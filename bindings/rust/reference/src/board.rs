@@ -112,7 +112,9 @@ impl PlainBoard {
         let outside = |fits: bool| if fits { 0 } else { 7 };
         let refusal = match *call {
             Call::Load { .. } | Call::List => 0,
-            Call::Change(change) => change_refusal(self.c, self.d, change, self.find(change.number()).is_some()),
+            Call::Change(change) | Call::Preview(change) => {
+                change_refusal(self.c, self.d, change, self.find(change.number()).is_some())
+            }
             Call::Band(b) => outside(b <= 4095),
             Call::Rank(t) => outside((1..=4096).contains(&t)),
             Call::OnK(k) => outside((1..=self.d).contains(&k)),
@@ -158,6 +160,7 @@ impl PlainBoard {
         match *call {
             Call::Load { .. } => unreachable!("a load does not depend on the board"),
             Call::Change(change) => self.foresee_change(change),
+            Call::Preview(change) => told(self.foresee_change(change).rows),
             Call::List => told(listed(skyline(self.d, &self.moves))),
             Call::Band(b) => told(listed(band(self.d, &self.moves, b))),
             Call::Rank(t) => told(rank(self.d, &self.moves, t)),

@@ -11,17 +11,31 @@ pub enum Change {
 
 #[derive(Clone, Debug, PartialEq, Eq)]
 pub enum Call {
-    Load { c: usize, d: usize, rows: Vec<Given> },
+    Load {
+        c: usize,
+        d: usize,
+        rows: Vec<Given>,
+    },
     Change(Change),
+    /// What the change would answer.
+    Preview(Change),
     List,
     Band(usize),
     Rank(usize),
     OnK(usize),
     Chosen(usize),
-    Hours { minute: usize, hours: Vec<BlockHours> },
+    Hours {
+        minute: usize,
+        hours: Vec<BlockHours>,
+    },
 }
 
 impl Change {
+    /// Its preview, and the change made.
+    pub fn calls(self) -> [Call; 2] {
+        [Call::Preview(self), Call::Change(self)]
+    }
+
     pub fn number(self) -> u16 {
         match self {
             Change::Enter(given) | Change::Recost(given) => given.number,

@@ -142,10 +142,11 @@ impl Draw {
     }
 
     pub fn call(&mut self, board: &PlainBoard) -> Call {
-        match self.random.below(100) {
+        match self.random.below(120) {
             0 => self.any_load(),
             1..=3 => self.bad_load(board),
             4..=29 => self.query(board),
+            30..=49 => Call::Preview(self.change(board)),
             _ => Call::Change(self.change(board)),
         }
     }

@@ -4,7 +4,7 @@ use super::layout::blocks;
 use crate::{Call, Change, Given};
 use std::ops::Range;
 
-/// `before` is the board that a change is made on, c the size of the one that it leaves.
+/// `before` is the board that a change is made on, c the size of the one that it leaves. Previews and lists write none.
 pub fn written(call: &Call, before: Option<&PlainBoard>, c: usize) -> Vec<Range<usize>> {
     let block = |given: Given| {
         let at = blocks(c) + usize::from(given.number);

@@ -1,4 +1,4 @@
-//! Enter, withdraw and re-cost on sound memory.
+//! Enter, withdraw and re-cost on sound memory, and their previews.
 use super::bytes::Head;
 use super::enter::{enter_row, place_for};
 use super::tell::{set_marks, tell};
@@ -55,6 +55,13 @@ fn carry_out(m: &mut [u8], head: Head, swap: &Swap, upkeep: &Upkeep) {
         left = left.with_moves(left.n + 1);
     }
     left.write(m);
+}
+
+pub fn preview(m: &[u8], head: Head, change: Change, rows: &mut [Row]) -> Answer {
+    match plan(m, head, change) {
+        Ok(plan) => tell_plan(m, head, change, &plan, rows),
+        Err(refusal) => refusal,
+    }
 }
 
 pub fn make(m: &mut [u8], head: Head, change: Change, rows: &mut [Row]) -> Answer {

@@ -38,6 +38,7 @@ pub fn ask(memory: &mut [u8], call: &Call, rows: &mut [Row]) -> Answer {
     match *call {
         Call::Load { .. } => unreachable!("answered above"),
         Call::Change(change) => change::make(memory, head, change, rows),
+        Call::Preview(change) => change::preview(memory, head, change, rows),
         Call::List => lists::list(memory, head, rows),
         Call::Band(b) => lists::band(memory, head, b, rows),
         Call::Rank(t) => lists::rank(memory, head, t, rows),
