@@ -1,4 +1,4 @@
-//! The nodes opened that a withdrawal tells (document 02, Card 1, with Card 4's clause).
+//! The nodes opened that a withdrawal and its preview tell (document 02, Cards 1 and 2, with Card 4's clause).
 use dolzhev::padded;
 use reference::against::Against;
 use reference::draw::Draw;
@@ -7,7 +7,7 @@ use reference::node::Node;
 use reference::random::Shape;
 use reference::tries::used_board;
 use reference::{layout, library};
-use reference::{Call, Given, Move, COSTS};
+use reference::{Call, Change, Given, Move, COSTS};
 
 const C: usize = 40;
 const SHAPES: [Shape; 4] = [Shape::Uniform, Shape::Correlated, Shape::AntiCorrelated, Shape::AllListed];
@@ -33,10 +33,11 @@ fn tree_and_list(board: &Against) -> (Option<Node>, Vec<Move>) {
     (tree, content.listed)
 }
 
-/// The call on a copy of the board, rows enough being lent.
-fn on_copy(board: &Against, call: Call) -> Foreseen {
-    let told = over(board.memory()).check(&call, C + 1);
-    assert_eq!(told.answer.refusal, 0, "{call:?}");
+/// The change on a copy of the board, rows enough being lent; its preview answers the same.
+fn on_copy(board: &Against, change: Change) -> Foreseen {
+    let mut copy = over(board.memory());
+    let [preview, told] = change.calls().map(|call| copy.check(&call, C + 1));
+    assert_eq!((told.answer.refusal, told.answer), (0, preview.answer), "{change:?}");
     told
 }
 
@@ -70,7 +71,7 @@ fn not_listed() {
         let (tree, list) = tree_and_list(&board);
         for x in parted(&board).1 {
             assert!(tree.as_ref().unwrap().opens_for(d, &list, &x), "the root for {x:?}");
-            let answer = on_copy(&board, Call::withdraw(x.number)).answer;
+            let answer = on_copy(&board, Change::Withdraw(x.number)).answer;
             assert_eq!((answer.count, answer.opened), (0, 0), "{x:?}");
         }
     }
@@ -82,14 +83,15 @@ fn few_rows() {
     for d in 2..=COSTS {
         let used = used(d);
         for Move { number, .. } in parted(&used).0 {
-            let call = Call::withdraw(number);
-            let need = used.foresee(&call).rows.len();
+            let need = used.foresee(&Call::withdraw(number)).rows.len();
             let mut board = over(used.memory());
-            let answer = board.check(&call, need - 1).answer;
-            assert_eq!((answer.refusal, answer.detail, answer.count, answer.opened), (8, need, 0, 0), "{call:?}");
-            let answer = board.check(&call, need).answer;
-            assert_eq!((answer.refusal, answer.count), (0, need), "{call:?}");
-            assert!(answer.opened > 0, "{call:?}");
+            for call in Change::Withdraw(number).calls() {
+                let answer = board.check(&call, need - 1).answer;
+                assert_eq!((answer.refusal, answer.detail, answer.count, answer.opened), (8, need, 0, 0), "{call:?}");
+                let answer = board.check(&call, need).answer;
+                assert_eq!((answer.refusal, answer.count), (0, need), "{call:?}");
+                assert!(answer.opened > 0, "{call:?}");
+            }
         }
     }
 }
@@ -102,14 +104,14 @@ fn other_changes() {
         let board = used(d);
         let greatest = std::array::from_fn(|i| if i < d { u16::MAX } else { 0 });
         for Move { number, costs } in parted(&board).0 {
-            let told = on_copy(&board, Call::recost(Given { number, block: 1, costs: greatest }));
+            let told = on_copy(&board, Change::Recost(Given { number, block: 1, costs: greatest }));
             brought_up += told.rows.iter().filter(|row| row.mark == 2).count();
             assert_eq!(told.answer.opened, 0, "{number} re-costed");
-            assert_eq!(on_copy(&board, Call::recost(Given { number, block: 1, costs })).answer.opened, 0, "{number}");
+            assert_eq!(on_copy(&board, Change::Recost(Given { number, block: 1, costs })).answer.opened, 0, "{number}");
         }
         let free = (0..C as u16).find(|&x| board.model().board.as_ref().unwrap().find(x).is_none()).unwrap();
         for costs in [[0; COSTS], greatest] {
-            assert_eq!(on_copy(&board, Call::enter(Given { number: free, block: 1, costs })).answer.opened, 0);
+            assert_eq!(on_copy(&board, Change::Enter(Given { number: free, block: 1, costs })).answer.opened, 0);
         }
     }
     assert!(brought_up > 20, "{brought_up} moves came up");
