@@ -33,12 +33,16 @@ fn tree_and_list(board: &Against) -> (Option<Node>, Vec<Move>) {
     (tree, content.listed)
 }
 
-/// The change on a copy of the board, rows enough being lent; its preview answers the same.
-fn on_copy(board: &Against, change: Change) -> Foreseen {
-    let mut copy = over(board.memory());
-    let [preview, told] = change.calls().map(|call| copy.check(&call, C + 1));
+/// The change made after its preview, which answers the same.
+fn look_and_make(board: &mut Against, change: Change, lent: usize) -> Foreseen {
+    let [preview, told] = change.calls().map(|call| board.check(&call, lent));
     assert_eq!((told.answer.refusal, told.answer), (0, preview.answer), "{change:?}");
     told
+}
+
+/// The same on a copy of the board, rows enough being lent.
+fn on_copy(board: &Against, change: Change) -> Foreseen {
+    look_and_make(&mut over(board.memory()), change, C + 1)
 }
 
 #[test]
@@ -46,7 +50,7 @@ fn lone_move() {
     for d in 2..=COSTS {
         let mut board = over(&[0; 64 * C + 1024]);
         board.check(&Call::Load { c: C, d, rows: vec![Given { number: 7, block: 3, costs: padded([5, 9]) }] }, 0);
-        let answer = board.check(&Call::withdraw(7), 1).answer;
+        let answer = look_and_make(&mut board, Change::Withdraw(7), 1).answer;
         assert_eq!((answer.count, answer.opened), (1, 1), "d {d}");
     }
 }
@@ -58,7 +62,7 @@ fn equal_moves() {
         let mut board = over(&[0; 64 * C + 1024]);
         let twin = |number| Given { number, block: 0, costs: padded([5, 9]) };
         board.check(&Call::Load { c: C, d, rows: (0..16).map(twin).collect() }, 0);
-        let answer = board.check(&Call::withdraw(0), 2).answer;
+        let answer = look_and_make(&mut board, Change::Withdraw(0), 2).answer;
         assert_eq!((answer.count, answer.opened), (2, 3), "d {d}");
     }
 }
@@ -143,7 +147,7 @@ fn withdraw(board: &mut Against, x: Move, seen: &mut Seen) {
     let (tree, list) = tree_and_list(board);
     let root = tree.unwrap();
     let counts = |node: &Node| node.opens_for(model.d, &list, &x);
-    let told = board.check(&Call::withdraw(x.number), model.c + 1);
+    let told = look_and_make(board, Change::Withdraw(x.number), model.c + 1);
     let entered: Vec<u16> = told.rows.iter().filter(|row| row.mark == 2).map(|row| row.number).collect();
     let opened = told.answer.opened;
     assert_eq!(opened, root.count(&counts), "{x:?}");
