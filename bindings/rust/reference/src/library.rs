@@ -10,7 +10,7 @@ fn make(memory: &mut [u8], change: Change, rows: &mut [Row]) -> Answer {
     }
 }
 
-pub fn preview(memory: &[u8], change: Change, rows: &mut [Row]) -> Answer {
+fn preview(memory: &[u8], change: Change, rows: &mut [Row]) -> Answer {
     match change {
         Change::Enter(given) => raw::preview_enter(memory, given, rows),
         Change::Withdraw(number) => raw::preview_withdraw(memory, number, rows),
