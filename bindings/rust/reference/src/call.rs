@@ -9,25 +9,18 @@ pub enum Change {
     Recost(Given),
 }
 
+/// A change is made, or only previewed.
 #[derive(Clone, Debug, PartialEq, Eq)]
 pub enum Call {
-    Load {
-        c: usize,
-        d: usize,
-        rows: Vec<Given>,
-    },
+    Load { c: usize, d: usize, rows: Vec<Given> },
     Change(Change),
-    /// What the change would answer.
     Preview(Change),
     List,
     Band(usize),
     Rank(usize),
     OnK(usize),
     Chosen(usize),
-    Hours {
-        minute: usize,
-        hours: Vec<BlockHours>,
-    },
+    Hours { minute: usize, hours: Vec<BlockHours> },
 }
 
 impl Change {
