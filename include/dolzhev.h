@@ -3,14 +3,15 @@
  *
  * The caller lends all memory. No call allocates, waits, or keeps a state of its own (no thread-local either): what a call
  * does depends on its arguments and the lent bytes alone, and each call ends on every content of the lent memory. Calls on
- * different memory may run at the same time; calls on the same memory must not, except that any number of list, band, rank,
- * on_k, chosen and hours calls may. x86-64 only.
+ * different memory may run at the same time; calls on the same memory must not, except that any number of previews and of
+ * list, band, rank, on_k, chosen and hours calls may, each with rows of its own. x86-64 only.
  *
  * What is lent
  *   memory   at least 64 * C + 1024 bytes (DOLZHEV_MEMORY_BYTES) for a board of size C, of any alignment. Bytes past these
  *            are never written. Only dolzhev_load, dolzhev_enter, dolzhev_withdraw and dolzhev_recost write it at all, and
  *            only where they are accepted.
- *   rows     a multiple of 2 as address. For a notice C + 1 rows always suffice (DOLZHEV_NOTICE_ROWS), for a list C rows do.
+ *   rows     a multiple of 2 as address. For a notice or a preview C + 1 rows always suffice (DOLZHEV_NOTICE_ROWS), for a list
+ *            C rows do.
  *   hours    a multiple of 2 as address. Only read.
  *   `memory_len` counts bytes, `rows_len` rows, `hours_len` entries. Buffers of one call must not overlap. A pointer whose
  *   length is 0 is not read or written, but must be all the same non-null and aligned (any such address serves); NULL is never
@@ -22,8 +23,8 @@
  *   detail   of 8 the rows needed; of the 4, 5, 7 and 11 of dolzhev_load the place, from 0, of the first row that fails; of 12
  *            the lowest block with bad hours; else 0.
  *   count    the rows written, at the start of the lent ones. Rows past them are untouched.
- *   opened   of dolzhev_list the nodes opened; of dolzhev_withdraw those opened while looking for moves to bring up, 0 if the
- *            move was not listed; else 0.
+ *   opened   of dolzhev_list the nodes opened; of dolzhev_withdraw and its preview those opened while looking for moves to
+ *            bring up, 0 if the move was not listed; else 0.
  *   A refused call has count and opened zero and alters no lent byte.
  *   8 is given exactly if more rows are needed than lent.
  *
@@ -131,6 +132,27 @@ dolzhev_answer dolzhev_withdraw(uint8_t *memory, size_t memory_len, uint16_t num
  * Refusals, in order: 3 if the memory is not sound, 4 if the number is at or above C, 11 if the block is above 63, 7 if a cost
  * past d is not zero, 6 if the number is not on the board, 8. */
 dolzhev_answer dolzhev_recost(uint8_t *memory, size_t memory_len, dolzhev_move move, dolzhev_row *rows, size_t rows_len);
+
+/* The previews: a look at a change before it is made. Each answers as its change would with the same arguments on a copy of
+ * the memory: the same refusal, detail, count, opened and rows, 8 by the rows lent to the preview itself. The memory is only
+ * read: every byte of it stays, and the change, if it is made next with as many rows, answers the same.
+ * The rows are marked like those of a notice, first 1 where a row would leave the list, then 2 where one would enter it. But
+ * they tell of no change made and are no notice: who holds the list passes them by. */
+
+/* What dolzhev_enter would do.
+ * Refusals: those of dolzhev_enter, in its order. */
+dolzhev_answer dolzhev_preview_enter(const uint8_t *memory, size_t memory_len, dolzhev_move move, dolzhev_row *rows,
+                                     size_t rows_len);
+
+/* What dolzhev_withdraw would do, with the nodes that it would open.
+ * Refusals: those of dolzhev_withdraw, in its order. */
+dolzhev_answer dolzhev_preview_withdraw(const uint8_t *memory, size_t memory_len, uint16_t number, dolzhev_row *rows,
+                                        size_t rows_len);
+
+/* What dolzhev_recost would do. With costs equal to the old ones that is accepted and needs no row.
+ * Refusals: those of dolzhev_recost, in its order. */
+dolzhev_answer dolzhev_preview_recost(const uint8_t *memory, size_t memory_len, dolzhev_move move, dolzhev_row *rows,
+                                      size_t rows_len);
 
 /* The lists. Each writes rows with mark 0, in Z-order, but for dolzhev_rank. None but dolzhev_hours looks at blocks. */
 

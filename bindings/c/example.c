@@ -1,5 +1,5 @@
-/* A board from C, to start from: load, list and changes on document 01's worked board, what is open at a minute of the week,
- * then addresses and a region.
+/* A board from C, to start from: load, list, previews and changes on document 01's worked board, what is open at a minute of
+ * the week, then addresses and a region.
  * bindings/c/check has the line that compiles it. */
 #include <inttypes.h>
 #include <stdio.h>
@@ -78,13 +78,30 @@ static void ask_hours(void)
     print_open("open on the first day at 22:00", 22 * 60);
 }
 
+/* A driver looks, then takes. What the preview told has not happened: the list is as it was until the move is withdrawn. */
+static void look_then_take(void)
+{
+    print_opened("preview of withdraw 2", dolzhev_preview_withdraw(memory, sizeof memory, 2, rows, rows_len));
+    print_list();
+    print_opened("withdraw 2", dolzhev_withdraw(memory, sizeof memory, 2, rows, rows_len));
+}
+
+/* The other two previews. The list stays as it is again; the one that is lent no row gets 8. */
+static void look(void)
+{
+    dolzhev_move two = {2, 12, {2, 1}}, zero = {0, 7, {9, 9}};
+    print_answer("preview of enter 2 (2, 1)", dolzhev_preview_enter(memory, sizeof memory, two, rows, rows_len));
+    print_answer("preview of enter 2 (2, 1), no row lent", dolzhev_preview_enter(memory, sizeof memory, two, rows, 0));
+    print_answer("preview of re-cost 0 to (9, 9)", dolzhev_preview_recost(memory, sizeof memory, zero, rows, rows_len));
+    print_list();
+}
+
 static void change(void)
 {
     dolzhev_move six = {6, 7, {4, 1}}, one = {1, 7, {0, 1}};
     print_answer("enter 6 (4, 1)", dolzhev_enter(memory, sizeof memory, six, rows, rows_len));
     print_answer("enter 6 again", dolzhev_enter(memory, sizeof memory, six, rows, rows_len));
     print_opened("withdraw 6", dolzhev_withdraw(memory, sizeof memory, 6, rows, rows_len));
-    print_opened("withdraw 2", dolzhev_withdraw(memory, sizeof memory, 2, rows, rows_len));
     print_opened("withdraw 5", dolzhev_withdraw(memory, sizeof memory, 5, rows, rows_len));
     print_opened("withdraw 3", dolzhev_withdraw(memory, sizeof memory, 3, rows, rows_len));
     print_answer("re-cost 1 to (0, 1), no row lent", dolzhev_recost(memory, sizeof memory, one, rows, 0));
@@ -119,6 +136,8 @@ int main(void)
     print_answer("load", dolzhev_load(memory, sizeof memory, SIZE, D, worked, sizeof worked / sizeof worked[0]));
     print_list();
     ask_hours();
+    look_then_take();
+    look();
     change();
     print_list();
     print_first_address();

@@ -11,7 +11,7 @@ pub struct Listed<'r> {
     pub opened: usize,
 }
 
-/// The notice of a withdrawal, and the nodes opened for it.
+/// The notice of a withdrawal, and the nodes opened for it; or what a preview foretells of them.
 #[derive(Clone, Copy, Debug, PartialEq, Eq)]
 pub struct Withdrawn<'r> {
     /// The rows that left the list, then those that entered it, each part in Z-order.
@@ -24,7 +24,8 @@ pub struct Withdrawn<'r> {
 /// A board over memory that the program lends. What the memory holds is judged anew by every call, so a board may lie over
 /// any bytes: those that are none are [`Refusal::Unsound`] until a load is accepted.
 ///
-/// The calls write their rows at the start of the lent ones, and hand back those.
+/// The calls write their rows at the start of the lent ones, and hand back those. Previews and lists borrow the board to read
+/// it, so several may run at the same time.
 pub struct Board<'m> {
     memory: &'m mut [u8],
 }
@@ -32,6 +33,11 @@ pub struct Board<'m> {
 /// The rows told by a call other than load.
 fn told<T>(answer: raw::Answer, rows: &[T]) -> Result<&[T], Refusal> {
     Refusal::judge(answer.refusal, answer.detail, None).map(|()| &rows[..answer.count])
+}
+
+/// The same of a withdrawal or its preview.
+fn withdrawn(answer: raw::Answer, rows: &[Row]) -> Result<Withdrawn<'_>, Refusal> {
+    told(answer, rows).map(|rows| Withdrawn { rows, opened: answer.opened })
 }
 
 impl<'m> Board<'m> {
@@ -63,14 +69,30 @@ impl<'m> Board<'m> {
 
     /// Takes the move of that number away, and tells the notice and the nodes opened for it.
     pub fn withdraw<'r>(&mut self, number: u16, rows: &'r mut [Row]) -> Result<Withdrawn<'r>, Refusal> {
-        let answer = raw::withdraw(self.memory, number, Row::lend(rows));
-        told(answer, rows).map(|rows| Withdrawn { rows, opened: answer.opened })
+        withdrawn(raw::withdraw(self.memory, number, Row::lend(rows)), rows)
     }
 
     /// Gives the move of that number the costs and the block, and tells the notice. With equal costs the block alone changes,
     /// and no row is needed.
     pub fn recost<'r>(&mut self, x: Move, rows: &'r mut [Row]) -> Result<&'r [Row], Refusal> {
         told(raw::recost(self.memory, x, Row::lend(rows)), rows)
+    }
+
+    /// What [`Board::enter`] would answer with as many rows lent: the same notice or the same refusal. The board stays as it is.
+    /// Rows of a preview tell of no change made: who follows the list by notices passes them by.
+    pub fn preview_enter<'r>(&self, x: Move, rows: &'r mut [Row]) -> Result<&'r [Row], Refusal> {
+        told(raw::preview_enter(self.memory, x, Row::lend(rows)), rows)
+    }
+
+    /// What [`Board::withdraw`] would answer, with the nodes that it would open. As of [`Board::preview_enter`], nothing
+    /// changes, and the rows are no notice.
+    pub fn preview_withdraw<'r>(&self, number: u16, rows: &'r mut [Row]) -> Result<Withdrawn<'r>, Refusal> {
+        withdrawn(raw::preview_withdraw(self.memory, number, Row::lend(rows)), rows)
+    }
+
+    /// What [`Board::recost`] would answer. As of [`Board::preview_enter`], nothing changes, and the rows are no notice.
+    pub fn preview_recost<'r>(&self, x: Move, rows: &'r mut [Row]) -> Result<&'r [Row], Refusal> {
+        told(raw::preview_recost(self.memory, x, Row::lend(rows)), rows)
     }
 
     /// The moves that no move dominates, in Z-order; of those with equal costs the one of lowest number alone.

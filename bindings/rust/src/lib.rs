@@ -23,6 +23,23 @@
 //! # Ok::<(), Refusal>(())
 //! ```
 //!
+//! A driver looks, then takes. [`Board::preview_withdraw`], like the previews of enter and re-cost, tells what the change
+//! would, and leaves the board as it is: who follows the list by notices passes a preview's rows by.
+//!
+//! ```
+//! # use dolzhev::{padded, Board, Mark, Move, Refusal, Row};
+//! # let mut memory = [0; Board::bytes(16)];
+//! # let mut rows = [Row::default(); Board::notice_rows(16)];
+//! # let mut board = Board::over(&mut memory);
+//! # let first = Move { number: 0, block: 5, costs: padded([1, 6]) };
+//! # board.load(16, 2, &[first, Move { number: 1, block: 8, costs: padded([3, 7]) }])?;
+//! let foretold = board.preview_withdraw(0, &mut rows)?.rows.to_vec();
+//! assert_eq!((foretold[1].mark(), foretold[1].number), (Mark::Entered, 1));
+//! assert_eq!(board.list(&mut rows)?.rows[0].number, 0);
+//! assert_eq!(board.withdraw(0, &mut rows)?.rows, foretold);
+//! # Ok::<(), Refusal>(())
+//! ```
+//!
 //! Each move lies in a yard block. [`Board::hours`] tells the list over the moves in the blocks that are open at a minute of
 //! the week; no other call looks at blocks.
 //!

@@ -17,9 +17,9 @@ pub fn padded<const D: usize>(given: [u16; D]) -> Costs {
 pub enum Mark {
     /// It is in the list that was asked for.
     Listed,
-    /// It was in the list and is not any more.
+    /// It was in the list and is not any more; of a preview, it is and would not be.
     Left,
-    /// It was not in the list and is now.
+    /// It was not in the list and is now; of a preview, it is not and would be.
     Entered,
 }
 

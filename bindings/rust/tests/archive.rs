@@ -74,7 +74,7 @@ fn calls_of_the_headers() {
         assert!(exported.iter().eq(&declared), "{name} has {exported:?}");
         calls += declared.len();
     }
-    assert_eq!(calls, 13);
+    assert_eq!(calls, 16);
 }
 
 #[test]

@@ -33,11 +33,11 @@ fn bounds() {
             let (refused, given) = (expected(in_yard), Given { number, block, costs });
             let load = Call::Load { c: C, d: 2, rows: vec![three, given] };
             assert_eq!(refusal(&board, load), (refused, refused.min(1)), "load {given:?}");
-            assert_eq!(refusal(&board, Call::Enter(given)), (refused, 0), "enter {given:?}");
+            assert_eq!(refusal(&board, Call::enter(given)), (refused, 0), "enter {given:?}");
         }
         for (number, costs, in_yard) in [(3, good, 0), (16, past, 4), (3, past, 7), (4, past, 7), (4, good, 6)] {
             let given = Given { number, block, costs };
-            assert_eq!(refusal(&board, Call::Recost(given)), (expected(in_yard), 0), "re-cost {given:?}");
+            assert_eq!(refusal(&board, Call::recost(given)), (expected(in_yard), 0), "re-cost {given:?}");
         }
     }
 }
@@ -57,7 +57,7 @@ fn block_alone() {
             let at = blocks(C) + usize::from(number);
             for other in [block, 0, 63, block ^ 1] {
                 let before = against.memory().to_vec();
-                let answer = against.check(&Call::Recost(Given { number, block: other, costs }), 0).answer;
+                let answer = against.check(&Call::recost(Given { number, block: other, costs }), 0).answer;
                 assert_eq!((answer.refusal, answer.count), (0, 0), "number {number}, block {other}");
                 let altered = if before[at] == other as u8 { vec![] } else { vec![at] };
                 assert_eq!(differing(&before, against.memory()), altered, "number {number}, block {other}");
@@ -81,13 +81,13 @@ fn other_blocks_stay() {
     let mut random = Random::new(24);
     let mut board = board(2, moves(&mut random, Shape::Uniform, 2, 6, C, C));
     for number in random.numbers(C, C) {
-        let [before, after] = blocks_around(&mut board, &Call::Withdraw { number });
+        let [before, after] = blocks_around(&mut board, &Call::withdraw(number));
         assert_eq!(before, after);
         for block in [random.block(), 0, 63] {
             let costs = padded([0; 2].map(|_: u16| random.below(6) as u16));
             let held = board.model().board.as_ref().unwrap().find(number).is_some();
             let given = Given { number, block, costs };
-            let call = if held { Call::Recost(given) } else { Call::Enter(given) };
+            let call = if held { Call::recost(given) } else { Call::enter(given) };
             let [mut before, after] = blocks_around(&mut board, &call);
             before[usize::from(number)] = block as u8;
             assert_eq!(before, after, "{call:?}");
@@ -108,15 +108,15 @@ fn block_given() {
     let costs = padded([4, 4]);
     let mut board = board(2, vec![Given { number: 7, block: 63, costs }]);
     assert_eq!(open(&mut board, 63), [7]);
-    board.check(&Call::Enter(Given { number: 8, block: 1, costs }), C);
+    board.check(&Call::enter(Given { number: 8, block: 1, costs }), C);
     assert_eq!(open(&mut board, 1), [8]);
     for (block, costs) in [(2, costs), (3, padded([5, 5])), (4, padded([1, 1]))] {
-        board.check(&Call::Recost(Given { number: 8, block, costs }), C + 1);
+        board.check(&Call::recost(Given { number: 8, block, costs }), C + 1);
         assert_eq!([open(&mut board, block - 1), open(&mut board, block)], [vec![], vec![8]], "block {block}");
     }
-    board.check(&Call::Recost(Given { number: 8, block: 5, costs: padded([9, 9]) }), 0);
+    board.check(&Call::recost(Given { number: 8, block: 5, costs: padded([9, 9]) }), 0);
     assert_eq!([open(&mut board, 4), open(&mut board, 5)], [vec![8], vec![]], "8 changes nothing");
-    board.check(&Call::Withdraw { number: 8 }, C);
+    board.check(&Call::withdraw(8), C);
     assert_eq!(open(&mut board, 4), []);
 }
 
@@ -127,7 +127,7 @@ fn calls(random: &mut Random, d: usize) -> Vec<Call> {
     let costs: Costs = std::array::from_fn(|i| if i < d { random.below(6) as u16 } else { 0 });
     let [back, changed] = [gone, other].map(|number| Given { number, block: 9, costs });
     let lists = [Call::List, Call::Band(1), Call::Rank(4), Call::OnK(d - 1), Call::Chosen(3)];
-    let changes = [Call::Withdraw { number: gone }, Call::Recost(changed), Call::Enter(back)];
+    let changes = [Call::withdraw(gone), Call::recost(changed), Call::enter(back)];
     changes.into_iter().chain(lists).collect()
 }
 

@@ -38,7 +38,7 @@ fn one_cost_decides() {
             assert_eq!(told(&mut board, Call::Rank(1)), [(1, 9)], "d {d}, cost {place}");
             let others = Call::Chosen((1 << d) - 1 - (1 << place));
             assert_eq!(told(&mut board, others), [(0, 9), (0, 4)], "d {d}, all but cost {place}");
-            assert_eq!(told(&mut board, Call::Withdraw { number: 9 }), [(1, 9), (2, 4)], "d {d}, cost {place}");
+            assert_eq!(told(&mut board, Call::withdraw(9)), [(1, 9), (2, 4)], "d {d}, cost {place}");
         }
     }
 }
@@ -54,7 +54,7 @@ fn one_cost_keeps() {
             assert_eq!(told(&mut board, Call::List), [(0, 9)], "d {d}, cost {place}");
             let mut costs = level(d);
             costs[place] = 4;
-            let recost = Call::Recost(Given { number: 4, block: 0, costs });
+            let recost = Call::recost(Given { number: 4, block: 0, costs });
             assert_eq!(told(&mut board, recost), [(2, 4)], "d {d}, cost {place}");
         }
     }

@@ -4,7 +4,7 @@ use reference::against::Against;
 use reference::draw::Draw;
 use reference::library;
 use reference::random::Shape;
-use reference::{BlockHours, Call, Given, Window, BLOCKS, COSTS};
+use reference::{BlockHours, Call, Change, Given, Window, BLOCKS, COSTS};
 
 fn row<const D: usize>(number: u16, costs: [u16; D]) -> Given {
     Given { number, block: 0, costs: padded(costs) }
@@ -48,14 +48,16 @@ fn calls_on(against: &Against, free: u16) -> Vec<Call> {
     let (first, last) = (board.moves[0], board.moves[board.moves.len() - 1]);
     let listed = board.list[board.list.len() / 2];
     let (least, block) = ([0; COSTS], 9);
-    vec![
-        Call::Enter(Given { number: free, block, costs: least }),
-        Call::Enter(Given { number: free, block, costs: last.costs }),
-        Call::Withdraw { number: first.number },
-        Call::Withdraw { number: listed.number },
-        Call::Recost(Given { number: listed.number, block, costs: last.costs }),
-        Call::Recost(Given { number: last.number, block, costs: least }),
-        Call::Recost(listed.in_block(block)),
+    let changes = [
+        Change::Enter(Given { number: free, block, costs: least }),
+        Change::Enter(Given { number: free, block, costs: last.costs }),
+        Change::Withdraw(first.number),
+        Change::Withdraw(listed.number),
+        Change::Recost(Given { number: listed.number, block, costs: last.costs }),
+        Change::Recost(Given { number: last.number, block, costs: least }),
+        Change::Recost(listed.in_block(block)),
+    ];
+    let lists = [
         Call::List,
         Call::Band(0),
         Call::Band(3),
@@ -69,7 +71,8 @@ fn calls_on(against: &Against, free: u16) -> Vec<Call> {
         hours(1),
         hours(2),
         hours(5),
-    ]
+    ];
+    changes.into_iter().flat_map(Change::calls).chain(lists).collect()
 }
 
 #[test]
@@ -92,7 +95,7 @@ fn four_numbers_of_rows() {
 #[test]
 fn notice_of_one_row_more_than_the_board() {
     let against = loaded(64, 2, Shape::AllListed, 64, 9);
-    assert_eq!(lend_each(&against, &Call::Recost(row(5, [0, 0]))), 65);
+    assert_eq!(Change::Recost(row(5, [0, 0])).calls().map(|call| lend_each(&against, &call)), [65, 65]);
 }
 
 fn load_answer(bytes: usize, c: usize, d: usize, rows: Vec<Given>) -> (usize, usize) {
@@ -125,18 +128,23 @@ fn numbers_at_the_bound() {
     let mut against = Against::over(library::ask, &[0; 2048]);
     against.check(&Call::Load { c: 16, d: 2, rows: vec![] }, 0);
     for (number, refusal) in [(15, 0), (16, 4), (15, 5), (65535, 4)] {
-        assert_eq!(against.check(&Call::Enter(row(number, [3, 3])), 17).answer.refusal, refusal);
+        assert_eq!(against.check(&Call::enter(row(number, [3, 3])), 17).answer.refusal, refusal);
     }
-    assert_eq!(against.check(&Call::Withdraw { number: 16 }, 17).answer.refusal, 4);
-    assert_eq!(against.check(&Call::Withdraw { number: 14 }, 17).answer.refusal, 6);
-    assert_eq!(against.check(&Call::Recost(row(16, [0, 0, 0, 1])), 17).answer.refusal, 4);
-    assert_eq!(against.check(&Call::Recost(row(14, [0, 0, 0, 1])), 17).answer.refusal, 7);
-    assert_eq!(against.check(&Call::Recost(row(14, [0, 0])), 17).answer.refusal, 6);
+    assert_eq!(against.check(&Call::withdraw(16), 17).answer.refusal, 4);
+    assert_eq!(against.check(&Call::withdraw(14), 17).answer.refusal, 6);
+    assert_eq!(against.check(&Call::recost(row(16, [0, 0, 0, 1])), 17).answer.refusal, 4);
+    assert_eq!(against.check(&Call::recost(row(14, [0, 0, 0, 1])), 17).answer.refusal, 7);
+    assert_eq!(against.check(&Call::recost(row(14, [0, 0])), 17).answer.refusal, 6);
 }
 
 /// What a call on a copy of the board is refused with.
 fn refusal(against: &Against, call: Call) -> usize {
     Against::over(library::ask, against.memory()).check(&call, 17).answer.refusal
+}
+
+/// The same of a change and of its preview.
+fn refusals(against: &Against, change: Change) -> [usize; 2] {
+    change.calls().map(|call| refusal(against, call))
 }
 
 /// A cost past d is refused wherever it stands, in a load, an enter and a re-cost.
@@ -147,14 +155,14 @@ fn costs_past_d() {
         let mut costs = [1; COSTS];
         costs[d..].fill(0);
         against.check(&Call::Load { c: 16, d, rows: vec![row(3, costs)] }, 0);
-        assert_eq!(refusal(&against, Call::Enter(row(4, costs))), 0);
+        assert_eq!(refusals(&against, Change::Enter(row(4, costs))), [0, 0]);
         for place in d..COSTS {
             let mut costs = costs;
             costs[place] = 1;
             let rows = vec![row(4, []), row(3, costs)];
             assert_eq!(load_answer(2048, 16, d, rows), (7, 1), "d {d}: cost {place}");
-            assert_eq!(refusal(&against, Call::Enter(row(4, costs))), 7, "d {d}: cost {place}");
-            assert_eq!(refusal(&against, Call::Recost(row(3, costs))), 7, "d {d}: cost {place}");
+            assert_eq!(refusals(&against, Change::Enter(row(4, costs))), [7, 7], "d {d}: cost {place}");
+            assert_eq!(refusals(&against, Change::Recost(row(3, costs))), [7, 7], "d {d}: cost {place}");
         }
     }
 }

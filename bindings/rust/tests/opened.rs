@@ -1,4 +1,4 @@
-//! The nodes opened that a withdrawal tells (document 02, Card 1, with Card 4's clause).
+//! The nodes opened that a withdrawal and its preview tell (document 02, Cards 1 and 2, with Card 4's clause).
 use dolzhev::padded;
 use reference::against::Against;
 use reference::draw::Draw;
@@ -7,7 +7,7 @@ use reference::node::Node;
 use reference::random::Shape;
 use reference::tries::used_board;
 use reference::{layout, library};
-use reference::{Call, Given, Move, COSTS};
+use reference::{Call, Change, Given, Move, COSTS};
 
 const C: usize = 40;
 const SHAPES: [Shape; 4] = [Shape::Uniform, Shape::Correlated, Shape::AntiCorrelated, Shape::AllListed];
@@ -33,11 +33,16 @@ fn tree_and_list(board: &Against) -> (Option<Node>, Vec<Move>) {
     (tree, content.listed)
 }
 
-/// The call on a copy of the board, rows enough being lent.
-fn on_copy(board: &Against, call: Call) -> Foreseen {
-    let told = over(board.memory()).check(&call, C + 1);
-    assert_eq!(told.answer.refusal, 0, "{call:?}");
+/// The change made after its preview, which answers the same.
+fn look_and_make(board: &mut Against, change: Change, lent: usize) -> Foreseen {
+    let [preview, told] = change.calls().map(|call| board.check(&call, lent));
+    assert_eq!((told.answer.refusal, told.answer), (0, preview.answer), "{change:?}");
     told
+}
+
+/// The same on a copy of the board, rows enough being lent.
+fn on_copy(board: &Against, change: Change) -> Foreseen {
+    look_and_make(&mut over(board.memory()), change, C + 1)
 }
 
 #[test]
@@ -45,7 +50,7 @@ fn lone_move() {
     for d in 2..=COSTS {
         let mut board = over(&[0; 64 * C + 1024]);
         board.check(&Call::Load { c: C, d, rows: vec![Given { number: 7, block: 3, costs: padded([5, 9]) }] }, 0);
-        let answer = board.check(&Call::Withdraw { number: 7 }, 1).answer;
+        let answer = look_and_make(&mut board, Change::Withdraw(7), 1).answer;
         assert_eq!((answer.count, answer.opened), (1, 1), "d {d}");
     }
 }
@@ -57,7 +62,7 @@ fn equal_moves() {
         let mut board = over(&[0; 64 * C + 1024]);
         let twin = |number| Given { number, block: 0, costs: padded([5, 9]) };
         board.check(&Call::Load { c: C, d, rows: (0..16).map(twin).collect() }, 0);
-        let answer = board.check(&Call::Withdraw { number: 0 }, 2).answer;
+        let answer = look_and_make(&mut board, Change::Withdraw(0), 2).answer;
         assert_eq!((answer.count, answer.opened), (2, 3), "d {d}");
     }
 }
@@ -70,7 +75,7 @@ fn not_listed() {
         let (tree, list) = tree_and_list(&board);
         for x in parted(&board).1 {
             assert!(tree.as_ref().unwrap().opens_for(d, &list, &x), "the root for {x:?}");
-            let answer = on_copy(&board, Call::Withdraw { number: x.number }).answer;
+            let answer = on_copy(&board, Change::Withdraw(x.number)).answer;
             assert_eq!((answer.count, answer.opened), (0, 0), "{x:?}");
         }
     }
@@ -82,14 +87,15 @@ fn few_rows() {
     for d in 2..=COSTS {
         let used = used(d);
         for Move { number, .. } in parted(&used).0 {
-            let call = Call::Withdraw { number };
-            let need = used.foresee(&call).rows.len();
+            let need = used.foresee(&Call::withdraw(number)).rows.len();
             let mut board = over(used.memory());
-            let answer = board.check(&call, need - 1).answer;
-            assert_eq!((answer.refusal, answer.detail, answer.count, answer.opened), (8, need, 0, 0), "{call:?}");
-            let answer = board.check(&call, need).answer;
-            assert_eq!((answer.refusal, answer.count), (0, need), "{call:?}");
-            assert!(answer.opened > 0, "{call:?}");
+            for call in Change::Withdraw(number).calls() {
+                let answer = board.check(&call, need - 1).answer;
+                assert_eq!((answer.refusal, answer.detail, answer.count, answer.opened), (8, need, 0, 0), "{call:?}");
+                let answer = board.check(&call, need).answer;
+                assert_eq!((answer.refusal, answer.count), (0, need), "{call:?}");
+                assert!(answer.opened > 0, "{call:?}");
+            }
         }
     }
 }
@@ -102,14 +108,14 @@ fn other_changes() {
         let board = used(d);
         let greatest = std::array::from_fn(|i| if i < d { u16::MAX } else { 0 });
         for Move { number, costs } in parted(&board).0 {
-            let told = on_copy(&board, Call::Recost(Given { number, block: 1, costs: greatest }));
+            let told = on_copy(&board, Change::Recost(Given { number, block: 1, costs: greatest }));
             brought_up += told.rows.iter().filter(|row| row.mark == 2).count();
             assert_eq!(told.answer.opened, 0, "{number} re-costed");
-            assert_eq!(on_copy(&board, Call::Recost(Given { number, block: 1, costs })).answer.opened, 0, "{number}");
+            assert_eq!(on_copy(&board, Change::Recost(Given { number, block: 1, costs })).answer.opened, 0, "{number}");
         }
         let free = (0..C as u16).find(|&x| board.model().board.as_ref().unwrap().find(x).is_none()).unwrap();
         for costs in [[0; COSTS], greatest] {
-            assert_eq!(on_copy(&board, Call::Enter(Given { number: free, block: 1, costs })).answer.opened, 0);
+            assert_eq!(on_copy(&board, Change::Enter(Given { number: free, block: 1, costs })).answer.opened, 0);
         }
     }
     assert!(brought_up > 20, "{brought_up} moves came up");
@@ -141,7 +147,7 @@ fn withdraw(board: &mut Against, x: Move, seen: &mut Seen) {
     let (tree, list) = tree_and_list(board);
     let root = tree.unwrap();
     let counts = |node: &Node| node.opens_for(model.d, &list, &x);
-    let told = board.check(&Call::Withdraw { number: x.number }, model.c + 1);
+    let told = look_and_make(board, Change::Withdraw(x.number), model.c + 1);
     let entered: Vec<u16> = told.rows.iter().filter(|row| row.mark == 2).map(|row| row.number).collect();
     let opened = told.answer.opened;
     assert_eq!(opened, root.count(&counts), "{x:?}");
@@ -171,7 +177,7 @@ fn play(c: usize, d: usize, shape: Shape, span: usize, seed: u64, seen: &mut See
         let list = board.model().board.as_ref().unwrap().list.clone();
         withdraw(&mut board, list[draw.random.below(list.len())], seen);
         let model = board.model().board.clone().unwrap();
-        board.check(&draw.change(&model), c + 1);
+        board.check(&Call::Change(draw.change(&model)), c + 1);
     }
 }
 

@@ -1,5 +1,5 @@
 //! Long mixed runs against the plain model: answers, rows, details, nodes opened, the tree in memory, and a holder who
-//! reads the list once and then follows the notices alone.
+//! reads the list once and then follows the notices alone, passing previews by.
 use reference::address::key;
 use reference::against::{Against, Ask};
 use reference::draw::Draw;
@@ -18,8 +18,13 @@ struct Run {
     steps: usize,
 }
 
-/// How often each refusal was answered.
-type Seen = [usize; 13];
+/// How often each refusal was answered, and how many previews the holder passed by that had rows: by these he would have
+/// another list.
+#[derive(Debug, Default)]
+struct Seen {
+    refusals: [usize; 13],
+    passed_by: usize,
+}
 
 /// Who read the list once and sees notices only; none before, and after the next load.
 #[derive(Default)]
@@ -30,7 +35,7 @@ impl Holder {
         match (call, &mut self.0) {
             (Call::Load { .. }, held) => *held = None,
             (Call::List, held @ None) => *held = Some(rows.iter().map(moved).collect()),
-            (Call::Enter(_) | Call::Withdraw { .. } | Call::Recost(_), Some(held)) => follow(d, held, rows),
+            (Call::Change(_), Some(held)) => follow(d, held, rows),
             _ => {}
         }
     }
@@ -70,10 +75,11 @@ fn go_on(run: &Run, draw: &mut Draw, against: &mut Against, seen: &mut Seen) -> 
         let foreseen = against.foresee(&call);
         let lent = draw.lent(run.c, foreseen.rows.len());
         let told = against.check_foreseen(&call, foreseen, lent);
-        seen[told.answer.refusal] += 1;
+        seen.refusals[told.answer.refusal] += 1;
         if told.answer.refusal == 0 {
             holder.hear(board.d, &call, &told.rows);
         }
+        seen.passed_by += usize::from(matches!(call, Call::Preview(_)) && !told.rows.is_empty());
         if let (Some(held), Some(board)) = (&holder.0, &against.model().board) {
             assert_eq!(*held, board.list, "after {call:?}");
             followed += 1;
@@ -82,24 +88,20 @@ fn go_on(run: &Run, draw: &mut Draw, against: &mut Against, seen: &mut Seen) -> 
     followed
 }
 
-fn play(ask: Ask, run: &Run, seed: u64) -> Seen {
+fn play(ask: Ask, run: &Run, seed: u64, seen: &mut Seen) {
     let mut draw = Draw::new(seed, run.shape, run.span, run.c);
     let mut against = Against::over(ask, &garbage(&mut draw.random, run.c));
-    let mut seen = [0; 13];
-    seen[against.check(&Call::List, 5).answer.refusal] += 1;
+    seen.refusals[against.check(&Call::List, 5).answer.refusal] += 1;
     against.check(&draw.load(run.c, run.d, run.start), 0);
-    let followed = go_on(run, &mut draw, &mut against, &mut seen);
+    let followed = go_on(run, &mut draw, &mut against, seen);
     assert!(followed > run.steps / 2, "the holder followed {followed} calls only");
     assert!(against.is_sound(), "the independent check after the run");
-    seen
 }
 
 fn play_all(ask: Ask, runs: &[Run]) -> Seen {
-    let mut seen = [0; 13];
+    let mut seen = Seen::default();
     for (seed, run) in runs.iter().enumerate() {
-        for (sum, more) in seen.iter_mut().zip(play(ask, run, seed as u64)) {
-            *sum += more;
-        }
+        play(ask, run, seed as u64, &mut seen);
     }
     seen
 }
@@ -117,32 +119,34 @@ fn runs(c: usize, start: usize, steps: usize) -> Vec<Run> {
     runs
 }
 
-fn assert_each_refusal(seen: Seen) {
+/// Each refusal, and more than so many previews that were passed by.
+fn assert_seen(seen: &Seen, passed_by: usize) {
     for refusal in [0, 2, 3, 4, 5, 6, 7, 8, 11, 12] {
-        assert!(seen[refusal] > 0, "the answer {refusal} never came up: {seen:?}");
+        assert!(seen.refusals[refusal] > 0, "the answer {refusal} never came up: {seen:?}");
     }
+    assert!(seen.passed_by > passed_by, "few previews had rows: {seen:?}");
 }
 
 #[test]
 fn least_boards() {
-    let mut all = runs(16, 0, 3000);
-    all.extend(runs(16, 16, 1500));
-    all.extend(runs(17, 9, 1500));
+    let mut all = runs(16, 0, 3600);
+    all.extend(runs(16, 16, 1800));
+    all.extend(runs(17, 9, 1800));
     let seen = play_all(library::ask, &all);
-    assert_each_refusal(seen);
-    assert!(seen[1] > 0, "memory was never too short: {seen:?}");
+    assert_seen(&seen, 10_000);
+    assert!(seen.refusals[1] > 0, "memory was never too short: {seen:?}");
 }
 
 #[test]
 fn middle_boards() {
-    let mut all = runs(100, 70, 900);
-    all.extend(runs(256, 256, 300));
-    assert_each_refusal(play_all(library::ask, &all));
+    let mut all = runs(100, 70, 1080);
+    all.extend(runs(256, 256, 360));
+    assert_seen(&play_all(library::ask, &all), 2000);
 }
 
 #[test]
 fn large_boards() {
-    assert_each_refusal(play_all(library::ask, &runs(1000, 900, 60)));
+    assert_seen(&play_all(library::ask, &runs(1000, 900, 72)), 50);
 }
 
 #[test]
@@ -156,17 +160,18 @@ fn greatest_boards() {
         (2, AllListed, 65536),
     ];
     for (seed, (d, shape, span)) in shapes.into_iter().enumerate() {
-        let run = Run { c: 4096, d, shape, span, start: 4090, steps: 40 };
-        let seen = play(library::ask, &run, seed as u64);
-        assert!(seen[0] > 5, "few calls were accepted: {seen:?}");
+        let run = Run { c: 4096, d, shape, span, start: 4090, steps: 48 };
+        let mut seen = Seen::default();
+        play(library::ask, &run, seed as u64, &mut seen);
+        assert!(seen.refusals[0] > 5, "few calls were accepted: {seen:?}");
     }
 }
 
 /// The benchmark's yardstick answers as the library does.
 #[test]
 fn plain_boards() {
-    let mut all = runs(16, 5, 800);
-    all.extend(runs(100, 90, 200));
-    all.extend(runs(400, 380, 60));
-    assert_each_refusal(play_all(plain::ask, &all));
+    let mut all = runs(16, 5, 960);
+    all.extend(runs(100, 90, 240));
+    all.extend(runs(400, 380, 72));
+    assert_seen(&play_all(plain::ask, &all), 2000);
 }

@@ -2,7 +2,7 @@
 //! `cargo test --release --test stack -- --nocapture` prints the figures; they count the few frames of Rust above the call.
 use dolzhev_sys::{address, costs_of, region, AddressWords};
 use reference::random::{costs, moves, Random, Shape};
-use reference::{library, BlockHours, Call, Given, Row, Window, BLOCKS, COSTS, WEEK_MINUTES, WINDOWS};
+use reference::{library, BlockHours, Call, Change, Given, Row, Window, BLOCKS, COSTS, WEEK_MINUTES, WINDOWS};
 use std::arch::asm;
 use std::collections::BTreeMap;
 use std::ffi::c_void;
@@ -42,9 +42,12 @@ fn depth<F: FnMut()>(mut work: F) -> usize {
 fn name(call: &Call) -> &'static str {
     match call {
         Call::Load { .. } => "load",
-        Call::Enter(_) => "enter",
-        Call::Withdraw { .. } => "withdraw",
-        Call::Recost(_) => "recost",
+        Call::Change(Change::Enter(_)) => "enter",
+        Call::Change(Change::Withdraw(_)) => "withdraw",
+        Call::Change(Change::Recost(_)) => "recost",
+        Call::Preview(Change::Enter(_)) => "preview_enter",
+        Call::Preview(Change::Withdraw(_)) => "preview_withdraw",
+        Call::Preview(Change::Recost(_)) => "preview_recost",
         Call::List => "list",
         Call::Band(_) => "band",
         Call::Rank(_) => "rank",
@@ -73,6 +76,13 @@ impl Depths {
         self.note(name(call), bytes);
     }
 
+    /// The same of a change, and before it of its preview.
+    fn change(&mut self, memory: &mut [u8], change: Change, lent: usize, refusal: usize) {
+        for call in change.calls() {
+            self.ask(memory, &call, lent, refusal);
+        }
+    }
+
     fn check(&self) {
         for (name, bytes) in &self.0 {
             println!("{name}: {bytes} bytes");
@@ -96,16 +106,16 @@ fn queries(d: usize) -> [Call; 6] {
 fn changes(depths: &mut Depths, random: &mut Random, memory: &mut [u8], shape: Shape, d: usize) {
     let numbers = random.numbers(C, 100);
     for &number in &numbers {
-        depths.ask(memory, &Call::Withdraw { number }, C + 1, 0);
+        depths.change(memory, Change::Withdraw(number), C + 1, 0);
     }
     for &number in &numbers {
         let (block, costs) = (random.block(), costs(random, shape, d, SPAN, number.into(), C));
-        depths.ask(memory, &Call::Enter(Given { number, block, costs }), C + 1, 0);
+        depths.change(memory, Change::Enter(Given { number, block, costs }), C + 1, 0);
     }
     for number in random.numbers(C, 50) {
         let (block, costs) = (random.block(), costs(random, shape, d, SPAN, number.into(), C));
-        depths.ask(memory, &Call::Recost(Given { number, block, costs }), C + 1, 0);
-        depths.ask(memory, &Call::Recost(Given { number, block: 63 - block, costs }), 0, 0);
+        depths.change(memory, Change::Recost(Given { number, block, costs }), C + 1, 0);
+        depths.change(memory, Change::Recost(Given { number, block: 63 - block, costs }), 0, 0);
     }
 }
 
@@ -114,19 +124,19 @@ fn refused(depths: &mut Depths, memory: &mut [u8], d: usize) {
     let (block, costs) = (0, [0; COSTS]);
     let (taken, outside) = (7, C as u16);
     for (number, refusal) in [(outside, 4), (taken, 5)] {
-        depths.ask(memory, &Call::Enter(Given { number, block, costs }), C + 1, refusal);
+        depths.change(memory, Change::Enter(Given { number, block, costs }), C + 1, refusal);
     }
-    depths.ask(memory, &Call::Recost(Given { number: taken, block, costs }), 0, 8);
-    depths.ask(memory, &Call::Withdraw { number: taken }, C + 1, 0);
-    depths.ask(memory, &Call::Enter(Given { number: taken, block, costs }), 0, 8);
+    depths.change(memory, Change::Recost(Given { number: taken, block, costs }), 0, 8);
+    depths.change(memory, Change::Withdraw(taken), C + 1, 0);
+    depths.change(memory, Change::Enter(Given { number: taken, block, costs }), 0, 8);
     for (number, refusal) in [(outside, 4), (taken, 6)] {
-        depths.ask(memory, &Call::Withdraw { number }, C + 1, refusal);
-        depths.ask(memory, &Call::Recost(Given { number, block, costs }), C + 1, refusal);
+        depths.change(memory, Change::Withdraw(number), C + 1, refusal);
+        depths.change(memory, Change::Recost(Given { number, block, costs }), C + 1, refusal);
     }
-    depths.ask(memory, &Call::Enter(Given { number: taken, block: 64, costs }), C + 1, 11);
-    depths.ask(memory, &Call::Recost(Given { number: taken, block: 64, costs }), C + 1, 11);
+    depths.change(memory, Change::Enter(Given { number: taken, block: 64, costs }), C + 1, 11);
+    depths.change(memory, Change::Recost(Given { number: taken, block: 64, costs }), C + 1, 11);
     if d < COSTS {
-        depths.ask(memory, &Call::Enter(Given { number: taken, block, costs: [1; COSTS] }), C + 1, 7);
+        depths.change(memory, Change::Enter(Given { number: taken, block, costs: [1; COSTS] }), C + 1, 7);
     }
     for call in [Call::Band(C), Call::Rank(0), Call::OnK(0), Call::Chosen(0), hours(WEEK_MINUTES)] {
         depths.ask(memory, &call, C + 1, 7);
@@ -142,8 +152,8 @@ fn refused(depths: &mut Depths, memory: &mut [u8], d: usize) {
 fn unsound(depths: &mut Depths, memory: &mut [u8], d: usize) {
     let given = Given { number: 7, ..Given::default() };
     memory[16 + 3 * C] ^= 1;
-    for call in [Call::Enter(given), Call::Withdraw { number: 7 }, Call::Recost(given)] {
-        depths.ask(memory, &call, C + 1, 3);
+    for change in [Change::Enter(given), Change::Withdraw(7), Change::Recost(given)] {
+        depths.change(memory, change, C + 1, 3);
     }
     for call in queries(d) {
         depths.ask(memory, &call, C + 1, 3);
@@ -177,7 +187,7 @@ fn calls_on_a_board() {
             unsound(&mut depths, &mut memory, d);
         }
     }
-    assert_eq!(depths.0.len(), 10, "a call was not made");
+    assert_eq!(depths.0.len(), 13, "a call was not made");
     depths.check();
 }
 

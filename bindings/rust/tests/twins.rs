@@ -39,9 +39,9 @@ fn change(board: &mut Against, call: Call) -> Vec<(u16, u16)> {
 fn one_after_another() {
     let mut board = loaded();
     assert_eq!(told(&board.check(&Call::List, C).rows), [(0, 3), (0, 0)]);
-    assert_eq!(change(&mut board, Call::Withdraw { number: 7 }), []);
+    assert_eq!(change(&mut board, Call::withdraw(7)), []);
     for (number, next) in [(3, 9), (9, 14), (14, 1)] {
-        assert_eq!(change(&mut board, Call::Withdraw { number }), [(1, number), (2, next)]);
+        assert_eq!(change(&mut board, Call::withdraw(number)), [(1, number), (2, next)]);
     }
 }
 
@@ -49,11 +49,11 @@ fn one_after_another() {
 #[test]
 fn twins_that_come() {
     let mut board = loaded();
-    assert_eq!(change(&mut board, Call::Enter(twin(4))), []);
-    assert_eq!(change(&mut board, Call::Enter(twin(2))), [(1, 3), (2, 2)]);
-    assert_eq!(change(&mut board, Call::Recost(twin(1))), [(1, 2), (2, 1)]);
-    assert_eq!(change(&mut board, Call::Recost(twin(0))), [(1, 1), (1, 0), (2, 0)]);
-    assert_eq!(change(&mut board, Call::Recost(given(0, [2, 3]))), [(1, 0), (2, 1)]);
+    assert_eq!(change(&mut board, Call::enter(twin(4))), []);
+    assert_eq!(change(&mut board, Call::enter(twin(2))), [(1, 3), (2, 2)]);
+    assert_eq!(change(&mut board, Call::recost(twin(1))), [(1, 2), (2, 1)]);
+    assert_eq!(change(&mut board, Call::recost(twin(0))), [(1, 1), (1, 0), (2, 0)]);
+    assert_eq!(change(&mut board, Call::recost(given(0, [2, 3]))), [(1, 0), (2, 1)]);
 }
 
 /// Band, on k and chosen costs show every twin; rank takes the listed one and counts no twin as dominated.

@@ -15,11 +15,11 @@ fn empty_board(c: usize, d: usize) -> Against {
 fn fill_and_empty(against: &mut Against, random: &mut Random, c: usize, d: usize, shape: Shape) {
     for number in random.numbers(c, c) {
         let (block, costs) = (random.block(), costs(random, shape, d, 4096, usize::from(number), c));
-        assert_eq!(against.check(&Call::Enter(Given { number, block, costs }), c + 1).answer.refusal, 0);
+        assert_eq!(against.check(&Call::enter(Given { number, block, costs }), c + 1).answer.refusal, 0);
     }
     assert_eq!(against.check(&Call::List, c).answer.refusal, 0);
     for number in random.numbers(c, c) {
-        assert_eq!(against.check(&Call::Withdraw { number }, c + 1).answer.refusal, 0);
+        assert_eq!(against.check(&Call::withdraw(number), c + 1).answer.refusal, 0);
     }
     let emptied = against.check(&Call::List, 0).answer;
     assert_eq!((emptied.refusal, emptied.count, emptied.opened), (0, 0, 0));
@@ -44,12 +44,12 @@ fn two_boards_in_turn() {
     let board = |d, seed| (Draw::new(seed, Shape::Uniform, 30, 16), empty_board(16, d));
     let mut boards = [board(2, 1), board(COSTS, 2)];
     let mut accepted = 0;
-    for _ in 0..1500 {
+    for _ in 0..1800 {
         for (draw, against) in &mut boards {
             let board = against.model().board.clone().unwrap();
             let answer = against.check(&draw.call(&board), 17).answer;
             accepted += usize::from(answer.refusal == 0);
         }
     }
-    assert!(accepted > 1500, "{accepted} calls were accepted");
+    assert!(accepted > 1800, "{accepted} calls were accepted");
 }

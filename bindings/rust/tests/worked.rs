@@ -1,4 +1,5 @@
-//! Document 01's worked board, with Card 4's list, Card 8's blocks and Card 1's nodes opened, through the wrapper.
+//! Document 01's worked board, with Card 4's list, Card 8's blocks, Card 1's nodes opened and Card 2's previews, through the
+//! wrapper.
 use dolzhev::zorder::{self, Region};
 use dolzhev::Mark::{Entered, Left, Listed};
 use dolzhev::{padded, BlockHours, Board, Mark, Move, Ranked, Refusal, Row, Window, BLOCKS, COSTS};
@@ -58,6 +59,28 @@ fn cases_of_withdrawals() {
     assert_eq!(withdraw(5), Ok((vec![(Left, 5)], 1)));
     assert_eq!(withdraw(1), Ok((vec![], 0)));
     assert_eq!(withdraw(3), Ok((vec![(Left, 3), (Entered, 4)], 1)));
+}
+
+/// Each is foretold for the board as it stands: nobody has gone, so 5 is hidden still, and so is 4 where 3 would go.
+#[test]
+fn previews() {
+    let mut memory = vec![0; Board::bytes(16)];
+    let mut rows = [Row::default(); Board::notice_rows(16)];
+    Board::over(&mut memory).load(16, 2, &moves()).unwrap();
+    let before = memory.clone();
+    let board = &Board::over(&mut memory);
+    let mut withdraw = |number| board.preview_withdraw(number, &mut rows).map(|told| (marked(told.rows), told.opened));
+    assert_eq!(withdraw(2), Ok((vec![(Left, 2), (Entered, 5)], 1)));
+    assert_eq!(withdraw(5), Ok((vec![], 0)));
+    assert_eq!(withdraw(3), Ok((vec![(Left, 3)], 1)));
+    assert_eq!(withdraw(9), Err(Refusal::NumberAbsent));
+    let enter = board.preview_enter(given(6, [2, 1]), &mut rows).map(marked);
+    assert_eq!(enter, Ok(vec![(Left, 2), (Left, 3), (Entered, 6)]));
+    assert_eq!(board.preview_enter(given(6, [2, 1]), &mut rows[..2]), Err(Refusal::FewRows { needed: 3 }));
+    assert_eq!(board.preview_recost(given(0, [9, 9]), &mut rows).map(marked), Ok(vec![(Left, 0)]));
+    assert_eq!(board.preview_recost(Move { block: 9, ..moves()[0] }, &mut []), Ok(&[][..]));
+    assert_eq!(numbers(board.list(&mut rows).unwrap().rows), [2, 0, 3]);
+    assert!(memory == before);
 }
 
 #[test]

@@ -1,9 +1,9 @@
 //! `Board` hands on what the archive answers: random runs through both, each on memory of its own.
-use dolzhev::{Board, Mark, Ranked, Refusal, Row};
+use dolzhev::{Board, Mark, Ranked, Refusal, Row, Withdrawn};
 use reference::against::Against;
 use reference::draw::Draw;
 use reference::random::Shape;
-use reference::{library, Call, Costs};
+use reference::{library, Call, Change, Costs};
 
 /// A row with its mark as a number, or with the number of moves dominated.
 type Told = (u16, u16, Costs);
@@ -21,16 +21,21 @@ fn ranked(row: &Ranked) -> Told {
     (row.dominated, row.number, row.costs)
 }
 
+fn withdrawn(notice: Withdrawn) -> (Vec<Told>, usize) {
+    (notice.rows.iter().map(told).collect(), notice.opened)
+}
+
 /// The rows told and the nodes opened.
 fn ask(board: &mut Board, call: &Call, lent: usize) -> Result<(Vec<Told>, usize), Refusal> {
     let rows = &mut vec![Row::default(); lent][..];
     let rows = match *call {
         Call::Load { c, d, rows: ref moves } => return board.load(c, d, moves).map(|()| (Vec::new(), 0)),
-        Call::Enter(given) => board.enter(given, rows)?,
-        Call::Withdraw { number } => {
-            return board.withdraw(number, rows).map(|notice| (notice.rows.iter().map(told).collect(), notice.opened));
-        }
-        Call::Recost(given) => board.recost(given, rows)?,
+        Call::Change(Change::Enter(given)) => board.enter(given, rows)?,
+        Call::Change(Change::Withdraw(number)) => return board.withdraw(number, rows).map(withdrawn),
+        Call::Change(Change::Recost(given)) => board.recost(given, rows)?,
+        Call::Preview(Change::Enter(given)) => board.preview_enter(given, rows)?,
+        Call::Preview(Change::Withdraw(number)) => return board.preview_withdraw(number, rows).map(withdrawn),
+        Call::Preview(Change::Recost(given)) => board.preview_recost(given, rows)?,
         Call::List => return board.list(rows).map(|list| (list.rows.iter().map(told).collect(), list.opened)),
         Call::Band(b) => board.band(b, rows)?,
         Call::Rank(t) => {
@@ -87,7 +92,7 @@ fn board_hands_on_what_the_archive_answers() {
         assert_eq!(Board::over(&mut memory).list(&mut []), Err(Refusal::Unsound));
         let mut draw = Draw::new(seed as u64, Shape::Uniform, 12, c);
         let mut against = Against::over(library::ask, &memory);
-        for _ in 0..4000 {
+        for _ in 0..4800 {
             play(&mut draw, &mut against, &mut memory, c, &mut seen);
         }
     }

@@ -3,7 +3,7 @@ use super::address::{costs_past, key};
 use super::foreseen::Foreseen;
 use super::hours;
 use super::lists::{band, chosen, on_k, rank, row, skyline};
-use crate::{BlockHours, Call, Costs, Given, Move, Row, BLOCKS, COSTS};
+use crate::{BlockHours, Call, Change, Costs, Given, Move, Row, BLOCKS, COSTS};
 
 #[derive(Clone, Debug, PartialEq, Eq)]
 pub struct PlainBoard {
@@ -25,6 +25,16 @@ pub fn given_refusal(c: usize, d: usize, given: &Given) -> usize {
         7
     } else {
         0
+    }
+}
+
+/// What turns a change down on a board that has its number or not, but for 3 and 8; 0 where nothing does.
+pub fn change_refusal(c: usize, d: usize, change: Change, on_board: bool) -> usize {
+    let given = change.coming().unwrap_or(Given { number: change.number(), ..Given::default() });
+    match (given_refusal(c, d, &given), change, on_board) {
+        (0, Change::Enter(_), true) => 5,
+        (0, Change::Withdraw(_) | Change::Recost(_), false) => 6,
+        (refusal, ..) => refusal,
     }
 }
 
@@ -97,22 +107,14 @@ impl PlainBoard {
         self.find(number).map(|x| x.costs)
     }
 
-    fn change_refusal(&self, given: Given, wants_it: bool) -> usize {
-        match (given_refusal(self.c, self.d, &given), self.find(given.number).is_some(), wants_it) {
-            (0, true, false) => 5,
-            (0, false, true) => 6,
-            (refusal, _, _) => refusal,
-        }
-    }
-
     /// What turns a call other than load down, and its detail, but for 3 and 8; zeros where nothing does.
     fn refusal(&self, call: &Call) -> (usize, usize) {
         let outside = |fits: bool| if fits { 0 } else { 7 };
         let refusal = match *call {
             Call::Load { .. } | Call::List => 0,
-            Call::Enter(given) => self.change_refusal(given, false),
-            Call::Withdraw { number } => self.change_refusal(Given { number, ..Given::default() }, true),
-            Call::Recost(given) => self.change_refusal(given, true),
+            Call::Change(change) | Call::Preview(change) => {
+                change_refusal(self.c, self.d, change, self.find(change.number()).is_some())
+            }
             Call::Band(b) => outside(b <= 4095),
             Call::Rank(t) => outside((1..=4096).contains(&t)),
             Call::OnK(k) => outside((1..=self.d).contains(&k)),
@@ -122,8 +124,9 @@ impl PlainBoard {
         (refusal, 0)
     }
 
-    /// The board without one number, and with a move where one comes.
-    fn replaced(&self, number: u16, coming: Option<Given>) -> PlainBoard {
+    /// The board without the change's number, and with a move where one comes.
+    fn changed(&self, change: Change) -> PlainBoard {
+        let (number, coming) = (change.number(), change.coming());
         let mut after = self.clone();
         after.moves.retain(|x| x.number != number);
         after.blocks[usize::from(number)] = coming.map_or(0, |given| given.block);
@@ -136,8 +139,8 @@ impl PlainBoard {
         after
     }
 
-    fn foresee_change(&self, number: u16, coming: Option<Given>) -> Foreseen {
-        let after = self.replaced(number, coming);
+    fn foresee_change(&self, change: Change) -> Foreseen {
+        let after = self.changed(change);
         Foreseen::accepted(notice(self.c, &self.list, &after.list), Some(after))
     }
 
@@ -156,8 +159,8 @@ impl PlainBoard {
         let told = |rows| Foreseen::accepted(rows, None);
         match *call {
             Call::Load { .. } => unreachable!("a load does not depend on the board"),
-            Call::Enter(given) | Call::Recost(given) => self.foresee_change(given.number, Some(given)),
-            Call::Withdraw { number } => self.foresee_change(number, None),
+            Call::Change(change) => self.foresee_change(change),
+            Call::Preview(change) => told(self.foresee_change(change).rows),
             Call::List => told(listed(skyline(self.d, &self.moves))),
             Call::Band(b) => told(listed(band(self.d, &self.moves, b))),
             Call::Rank(t) => told(rank(self.d, &self.moves, t)),

@@ -2,7 +2,7 @@
 use super::board::PlainBoard;
 use super::drawn_hours;
 use super::random::{costs, moves, Random, Shape};
-use crate::{Call, Costs, Given, BLOCKS, COSTS};
+use crate::{Call, Change, Costs, Given, BLOCKS, COSTS};
 
 /// Blocks that the yard does not have; of one the lower byte would do.
 const NO_BLOCKS: [u16; 4] = [BLOCKS as u16, 255, 256, u16::MAX];
@@ -67,14 +67,14 @@ impl Draw {
         }
     }
 
-    pub fn change(&mut self, board: &PlainBoard) -> Call {
+    pub fn change(&mut self, board: &PlainBoard) -> Change {
         if self.random.percent(self.growth) {
             let number = self.number(board, false);
-            return Call::Enter(Given { number, block: self.block(), costs: self.costs(board, number) });
+            return Change::Enter(Given { number, block: self.block(), costs: self.costs(board, number) });
         }
         let number = self.number(board, true);
         if self.random.percent(50) {
-            return Call::Withdraw { number };
+            return Change::Withdraw(number);
         }
         let held = board.find(number).copied();
         let (mut block, mut costs) = (self.block(), self.costs(board, number));
@@ -84,7 +84,7 @@ impl Draw {
         if let Some(x) = held.filter(|_| self.random.percent(40)) {
             block = board.block_of(&x);
         }
-        Call::Recost(Given { number, block, costs })
+        Change::Recost(Given { number, block, costs })
     }
 
     /// A set of costs, most of them one that d costs have.
@@ -142,11 +142,12 @@ impl Draw {
     }
 
     pub fn call(&mut self, board: &PlainBoard) -> Call {
-        match self.random.below(100) {
+        match self.random.below(120) {
             0 => self.any_load(),
             1..=3 => self.bad_load(board),
             4..=29 => self.query(board),
-            _ => self.change(board),
+            30..=49 => Call::Preview(self.change(board)),
+            _ => Call::Change(self.change(board)),
         }
     }
 

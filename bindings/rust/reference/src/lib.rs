@@ -25,7 +25,7 @@ pub mod tries;
 pub mod withdrawing;
 pub mod written;
 
-pub use call::Call;
+pub use call::{Call, Change};
 /// A move as it is given to a call, with its block.
 pub use dolzhev_sys::Move as Given;
 pub use dolzhev_sys::{AddressAnswer, AddressWords, Answer, Costs, CostsAnswer, RegionAnswer, Row, COSTS};

@@ -6,7 +6,7 @@ use super::layout;
 use super::loading::load;
 use super::node::Node;
 use super::withdrawing::{recost, withdraw};
-use crate::{Call, Costs, Given, Move};
+use crate::{Call, Change, Costs, Given, Move};
 
 /// `board` is none until a load is accepted.
 #[derive(Clone, Debug, Default)]
@@ -39,12 +39,12 @@ impl Model {
         foreseen
     }
 
-    /// The nodes that an accepted call tells as opened: a list, and a withdrawal of a listed move.
+    /// The nodes that an accepted call tells as opened: a list, and a withdrawal of a listed move or its preview.
     fn opened(&self, board: &PlainBoard, call: &Call) -> usize {
         let count = |passes: &dyn Fn(&Node) -> bool| self.tree.as_ref().map_or(0, |root| root.count(passes));
         match *call {
             Call::List => count(&|node| node.opens(board.d, &board.moves)),
-            Call::Withdraw { number } => {
+            Call::Change(Change::Withdraw(number)) | Call::Preview(Change::Withdraw(number)) => {
                 let listed = board.list.iter().find(|x| x.number == number);
                 listed.map_or(0, |x| count(&|node| node.opens_for(board.d, &board.list, x)))
             }
@@ -59,10 +59,10 @@ impl Model {
         };
         self.tree = match *call {
             Call::Load { .. } => load(&after.moves),
-            Call::Enter(given) => Some(enter(after.d, self.tree.take(), &given.into())),
-            Call::Withdraw { number } => self.without(number),
-            Call::Recost(Given { number, costs, .. }) => self.recosted(number, costs),
-            _ => unreachable!("a list call changes nothing"),
+            Call::Change(Change::Enter(given)) => Some(enter(after.d, self.tree.take(), &given.into())),
+            Call::Change(Change::Withdraw(number)) => self.without(number),
+            Call::Change(Change::Recost(Given { number, costs, .. })) => self.recosted(number, costs),
+            _ => unreachable!("previews and lists change nothing"),
         };
         self.board = Some(after.clone());
     }

@@ -4,7 +4,7 @@ use super::draw::Draw;
 use super::drawn_hours;
 use super::layout;
 use super::random::{Random, Shape};
-use crate::{Call, Given};
+use crate::{Call, Change, Given};
 
 /// How many memories were sound and how many were not.
 #[derive(Debug, Default)]
@@ -24,17 +24,17 @@ impl Seen {
 fn each_call(random: &mut Random, d: usize) -> Vec<Call> {
     let number = random.below(20) as u16;
     let costs = std::array::from_fn(|i| if i < d { random.below(8) as u16 } else { 0 });
-    vec![
-        Call::Enter(Given { number, block: random.block(), costs }),
-        Call::Withdraw { number },
-        Call::Recost(Given { number, block: random.block(), costs }),
+    let [enter, recost] = [(); 2].map(|()| Given { number, block: random.block(), costs });
+    let changes = [Change::Enter(enter), Change::Withdraw(number), Change::Recost(recost)];
+    let lists = [
         Call::List,
         Call::Band(random.below(4)),
         Call::Rank(1 + random.below(8)),
         Call::OnK(1 + random.below(d + 1)),
         Call::Chosen(1 + random.below(1 << d)),
         drawn_hours::call(random),
-    ]
+    ];
+    changes.into_iter().flat_map(Change::calls).chain(lists).collect()
 }
 
 /// Every call on a copy of the bytes, and then load, which takes any.
@@ -63,7 +63,7 @@ pub fn used_board(ask: Ask, c: usize, d: usize, n: usize, seed: u64) -> Vec<u8> 
     against.check(&draw.load(c, d, n), 0);
     for _ in 0..30 {
         let board = against.model().board.clone().unwrap();
-        against.check(&draw.change(&board), c + 1);
+        against.check(&Call::Change(draw.change(&board)), c + 1);
     }
     against.memory().to_vec()
 }

@@ -24,6 +24,21 @@ pub fn recost(memory: &mut [u8], x: Move, rows: &mut [Row]) -> Answer {
     unsafe { raw::dolzhev_recost(memory.as_mut_ptr(), memory.len(), x, rows.as_mut_ptr(), rows.len()) }
 }
 
+/// What [`enter`] would answer and tell.
+pub fn preview_enter(memory: &[u8], x: Move, rows: &mut [Row]) -> Answer {
+    unsafe { raw::dolzhev_preview_enter(memory.as_ptr(), memory.len(), x, rows.as_mut_ptr(), rows.len()) }
+}
+
+/// What [`withdraw`] would answer and tell.
+pub fn preview_withdraw(memory: &[u8], number: u16, rows: &mut [Row]) -> Answer {
+    unsafe { raw::dolzhev_preview_withdraw(memory.as_ptr(), memory.len(), number, rows.as_mut_ptr(), rows.len()) }
+}
+
+/// What [`recost`] would answer and tell.
+pub fn preview_recost(memory: &[u8], x: Move, rows: &mut [Row]) -> Answer {
+    unsafe { raw::dolzhev_preview_recost(memory.as_ptr(), memory.len(), x, rows.as_mut_ptr(), rows.len()) }
+}
+
 /// The moves that no move dominates, of those with equal costs the one of lowest number alone, and the nodes opened.
 pub fn list(memory: &[u8], rows: &mut [Row]) -> Answer {
     unsafe { raw::dolzhev_list(memory.as_ptr(), memory.len(), rows.as_mut_ptr(), rows.len()) }

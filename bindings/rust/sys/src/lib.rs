@@ -9,6 +9,7 @@ mod types;
 mod zorder;
 
 pub use calls::{band, chosen, enter, hours, list, load, on_k, rank, recost, withdraw};
+pub use calls::{preview_enter, preview_recost, preview_withdraw};
 pub use hours::{BlockHours, Window, BLOCKS, WEEK_MINUTES, WINDOWS};
 pub use types::{AddressAnswer, AddressWords, Answer, Costs, CostsAnswer, Move, RegionAnswer, Row, COSTS};
 pub use zorder::{address, costs_of, region};

@@ -15,6 +15,9 @@ extern "C" {
     pub fn dolzhev_enter(memory: *mut u8, memory_len: usize, x: Move, rows: *mut Row, rows_len: usize) -> Answer;
     pub fn dolzhev_withdraw(memory: *mut u8, memory_len: usize, number: u16, rows: *mut Row, rows_len: usize) -> Answer;
     pub fn dolzhev_recost(memory: *mut u8, memory_len: usize, x: Move, rows: *mut Row, rows_len: usize) -> Answer;
+    pub fn dolzhev_preview_enter(memory: *const u8, memory_len: usize, x: Move, rows: *mut Row, rows_len: usize) -> Answer;
+    pub fn dolzhev_preview_withdraw(memory: *const u8, memory_len: usize, number: u16, rows: *mut Row, rows_len: usize) -> Answer;
+    pub fn dolzhev_preview_recost(memory: *const u8, memory_len: usize, x: Move, rows: *mut Row, rows_len: usize) -> Answer;
     pub fn dolzhev_list(memory: *const u8, memory_len: usize, rows: *mut Row, rows_len: usize) -> Answer;
     pub fn dolzhev_band(memory: *const u8, memory_len: usize, b: usize, rows: *mut Row, rows_len: usize) -> Answer;
     pub fn dolzhev_rank(memory: *const u8, memory_len: usize, t: usize, rows: *mut Row, rows_len: usize) -> Answer;

@@ -44,7 +44,7 @@ pub struct Move {
 #[repr(C)]
 #[derive(Clone, Copy, Debug, Default, PartialEq, Eq)]
 pub struct Row {
-    /// 0 listed, 1 left, 2 entered; of rank the number of moves dominated.
+    /// 0 listed, 1 left, 2 entered, of a preview would leave or enter; of rank the number of moves dominated.
     pub mark: u16,
     /// The move's number.
     pub number: u16,
@@ -63,8 +63,8 @@ pub struct Answer {
     pub detail: usize,
     /// The rows told.
     pub count: usize,
-    /// Of list the nodes opened; of withdraw those opened while looking for moves to bring up, 0 if the move was not listed;
-    /// else 0.
+    /// Of list the nodes opened; of withdraw and its preview those opened while looking for moves to bring up, 0 if the move
+    /// was not listed; else 0.
     pub opened: usize,
 }
 

@@ -25,12 +25,13 @@ pub fn in_block_0(asked: &str, content: &str) -> Vec<u8> {
     memory
 }
 
-/// The answer to a line as the vectors write it. An `X` is a withdrawal that shows the nodes opened, a `W` one that does not.
+/// The answer to a line as the vectors write it. An `X` is a withdrawal that shows the nodes opened, a `W` one that does not;
+/// a preview shows them.
 fn answered(asked: &str, (answer, rows): (Answer, Vec<Row>)) -> String {
     let mut words = vec![answer.refusal, answer.detail];
     match kind(asked) {
         "L" | "LB" => {}
-        "Q" | "X" => words.extend([answer.count, answer.opened]),
+        "Q" | "X" | "PE" | "PW" | "PC" => words.extend([answer.count, answer.opened]),
         _ => words.push(answer.count),
     }
     for row in rows {

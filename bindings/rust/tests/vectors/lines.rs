@@ -1,5 +1,5 @@
 //! The lines of bindings/vectors, read.
-use reference::{BlockHours, Call, Costs, Given, Window, BLOCKS, COSTS, WINDOWS};
+use reference::{BlockHours, Call, Change, Costs, Given, Window, BLOCKS, COSTS, WINDOWS};
 use std::fs;
 
 /// What stands in the windows past a block's count, which nobody looks at.
@@ -74,12 +74,16 @@ pub fn call_of(asked: &str) -> (Call, usize) {
     let argument = w.first().map_or(0, |&word| word as usize);
     let number = argument as u16;
     let with_block = WITH_BLOCK.contains(&kind(asked));
+    let moved = || given(&w, with_block);
     let call = match kind(asked) {
         "L" | "LB" => return (load(&w, with_block), 0),
         "HO" => return (Call::Hours { minute: argument, hours: hours(w[2], &w[3..]) }, w[1] as usize),
-        "E" | "EB" => Call::Enter(given(&w, with_block)),
-        "W" | "X" => Call::Withdraw { number },
-        "C" | "CB" => Call::Recost(given(&w, with_block)),
+        "E" | "EB" => Call::enter(moved()),
+        "W" | "X" => Call::withdraw(number),
+        "C" | "CB" => Call::recost(moved()),
+        "PE" => Call::Preview(Change::Enter(moved())),
+        "PW" => Call::Preview(Change::Withdraw(number)),
+        "PC" => Call::Preview(Change::Recost(moved())),
         "Q" => Call::List,
         "B" => Call::Band(argument),
         "K" => Call::Rank(argument),

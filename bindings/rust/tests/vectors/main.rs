@@ -12,7 +12,7 @@ use reference::random::Random;
 use reference::tries::{try_all, Seen};
 use reference::{layout, plain};
 
-const BOARDS: [(&str, usize); 12] = [
+const BOARDS: [(&str, usize); 13] = [
     ("loads_d2.txt", 648),
     ("mixed_01_d2_C16_0_3.txt", 666),
     ("mixed_06_d3_C40_0_20.txt", 697),
@@ -24,6 +24,7 @@ const BOARDS: [(&str, usize); 12] = [
     ("mixed_blocks_d2_C16.txt", 158),
     ("opened_d2_C16.txt", 171),
     ("opened_d3_C120.txt", 254),
+    ("previews_d3_C40.txt", 435),
     FOUR_COSTS,
 ];
 

@@ -37,9 +37,8 @@ pub fn ask(memory: &mut [u8], call: &Call, rows: &mut [Row]) -> Answer {
     };
     match *call {
         Call::Load { .. } => unreachable!("answered above"),
-        Call::Enter(given) => change::enter(memory, head, given, rows),
-        Call::Withdraw { number } => change::withdraw(memory, head, number, rows),
-        Call::Recost(given) => change::recost(memory, head, given, rows),
+        Call::Change(change) => change::make(memory, head, change, rows),
+        Call::Preview(change) => change::preview(memory, head, change, rows),
         Call::List => lists::list(memory, head, rows),
         Call::Band(b) => lists::band(memory, head, b, rows),
         Call::Rank(t) => lists::rank(memory, head, t, rows),

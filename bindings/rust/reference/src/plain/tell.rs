@@ -1,7 +1,7 @@
 //! The notice of a change, and the marks set by it.
 use super::bytes::Head;
 use super::set::Set;
-use super::upkeep::{Change, Upkeep};
+use super::upkeep::{Swap, Upkeep};
 use crate::lists::row;
 use crate::Row;
 use std::ops::Range;
@@ -19,9 +19,9 @@ fn rows_of<'a>(
 }
 
 /// The notice, the coming move at its place among the others.
-pub fn tell(m: &[u8], head: Head, change: &Change, upkeep: &Upkeep, rows: &mut [Row]) {
-    let place = change.comes.map_or(head.n, |(place, _)| place);
-    let coming = change.comes.filter(|_| upkeep.listed).map(|(_, x)| row(2, &x));
+pub fn tell(m: &[u8], head: Head, swap: &Swap, upkeep: &Upkeep, rows: &mut [Row]) {
+    let place = swap.comes.map_or(head.n, |(place, _)| place);
+    let coming = swap.comes.filter(|_| upkeep.listed).map(|(_, x)| row(2, &x));
     let notice = rows_of(m, head, 0..head.n, &upkeep.leaving, 1)
         .chain(rows_of(m, head, 0..place, &upkeep.entering, 2))
         .chain(coming)

@@ -7,7 +7,7 @@ use super::set::Set;
 use crate::{Costs, Move};
 
 /// The place of the move that goes; the move that comes and its place among those before the change.
-pub struct Change {
+pub struct Swap {
     pub goes: Option<usize>,
     pub comes: Option<(usize, Move)>,
 }
@@ -22,7 +22,7 @@ pub struct Upkeep {
     pub need: usize,
 }
 
-impl Change {
+impl Swap {
     fn coming_hides(&self, x: &Move) -> bool {
         self.comes.is_some_and(|(_, coming)| hides(&coming, x))
     }
@@ -63,11 +63,11 @@ impl Change {
     }
 }
 
-pub fn upkeep_of(m: &[u8], head: Head, change: &Change) -> Upkeep {
+pub fn upkeep_of(m: &[u8], head: Head, swap: &Swap) -> Upkeep {
     let all = Search::over(All, m, head);
-    let leaving = change.leaving(m, head);
-    let (entering, opened) = change.entering(m, head, &all);
-    let listed = change.comes.is_some_and(|(place, x)| !change.hidden_by_others(m, head, &all, place, &x.costs));
+    let leaving = swap.leaving(m, head);
+    let (entering, opened) = swap.entering(m, head, &all);
+    let listed = swap.comes.is_some_and(|(place, x)| !swap.hidden_by_others(m, head, &all, place, &x.costs));
     let need = leaving.len() + entering.len() + usize::from(listed);
     Upkeep { leaving, entering, opened, listed, need }
 }

@@ -24,7 +24,7 @@ fn effort(word: Option<&str>) -> Option<([usize; 2], Effort)> {
     let effort = |sizes, millis, most| Some((sizes, Effort { budget: Duration::from_millis(millis), most }));
     match word {
         None => effort([256, 4096], 1000, 200),
-        Some("short") => effort([256, 1024], 20, 5),
+        Some("short") => effort([256, 1024], 20, 8),
         Some("long") => effort([256, 4096], 10000, 2000),
         Some(_) => None,
     }

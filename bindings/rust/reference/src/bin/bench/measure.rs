@@ -1,6 +1,6 @@
 //! The rounds of a board, played and timed.
 use crate::programs::{programs, Program, ALL_PAIRS, LIBRARY, PLAIN, PROGRAMS};
-use crate::rounds::{refusal, Rounds, CALLS};
+use crate::rounds::{refusal, Named, Rounds, CALLS};
 use reference::Call;
 use std::time::{Duration, Instant};
 
@@ -11,8 +11,8 @@ pub struct Effort {
     pub most: usize,
 }
 
-const LEAST_ROUNDS: usize = 15;
-const LEAST_OF_ALL_PAIRS: usize = 3;
+const LEAST_ROUNDS: usize = 30;
+const LEAST_OF_ALL_PAIRS: usize = 4;
 
 /// The times of each call, and of them those of each program, one for each round.
 #[derive(Default)]
@@ -49,25 +49,28 @@ fn timed(program: &mut Box<dyn Program>, call: &Call) -> (usize, Duration) {
 fn play(
     programs: &mut [Box<dyn Program>; PROGRAMS],
     order: &[usize],
-    round: Vec<(&'static str, Call)>,
+    round: Vec<Named>,
     times: &mut Times,
 ) -> [Duration; PROGRAMS] {
     let mut spent = [Duration::ZERO; PROGRAMS];
     for (name, call) in round {
-        let place = CALLS.iter().position(|known| *known == name).expect("a call of the tables");
+        let place = name.map(|name| CALLS.iter().position(|known| *known == name).expect("a call of the tables"));
         let mut told = None;
         // all pairs keeps no memory that could be judged
         for &i in order.iter().filter(|&&i| i != ALL_PAIRS || refusal(&call) == 0) {
             let (rows, time) = timed(&mut programs[i], &call);
             assert_eq!(*told.get_or_insert(rows), rows, "the rows of {call:?}");
-            times.0[place][i].push(time);
             spent[i] += time;
+            if let Some(place) = place {
+                times.0[place][i].push(time);
+            }
         }
     }
     spent
 }
 
-/// As many rounds as the effort allows. Every other round has the programs the other way about.
+/// As many rounds as the effort allows. Every other round has the programs the other way about, and after two rounds with
+/// changes come two with previews: a change whose preview was just asked would take less time.
 pub fn measure(effort: &Effort, rounds: &mut Rounds, c: usize, d: usize, all_pairs: bool) -> Times {
     let mut programs = programs(c, d);
     let mut times = Times::default();
@@ -84,7 +87,7 @@ pub fn measure(effort: &Effort, rounds: &mut Rounds, c: usize, d: usize, all_pai
         if all_pairs && goes_on(LEAST_OF_ALL_PAIRS, spent[ALL_PAIRS]) {
             order.push(ALL_PAIRS);
         }
-        let more = play(&mut programs, &order, rounds.round(), &mut times);
+        let more = play(&mut programs, &order, rounds.round(round / 2 % 2 == 1), &mut times);
         spent.iter_mut().zip(more).for_each(|(sum, time)| *sum += time);
     }
     times

@@ -1,7 +1,8 @@
-//! What is asked of a board: a round loads it and has each call once that the board allows.
+//! What is asked of a board: a round loads it and has each call once that the board allows, either the changes or their
+//! previews.
 use crate::boards::{Board, TOP, UNDER};
 use reference::random::Random;
-use reference::{BlockHours, Call, Costs, Given, Window, BLOCKS};
+use reference::{BlockHours, Call, Change, Costs, Given, Window, BLOCKS};
 
 pub struct Rounds {
     random: Random,
@@ -11,13 +12,17 @@ pub struct Rounds {
 }
 
 /// As the tables have them.
-pub const CALLS: [&str; 13] = [
+pub const CALLS: [&str; 17] = [
     "sound",
     "load",
     "enter",
+    "enter, preview",
     "withdraw, listed",
+    "withdraw, listed, preview",
     "withdraw, hidden",
+    "withdraw, hidden, preview",
     "re-cost",
+    "re-cost, preview",
     "list",
     "band",
     "rank",
@@ -26,6 +31,21 @@ pub const CALLS: [&str; 13] = [
     "hours, all open",
     "hours, half open",
 ];
+
+/// A call by its name in the tables; one without a name is not timed.
+pub type Named = (Option<&'static str>, Call);
+
+/// A change by its name and that of its preview.
+type NamedChange = ([&'static str; 2], Change);
+
+/// The change, or in its place the preview. Then the change is made all the same, so that the next one finds the same board.
+fn made((names, change): NamedChange, previews: bool) -> Vec<Named> {
+    let [made, preview] = names.map(Some);
+    match previews {
+        true => vec![(preview, Call::Preview(change)), (None, Call::Change(change))],
+        false => vec![(made, Call::Change(change))],
+    }
+}
 
 /// An hours call to which the first blocks, so many, are open. Blocks are drawn, so it does not matter which.
 fn hours(open: usize) -> Call {
@@ -70,7 +90,7 @@ impl Rounds {
 
     /// A hidden move is taken away, if there is one. A listed one is taken away and put back, with other costs where its number
     /// leaves a choice. Another gets costs as a third number has them; of a crown it is the move on top, the only listed one.
-    fn changes(&mut self, rows: &[Given]) -> Vec<(&'static str, Call)> {
+    fn changes(&mut self, rows: &[Given]) -> Vec<NamedChange> {
         let (listed, hidden) = parted(rows);
         let gone = (!hidden.is_empty()).then(|| self.random.one_of(&hidden));
         let number = self.random.one_of(&listed);
@@ -83,20 +103,21 @@ impl Rounds {
         }
         let costs = self.costs(number);
         let [block, moved] = [(); 2].map(|()| self.random.block());
-        let withdrawn = gone.map(|number| ("withdraw, hidden", Call::Withdraw { number }));
+        let withdrawn =
+            gone.map(|number| (["withdraw, hidden", "withdraw, hidden, preview"], Change::Withdraw(number)));
         let others = [
-            ("withdraw, listed", Call::Withdraw { number }),
-            ("enter", Call::Enter(Given { number, block, costs })),
-            ("re-cost", Call::Recost(Given { number: other, block: moved, costs: new })),
+            (["withdraw, listed", "withdraw, listed, preview"], Change::Withdraw(number)),
+            (["enter", "enter, preview"], Change::Enter(Given { number, block, costs })),
+            (["re-cost", "re-cost, preview"], Change::Recost(Given { number: other, block: moved, costs: new })),
         ];
         withdrawn.into_iter().chain(others).collect()
     }
 
-    /// The calls by name.
-    pub fn round(&mut self) -> Vec<(&'static str, Call)> {
+    /// With the changes timed, or with their previews.
+    pub fn round(&mut self, previews: bool) -> Vec<Named> {
         let rows = self.board.moves(&mut self.random, self.d, self.c);
-        let changes = self.changes(&rows);
-        let mut round = vec![
+        let changes = self.changes(&rows).into_iter().flat_map(|change| made(change, previews));
+        let others = [
             ("load", Call::Load { c: self.c, d: self.d, rows }),
             ("sound", Call::Rank(0)),
             ("list", Call::List),
@@ -107,7 +128,6 @@ impl Rounds {
             ("hours, all open", hours(BLOCKS)),
             ("hours, half open", hours(BLOCKS / 2)),
         ];
-        round.extend(changes);
-        round
+        others.map(|(name, call)| (Some(name), call)).into_iter().chain(changes).collect()
     }
 }
