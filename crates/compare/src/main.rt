@@ -5,14 +5,17 @@ use upkeep::ROW;
 
 mod ask;
 mod boards;
+mod change;
 mod dice;
 mod expect;
+mod judge;
 mod nodes;
 mod plain;
 mod rules;
 mod runs;
 mod table;
 mod tally;
+mod told;
 mod week;
 
 // The number of boards that the word asks for.

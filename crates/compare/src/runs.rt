@@ -3,32 +3,12 @@ use crate::ask::ask;
 use crate::dice;
 use crate::expect::Call;
 use crate::expect::expect;
+use crate::judge::judged;
 use crate::nodes::opened;
 use crate::plain::Plain;
-use crate::table::HELD;
 use crate::table::Table;
-use crate::table::same_rows;
 use crate::tally::Tally;
 use crate::tally::count;
-
-// The holder has the list.
-fn holds(b: Plain, t: &Table) -> bool {
-    !b.holding || (b.held == b.listed && same_rows(t, HELD, b.list, b.held))
-}
-
-// The plain board after a call that is to tell so many nodes if it is accepted, with what the board said of it.
-pub fn judged(want: Plain, said: Plain, t: &Table, letter: u8, opened: usize) -> Plain {
-    let mut b = want;
-    b.held = said.held;
-    b.holding = said.holding | ((letter == b'Q') & (said.refusal == 0));
-    b.opened = said.opened;
-    let same = (want.refusal == said.refusal)
-        & (want.detail == said.detail)
-        & (want.count == said.count)
-        & (said.opened == if want.refusal == 0 { opened } else { 0 });
-    b.right = said.right & same & holds(b, t);
-    b
-}
 
 fn call(b: Plain, t: &mut Table, m: &mut [u8], k: Call) -> Plain {
     let nodes = opened(m, b, t, k);
