@@ -1,9 +1,11 @@
-// Enter, withdraw and re-cost.
+// Enter, withdraw and re-cost, and their previews.
 use crate::expect::Call;
 use crate::plain::Plain;
 use crate::table::Row;
+use crate::table::SEEN;
 use crate::table::TOLD;
 use crate::table::Table;
+use crate::table::same_rows;
 use crate::told::told;
 use upkeep::Plan;
 use zorder::COSTS;
@@ -33,9 +35,16 @@ fn planned(m: &[u8], k: Call) -> Plan
     }
 }
 
+// What the change would say, with its rows.
+pub fn preview(m: &[u8], k: Call, t: &mut Table, b: Plain) -> Plain {
+    told(m, planned(m, k), t, b, SEEN)
+}
+
+// The change; its rows are held against those of the preview before it, too.
 pub fn change(m: &mut [u8], k: Call, t: &mut Table, b: Plain) -> Plain {
     let p = planned(m, k);
-    let said = told(m, p, t, b, TOLD);
+    let mut said = told(m, p, t, b, TOLD);
+    said.right = said.right & same_rows(t, TOLD, SEEN, said.count);
     board::carry_out(m, p);
     said
 }

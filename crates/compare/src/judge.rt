@@ -10,7 +10,7 @@ fn holds(b: Plain, t: &Table) -> bool {
 }
 
 // Whether two calls have the same answer, their rows apart.
-fn alike(p: Plain, q: Plain) -> bool {
+pub fn alike(p: Plain, q: Plain) -> bool {
     (p.refusal == q.refusal)
         & (p.detail == q.detail)
         & (p.count == q.count)
