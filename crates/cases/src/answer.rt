@@ -1,5 +1,7 @@
 // One line answered.
 use crate::change::change;
+use crate::change::is_change;
+use crate::change::preview;
 use crate::lists;
 use crate::load::load;
 use crate::pairs;
@@ -7,6 +9,17 @@ use crate::print::put_values;
 use crate::week;
 use crate::words::Line;
 use libc::STDOUT_FILENO;
+
+// The calls that leave the memory as it was.
+fn read(letter: u8, memory: &[u8], values: &[u64]) {
+    if letter == b'H' {
+        week::answer(memory, values);
+    } else if lists::is_list(letter) {
+        lists::answer(letter, memory, values);
+    } else {
+        preview(letter, memory, values);
+    }
+}
 
 // The call that the line names; the length of the memory in use afterwards.
 fn call(l: Line, memory: &mut [u8], values: &[u64]) -> usize {
@@ -21,15 +34,11 @@ fn call(l: Line, memory: &mut [u8], values: &[u64]) -> usize {
     if memory.len() < length {
         return length;
     }
-    if l.letter == b'H' {
-        week::answer(&memory[..length], values);
-        return length;
+    if is_change(l.letter) {
+        change(l.letter, &mut memory[..length], values);
+    } else {
+        read(l.letter, &memory[..length], values);
     }
-    if lists::is_list(l.letter) {
-        lists::answer(l.letter, &memory[..length], values);
-        return length;
-    }
-    change(l.letter, &mut memory[..length], values);
     length
 }
 

@@ -1,7 +1,6 @@
 // The lists, by the letter of their line.
-use crate::print::put;
+use crate::print::put_plan;
 use crate::print::put_row;
-use crate::print::put_rows;
 use crate::print::put_told;
 use crate::words::at_most;
 use crate::words::value;
@@ -32,17 +31,6 @@ fn planned(letter: u8, memory: &[u8], x: usize, lent: usize) -> Plan
     query::plan_chosen(memory, x, lent)
 }
 
-fn query(letter: u8, memory: &[u8], x: usize, lent: usize) {
-    let p = planned(letter, memory, x, lent);
-    let verdict = p.verdict;
-    let telling = p.telling;
-    put_told(verdict, p.count);
-    if letter == b'Q' {
-        put(p.opened as u64);
-    }
-    put_rows(memory, telling, p.count);
-}
-
 fn put_ranked(rows: &[[u16; ROW]], count: usize) {
     let mut i = 0;
     while i < count {
@@ -69,5 +57,5 @@ pub fn answer(letter: u8, memory: &[u8], values: &[u64]) {
         rank(memory, x, lent, &mut [[0u16; ROW]; ROWS]);
         return;
     }
-    query(letter, memory, x, lent);
+    put_plan(memory, planned(letter, memory, x, lent), letter == b'Q');
 }

@@ -3,6 +3,7 @@ use libc::STDOUT_FILENO;
 use promises::Verdict;
 use promises::detail_of;
 use promises::number_of;
+use upkeep::Plan;
 use upkeep::ROW;
 use upkeep::Telling;
 use upkeep::told_next;
@@ -35,7 +36,7 @@ pub fn put_row(r: [u16; ROW]) {
 }
 
 // The rows of a telling, of which there are so many.
-pub fn put_rows(m: &[u8], t: Telling, count: usize)
+fn put_rows(m: &[u8], t: Telling, count: usize)
     requires { ⌜ (0 < count → TellingAsked t (now m)) ⌝ }
 {
     let told = told_of(t);
@@ -48,6 +49,19 @@ pub fn put_rows(m: &[u8], t: Telling, count: usize)
         at = step.next;
         i += 1;
     }
+}
+
+// A plan's answer, the nodes opened where they are asked for, and its rows.
+pub fn put_plan(m: &[u8], p: Plan, nodes: bool)
+    requires { ⌜ (0 < p .count → TellingAsked (p .telling) (now m)) ⌝ }
+{
+    let verdict = p.verdict;
+    let telling = p.telling;
+    put_told(verdict, p.count);
+    if nodes {
+        put(p.opened as u64);
+    }
+    put_rows(m, telling, p.count);
 }
 
 // The first k numbers.

@@ -1,6 +1,5 @@
 // The hours call, its entries read from the numbers of the line.
-use crate::print::put_rows;
-use crate::print::put_told;
+use crate::print::put_plan;
 use crate::words::at_most;
 use crate::words::narrow;
 use crate::words::value;
@@ -36,10 +35,7 @@ fn tell(memory: &[u8], values: &[u64], entries: &[[u16; HOURS]]) {
         &entries[..k],
         value(values, 1) as usize,
     );
-    let verdict = p.verdict;
-    let telling = p.telling;
-    put_told(verdict, p.count);
-    put_rows(memory, telling, p.count);
+    put_plan(memory, p, false);
 }
 
 pub fn answer(memory: &[u8], values: &[u64]) {

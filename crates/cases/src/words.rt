@@ -72,6 +72,10 @@ fn is_digit(b: u8) -> bool {
     b'0' <= b && b <= b'9'
 }
 
+fn is_letter(b: u8) -> bool {
+    (b'A' <= b && b <= b'Z') || (b'a' <= b && b <= b'z')
+}
+
 // The number that byte b ends, if it ends one, put among the numbers.
 pub fn store(l: Line, b: u8, values: &mut [u64]) {
     if l.answered {
@@ -106,7 +110,7 @@ pub fn step(line: Line, b: u8) -> Line {
     if b == b'=' {
         l.answered = true;
     }
-    if b'A' <= b && b <= b'Z' {
+    if is_letter(b) {
         l.letter = b;
     }
     l

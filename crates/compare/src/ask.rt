@@ -1,107 +1,23 @@
-// The public calls on the board's memory; their rows held against the wanted ones, and heard by the holder.
+// The calls on the board's memory; and the holder, who hears the rows of some.
+use crate::change::change;
 use crate::expect::Call;
 use crate::plain::Plain;
-use crate::plain::follow;
-use crate::table::RANKED;
+use crate::plain::hear;
 use crate::table::Row;
+use crate::table::TOLD;
 use crate::table::Table;
 use crate::table::WANT;
-use crate::table::row_at;
-use crate::table::same_row;
 use crate::table::same_rows;
+use crate::told::spoken;
+use crate::told::told;
 use crate::week::bad_block;
 use crate::week::entries;
 use crate::week::minute_of;
 use loading::INPUT;
 use promises::Verdict;
-use promises::detail_of;
-use promises::number_of;
 use upkeep::Plan;
-use upkeep::Telling;
-use upkeep::told_next;
-use upkeep::told_of;
-use zorder::COSTS;
 ghost use Prim.Native.Nat.{_<_, _≤_};
 ghost use Rattle.upkeep.specs.Telling.{TellingAsked};
-ghost use Rattle.board.specs.Plan.{Able};
-
-// The board with what a call said.
-pub fn spoken(b: Plain, v: Verdict, count: usize, opened: usize) -> Plain {
-    let mut said = b;
-    said.refusal = number_of(v) as usize;
-    said.detail = detail_of(v);
-    said.count = count;
-    said.opened = opened;
-    said.right = true;
-    said
-}
-
-// Row i of a call.
-fn heard(t: &mut Table, told: Plain, i: usize, r: Row, listens: bool) -> Plain {
-    let mut said = told;
-    said.right = said.right && same_row(r, row_at(t, WANT, i));
-    if listens {
-        said.held = follow(t, said.held, r);
-    }
-    said
-}
-
-// The rows of a call, one after another. A holder listens to notices; before there is one, a list is read.
-fn hear(
-    m: &[u8],
-    telling: Telling,
-    count: usize,
-    t: &mut Table,
-    told: Plain,
-    listens: bool,
-) -> Plain
-    requires { ⌜ (0 < count → TellingAsked telling (now m)) ⌝ }
-{
-    let rest = told_of(telling);
-    let mut said = told;
-    let mut at = 0;
-    let mut i = 0;
-    while i < count {
-        let step = told_next(m, rest, &telling.upkeep.changed, at);
-        let r = step.row;
-        said = heard(t, said, i, r, listens);
-        at = step.next;
-        i += 1;
-    }
-    said
-}
-
-fn costs_of(r: Row) -> [u16; COSTS] {
-    let mut costs = [0u16; COSTS];
-    let mut i = 0;
-    while i < COSTS {
-        costs[i] = r[2 + i];
-        i += 1;
-    }
-    costs
-}
-
-fn plan_change(m: &[u8], k: Call) -> Plan
-    ensures { λ r. ⌜ Able r (now (m .entry)) × (0 < r .count → TellingAsked (r .telling) (now (m .entry))) ⌝ }
-{
-    let letter = k.letter;
-    let r = k.row;
-    match letter {
-        b'w' => board::plan_withdraw(m, k.number, k.lent),
-        b'e' => board::plan_enter(m, k.number, k.block, costs_of(r), k.lent),
-        _ => board::plan_recost(m, k.number, k.block, costs_of(r), k.lent),
-    }
-}
-
-fn change(m: &mut [u8], k: Call, t: &mut Table, b: Plain) -> Plain {
-    let p = plan_change(m, k);
-    let v = p.verdict;
-    let telling = p.telling;
-    let told = spoken(b, v, p.count, p.opened);
-    let said = hear(m, telling, p.count, t, told, b.holding);
-    board::carry_out(m, p);
-    said
-}
 
 fn plan_hours(m: &[u8], k: Call) -> Plan
     ensures { λ r. ⌜ (0 < r .count → TellingAsked (r .telling) (now (m .entry))) ⌝ }
@@ -123,21 +39,6 @@ fn plan_query(m: &[u8], k: Call) -> Plan
     }
 }
 
-fn query(m: &[u8], k: Call, t: &mut Table, b: Plain) -> Plain {
-    let p = plan_query(m, k);
-    let v = p.verdict;
-    let telling = p.telling;
-    let told = spoken(b, v, p.count, p.opened);
-    hear(
-        m,
-        telling,
-        p.count,
-        t,
-        told,
-        !b.holding & (k.letter == b'Q'),
-    )
-}
-
 pub fn at_most(n: usize, bound: usize) -> usize
     ensures { λ r. ⌜ r ≤ bound ⌝ }
 {
@@ -153,7 +54,7 @@ fn rank(m: &[u8], k: Call, b: Plain, rows: &mut [Row]) -> Plain {
 
 fn ranked(m: &[u8], k: Call, t: &mut Table, b: Plain) -> Plain {
     let mut said = rank(m, k, b, t);
-    said.right = same_rows(t, RANKED, WANT, said.count);
+    said.right = same_rows(t, TOLD, WANT, said.count);
     said
 }
 
@@ -173,12 +74,11 @@ fn read(m: &[u8], k: Call, t: &mut Table, b: Plain) -> Plain {
     if k.letter == b'R' {
         ranked(m, k, t, b)
     } else {
-        query(m, k, t, b)
+        told(m, plan_query(m, k), t, b, TOLD)
     }
 }
 
-// The call on the memory of the board b; what it said, and how many rows the holder then holds.
-pub fn ask(m: &mut [u8], k: Call, t: &mut Table, b: Plain) -> Plain {
+fn asked(m: &mut [u8], k: Call, t: &mut Table, b: Plain) -> Plain {
     if b'Z' < k.letter {
         change(m, k, t, b)
     } else if k.letter == b'L' {
@@ -186,4 +86,19 @@ pub fn ask(m: &mut [u8], k: Call, t: &mut Table, b: Plain) -> Plain {
     } else {
         read(m, k, t, b)
     }
+}
+
+// The call on the memory of the board b; what it said, and how many rows the holder then holds. He listens to notices; before
+// there is one, a list is read.
+pub fn ask(m: &mut [u8], k: Call, t: &mut Table, b: Plain) -> Plain {
+    let mut said = asked(m, k, t, b);
+    let listens = if b.holding {
+        b'Z' < k.letter
+    } else {
+        k.letter == b'Q'
+    };
+    if listens {
+        said.held = hear(t, TOLD, b.held, said.count);
+    }
+    said
 }

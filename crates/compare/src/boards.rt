@@ -1,12 +1,11 @@
 // One board after the other, each loaded over the one before; and memory that is too short for any.
 use crate::ask::load;
-use crate::ask::spoken;
 use crate::dice;
 use crate::expect::answer;
+use crate::judge::judged;
 use crate::plain::Plain;
 use crate::plain::bare;
 use crate::plain::listed;
-use crate::runs::judged;
 use crate::runs::run;
 use crate::table::BOARD;
 use crate::table::Row;
@@ -16,6 +15,7 @@ use crate::table::put_in;
 use crate::tally::Tally;
 use crate::tally::add;
 use crate::tally::count;
+use crate::told::spoken;
 use crate::week::block_of;
 use loading::INPUT;
 use zorder::COSTS;

@@ -51,6 +51,11 @@ pub fn row(seed: usize, mark: u16, number: u16, d: usize, style: usize) -> Row {
     r
 }
 
+// Boards grow for 24 changes, then shrink for as many.
+fn is_growing(i: usize) -> bool {
+    i / 72 % 2 == 0
+}
+
 // Any number, at times past the last; of a board that is to shrink one on it.
 fn number(b: Plain, t: &Table, n: usize, growing: bool) -> u16 {
     if growing {
@@ -112,6 +117,16 @@ fn change(b: Plain, t: &Table, s: usize, growing: bool) -> Call {
     }
 }
 
+// Whether a change is looked at before a call and not made: so before one call in eight.
+pub fn looks(s: usize) -> bool {
+    s / 16777216 % 8 == 0
+}
+
+// Such a change, drawn aside, so that the calls are those that they are without it.
+pub fn looked_at(b: Plain, t: &Table, s: usize, i: usize) -> Call {
+    change(b, t, next(s ^ 54321), is_growing(i))
+}
+
 // The argument is mostly small, at times at the ends of the range and past them; of chosen costs any set, none or one too many;
 // of hours a minute and a block.
 fn argument(b: Plain, n: usize, letter: u8) -> usize {
@@ -138,10 +153,10 @@ fn reading(b: Plain, s: usize, letter: u8) -> Call {
     }
 }
 
-// The calls in turn: a change, the list, another list or a load. Boards grow for 24 changes, then shrink for as many.
+// The calls in turn: a change, the list, another list or a load.
 pub fn drawn(b: Plain, t: &Table, s: usize, i: usize) -> Call {
     match i % 3 {
-        0 => change(b, t, s, i / 72 % 2 == 0),
+        0 => change(b, t, s, is_growing(i)),
         1 => reading(b, s, b'Q'),
         _ => reading(b, s, other(s / 64)),
     }

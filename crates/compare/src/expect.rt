@@ -8,11 +8,14 @@ use crate::plain::notice;
 use crate::plain::rank_all;
 use crate::rules::ALL;
 use crate::rules::Test;
+use crate::table::BOARD;
 use crate::table::NONE;
 use crate::table::Row;
 use crate::table::Table;
 use crate::table::WANT;
 use crate::table::mark_of;
+use crate::table::put_row;
+use crate::table::row_at;
 use crate::week;
 use crate::week::bad_block;
 use crate::week::minute_of;
@@ -88,6 +91,20 @@ fn change(b: Plain, t: &mut Table, k: Call) -> Plain {
     } else {
         answer(b, refusal, 0, 0)
     }
+}
+
+// What a preview is to answer: that of the change, made and undone. The row past the last is put back too, since the dice may
+// read it.
+pub fn foreseen(b: Plain, t: &mut Table, k: Call) -> Plain {
+    let new = k.row;
+    let old = find(t, b.n, k.number);
+    let past = row_at(t, BOARD, b.n);
+    let after = expect(b, t, k);
+    if after.refusal == 0 {
+        exchange(t, after.n, new, old);
+    }
+    put_row(t, BOARD, b.n, past);
+    answer(b, after.refusal, after.detail, after.count)
 }
 
 // Whether a list's argument is out of range.

@@ -1,54 +1,101 @@
-// The mixed run of calls on a board, each made on both: a change, the list, another list or at times a load to be refused.
+// The mixed run of calls on a board, each made on both: a change after its preview, the list, another list or at times a load to
+// be refused; before some of them a preview of a change that is not made.
 use crate::ask::ask;
+use crate::change;
 use crate::dice;
 use crate::expect::Call;
 use crate::expect::expect;
+use crate::expect::foreseen;
+use crate::judge::alike;
+use crate::judge::judged;
 use crate::nodes::opened;
 use crate::plain::Plain;
-use crate::table::HELD;
 use crate::table::Table;
-use crate::table::same_rows;
 use crate::tally::Tally;
+use crate::tally::add;
 use crate::tally::count;
+use crate::tally::count_preview;
 
-// The holder has the list.
-fn holds(b: Plain, t: &Table) -> bool {
-    !b.holding || (b.held == b.listed && same_rows(t, HELD, b.list, b.held))
+// A board in its run, and what was counted so far.
+struct Progress {
+    board: Plain,
+    counts: Tally,
 }
 
-// The plain board after a call that is to tell so many nodes if it is accepted, with what the board said of it.
-pub fn judged(want: Plain, said: Plain, t: &Table, letter: u8, opened: usize) -> Plain {
-    let mut b = want;
-    b.held = said.held;
-    b.holding = said.holding | ((letter == b'Q') & (said.refusal == 0));
-    b.opened = said.opened;
-    let same = (want.refusal == said.refusal)
-        & (want.detail == said.detail)
-        & (want.count == said.count)
-        & (said.opened == if want.refusal == 0 { opened } else { 0 });
-    b.right = said.right & same & holds(b, t);
-    b
-}
-
+// The last answer before a change is that of its preview, and the change is to answer the same.
 fn call(b: Plain, t: &mut Table, m: &mut [u8], k: Call) -> Plain {
     let nodes = opened(m, b, t, k);
     let want = expect(b, t, k);
     let said = ask(m, k, t, b);
+    let mut after = judged(want, said, t, k.letter, nodes);
+    after.right = after.right & ((k.letter < b'Z') | alike(b, said));
+    after
+}
+
+// Board, list and holder stay.
+fn preview(b: Plain, t: &mut Table, m: &[u8], k: Call) -> Plain {
+    let nodes = opened(m, b, t, k);
+    let want = foreseen(b, t, k);
+    let said = change::preview(m, k, t, b);
     judged(want, said, t, k.letter, nodes)
 }
 
+fn called(r: Progress, t: &mut Table, m: &mut [u8], k: Call) -> Progress {
+    let b = r.board;
+    let u = r.counts;
+    let board = call(b, t, m, k);
+    Progress {
+        board,
+        counts: count(u, k.letter, board),
+    }
+}
+
+fn looked(r: Progress, t: &mut Table, m: &[u8], k: Call) -> Progress {
+    let b = r.board;
+    let u = r.counts;
+    let board = preview(b, t, m, k);
+    Progress {
+        board,
+        counts: count_preview(u, k.letter, board),
+    }
+}
+
+// A preview of a change that is not made.
+fn passed(r: Progress, t: &mut Table, m: &[u8], k: Call) -> Progress {
+    let seen = looked(r, t, m, k);
+    let board = seen.board;
+    let u = seen.counts;
+    Progress {
+        board,
+        counts: add(u, b'a', if board.refusal == 0 { 1 } else { 0 }),
+    }
+}
+
+fn turn(r: Progress, t: &mut Table, m: &mut [u8], s: usize, i: usize) -> Progress {
+    let b = r.board;
+    let k = dice::drawn(b, t, s, i);
+    let mut before = r;
+    if dice::looks(s) {
+        before = passed(before, t, m, dice::looked_at(b, t, s, i));
+    }
+    if b'Z' < k.letter {
+        before = looked(before, t, m, k);
+    }
+    called(before, t, m, k)
+}
+
 pub fn run(b: Plain, t: &mut Table, m: &mut [u8], u: Tally, seed: usize, calls: usize) -> Tally {
-    let mut after = b;
-    let mut counts = u;
+    let mut r = Progress {
+        board: b,
+        counts: u,
+    };
     let mut s = seed;
     let mut i = 0;
     while i < calls {
-        let k = dice::drawn(after, t, s, i);
-        after = call(after, t, m, k);
-        let more = count(counts, k.letter, after);
-        counts = more;
+        let after = turn(r, t, m, s, i);
+        r = after;
         s = dice::next(s);
         i += 1;
     }
-    counts
+    r.counts
 }

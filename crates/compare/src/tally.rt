@@ -52,6 +52,14 @@ pub fn count(u: Tally, letter: u8, b: Plain) -> Tally {
     judge(heard, letter, b.right)
 }
 
+// Previews have cells of their own, and no holder hears them. Where one is wrong its letter is a capital.
+pub fn count_preview(u: Tally, letter: u8, b: Plain) -> Tally {
+    let called = add(u, if b.refusal == 0 { b'p' } else { b'x' }, 1);
+    let told = add(called, b'P', b.count);
+    let opened = add(told, b'v', b.opened);
+    judge(opened, letter ^ 32, b.right)
+}
+
 // A byte of the names; the first of a line is its cell. The cell after it.
 fn put_byte(u: &Tally, cell: u8, b: u8) -> u8 {
     if b == b'\n' {
@@ -82,6 +90,10 @@ pub fn put_all(u: &Tally) {
     put_named(
         u,
         b"qrows listed\nonodes opened\nwnodes opened on withdrawals\nBbands\nRranks\nKon k\nSchosen\nYhours\n",
+    );
+    put_named(
+        u,
+        b"ppreviews\naof changes not made\nProws of previews\nvnodes opened on previews\nxpreviews refused\n",
     );
     put_named(
         u,

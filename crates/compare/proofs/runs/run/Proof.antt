@@ -7,10 +7,10 @@ use Rattle.compare.proofs.runs.run.Statement.{statement}
 use Rattle.compare.proofs.runs.run.Tie as tie
 
 abbrev Inv-loop : tie.InvT-loop
-Inv-loop t₀ m₀ seed calls after₀ counts₀ s₀ i₀ t m after counts s i = length m ≡ length m₀
+Inv-loop t₀ m₀ seed calls r₀ s₀ i₀ t m r s i = length m ≡ length m₀
 
 abbrev μ-loop : tie.MeasureT-loop
-μ-loop t₀ m₀ seed calls after₀ counts₀ s₀ i₀ t m after counts s i = calls - i
+μ-loop t₀ m₀ seed calls r₀ s₀ i₀ t m r s i = calls - i
 
 pub run-spec : {M : Type 1} → statement M
 run-spec =
@@ -19,8 +19,6 @@ run-spec =
     Inv-loop
     μ-loop
     (λ c. search needs)
-    (λ c κs. search needs)
-    (λ c κs. search needs)
     (λ c κs. search needs)
     (λ c κs. search needs)
     (λ c. search needs)

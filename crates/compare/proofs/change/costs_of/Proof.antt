@@ -1,8 +1,8 @@
--- `ask::costs_of` meets its contract: one cost after another. Assumes nothing.
+-- `change::costs_of` meets its contract: one cost after another. Assumes nothing.
 use Prim.Native.Nat.{_-_}
 use borrow.Author.Needs.{needs}
-use Rattle.compare.proofs.ask.costs_of.Statement.{statement}
-use Rattle.compare.proofs.ask.costs_of.Tie as tie
+use Rattle.compare.proofs.change.costs_of.Statement.{statement}
+use Rattle.compare.proofs.change.costs_of.Tie as tie
 
 abbrev Inv-loop : tie.InvT-loop
 Inv-loop r costs₀ i₀ costs i = Unit {0}
