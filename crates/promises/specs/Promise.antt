@@ -48,19 +48,19 @@ abbrev pub UnsoundSaid : List Row → Answer → List Row → Type 0
 UnsoundSaid = Said (refusedWith 3) [] 0
 
 -- The lists (Definitions 2, 3, 4, 6 and 8) and the hours call (Card 8). Their memory is lent for reading only.
-abbrev pub QuerySaid : Query → Board → ℕ → List Row → Answer → List Row → Type 0
-QuerySaid q b nodes lent = Said (queryAnswer b q (length lent)) (queryRows b q) nodes lent
+abbrev pub QuerySaidOn : Query → Board → ℕ → List Row → Answer → List Row → Type 0
+QuerySaidOn q b nodes lent = Said (queryAnswer b q (length lent)) (queryRows b q) nodes lent
 
 pub record QueryPromise (q : Query) (m : List ℕ) (lent : List Row) (r : Answer) (lent' : List Row) : Type 0 where
-  pub sound : (s : Sound m) → QuerySaid q (boardIn m) (queryOpens (dimensionIn m) q (s .tree)) lent r lent'
+  pub sound : (s : Sound m) → QuerySaidOn q (boardIn m) (queryOpens (dimensionIn m) q (s .tree)) lent r lent'
   pub unsound : (Sound m → ⊥) → UnsoundSaid lent r lent'
 
 -- Enter, withdraw and re-cost: what is said of a change, be it made or previewed.
-abbrev pub SaidOf : Change → Board → ℕ → List Row → Answer → List Row → Type 0
-SaidOf x b nodes lent = Said (changeAnswer b x (length lent)) (changeNotice b x) nodes lent
+abbrev pub ChangeSaidOn : Change → Board → ℕ → List Row → Answer → List Row → Type 0
+ChangeSaidOn x b nodes lent = Said (changeAnswer b x (length lent)) (changeNotice b x) nodes lent
 
 pub record ChangeSaid (x : Change) (m : List ℕ) (lent : List Row) (r : Answer) (lent' : List Row) : Type 0 where
-  pub sound : (s : Sound m) → SaidOf x (boardIn m) (changeOpens (dimensionIn m) x (s .tree)) lent r lent'
+  pub sound : (s : Sound m) → ChangeSaidOn x (boardIn m) (changeOpens (dimensionIn m) x (s .tree)) lent r lent'
   pub unsound : (Sound m → ⊥) → UnsoundSaid lent r lent'
 
 -- The call. A re-cost with equal costs writes no byte but its number's block.

@@ -1,5 +1,5 @@
 -- A plan told and carried out, one that is told alone, or a list planned and told, keeps the exported promise.
-use Prim.Native.Nat.{ℕ, _≤_, _<_}
+use Prim.Native.Nat.{ℕ}
 use mathlib.Core.List.{List, _++_, map}
 use mathlib.Core.Path.{_≡_, sym, ap, _∙_, subst}
 use native.Mathlib.Omega.{arith}
@@ -8,12 +8,11 @@ use Rattle.model.specs.Moves as model
 use Rattle.model.specs.Tree.{Tree}
 use Rattle.model.specs.Calls as calls
 use Rattle.promises.specs.Answers.{resultRow}
-use Rattle.upkeep.specs.Telling.{TellingAsked, toldRows, filledRows}
+use Rattle.upkeep.specs.Telling.{toldRows, filledRows}
 use Rattle.upkeep.specs.Planned.{answerIn, Plans, QueryPlanned}
 use Rattle.upkeep.specs.Laws.Telling.{filled-all}
 use Rattle.upkeep.specs.Laws.Planned.{put-results, query-promise}
 use Rattle.upkeep.specs.declared.plan.Plan.{Plan}
-use Rattle.upkeep.specs.declared.telling.Telling.{Telling}
 use Rattle.rows.specs.Rows.{rowNumbers}
 use Rattle.rows.specs.declared.Row.{Row}
 use Rattle.board.specs.Laws.Promise.{plan-said, plan-promise}

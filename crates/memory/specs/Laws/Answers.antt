@@ -16,7 +16,7 @@ use Rattle.promises.specs.Layout.{sizeIn, dimensionIn, boardIn}
 use Rattle.promises.specs.Written.{changeWrites, loadWrites}
 use Rattle.promises.specs.Used.{SameInUse}
 use Rattle.promises.specs.Answers.{answerOf, numberOf, detailOf, counted, rowsAfter}
-use Rattle.promises.specs.Promise.{MemoryAfter, LoadPromise, Said, QuerySaid, QueryPromise, SaidOf, ChangeSaid, ChangePromise, PreviewPromise}
+use Rattle.promises.specs.Promise.{MemoryAfter, LoadPromise, Said, QuerySaidOn, QueryPromise, ChangeSaidOn, ChangeSaid, ChangePromise, PreviewPromise}
 use Rattle.promises.specs.Run.{Bytes}
 use Rattle.promises.specs.declared.Verdict.{Verdict}
 use Rattle.promises.specs.declared.Verdict.the-variants.{Accepted, ShortMemory, OutOfRange, Unsound, NumberTooLarge, NumberTwice, NumberAbsent, BadArgument, FewRows, BlockTooLarge, BadHours}
@@ -90,7 +90,7 @@ module _ {m n : List ℕ} (bytes : Bytes m) (alike : Alike m n) {lent lent' lent
       by-soundness alike bytes
       (λ k.
       said-same (p .sound k)
-      (subst₂ (λ (b : Board) (d : ℕ). QuerySaid q b (queryOpens d q (k .tree)) lent s lent'') (alike .board) (alike-dimension alike) (p' .sound (alike-sound alike k))))
+      (subst₂ (λ (b : Board) (d : ℕ). QuerySaidOn q b (queryOpens d q (k .tree)) lent s lent'') (alike .board) (alike-dimension alike) (p' .sound (alike-sound alike k))))
       (λ f f'. said-same (p .unsound f) (p' .unsound f'))
 
   -- A change, be it made or previewed.
@@ -99,7 +99,7 @@ module _ {m n : List ℕ} (bytes : Bytes m) (alike : Alike m n) {lent lent' lent
       by-soundness alike bytes
       (λ k.
       said-same (p .sound k)
-      (subst₂ (λ (b : Board) (d : ℕ). SaidOf x b (changeOpens d x (k .tree)) lent s lent'') (alike .board) (alike-dimension alike) (p' .sound (alike-sound alike k))))
+      (subst₂ (λ (b : Board) (d : ℕ). ChangeSaidOn x b (changeOpens d x (k .tree)) lent s lent'') (alike .board) (alike-dimension alike) (p' .sound (alike-sound alike k))))
       (λ f f'. said-same (p .unsound f) (p' .unsound f'))
 
   module _ (x : Change) {m' n' : List ℕ} (p : ChangePromise x m lent r m' lent') (p' : ChangePromise x n lent s n' lent'') where

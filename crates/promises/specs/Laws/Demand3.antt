@@ -22,7 +22,7 @@ use Rattle.promises.specs.Layout.{sizeIn, dimensionIn}
 use Rattle.promises.specs.Written.{changeWrites, loadWrites}
 use Rattle.promises.specs.Sound.{Holding}
 use Rattle.promises.specs.Answers.{answerOf, numberOf, counted, rowsAfter}
-use Rattle.promises.specs.Promise.{MemoryAfter, LoadPromise, Said, QueryPromise, QuerySaid, SaidOf, ChangeSaid, ChangePromise}
+use Rattle.promises.specs.Promise.{MemoryAfter, LoadPromise, Said, QueryPromise, QuerySaidOn, ChangeSaidOn, ChangeSaid, ChangePromise}
 use Rattle.promises.specs.Run.{Bytes, Step, changes, previews, lists, loadRefused, leaves, Steps, done, then, eventOf, eventsOf, History, end, call, load, runOf, EachRun}
 use Rattle.promises.specs.Laws.Stands.{holding-sound, holding-board}
 use Rattle.promises.specs.declared.Verdict.{Verdict}
@@ -71,9 +71,9 @@ module _ (writes : ℕ → Bool) (m m' : List ℕ) (b' : Board) (t : Tree) where
 
 -- What is said of a change, made or previewed.
 module _ (x : Change) (m : List ℕ) (lent lent' : List Row) (r : Answer) (p : ChangeSaid x m lent r lent') (b : Board) (a : At m b) where
-  said-here : SaidOf x b (changeOpens (dimensionIn m) x (a .tree)) lent r lent'
+  said-here : ChangeSaidOn x b (changeOpens (dimensionIn m) x (a .tree)) lent r lent'
   said-here =
-      subst (λ (b : Board). SaidOf x b (changeOpens (dimensionIn m) x (a .tree)) lent r lent') (a .holding .board)
+      subst (λ (b : Board). ChangeSaidOn x b (changeOpens (dimensionIn m) x (a .tree)) lent r lent') (a .holding .board)
       (p .sound (holding-sound (a .holding)))
 
   rows-here : take (r .count) lent' ≡ cond (isAccepted (answerOf (r .verdict))) (changeNotice b x) []
@@ -111,9 +111,9 @@ module _ (x : Change) (m m' : List ℕ) (lent lent' : List Row) (r : Answer) (p 
       }
 
 module _ (m : List ℕ) (lent lent' : List Row) (r : Answer) (p : QueryPromise list m lent r lent') (b : Board) (a : At m b) where
-  list-said : QuerySaid list b (queryOpens (dimensionIn m) list (a .tree)) lent r lent'
+  list-said : QuerySaidOn list b (queryOpens (dimensionIn m) list (a .tree)) lent r lent'
   list-said =
-      subst (λ (b : Board). QuerySaid list b (queryOpens (dimensionIn m) list (a .tree)) lent r lent') (a .holding .board)
+      subst (λ (b : Board). QuerySaidOn list b (queryOpens (dimensionIn m) list (a .tree)) lent r lent') (a .holding .board)
       (p .sound (holding-sound (a .holding)))
 
   list-keeps : Keeps b (eventOf (lists lent lent' r p))
