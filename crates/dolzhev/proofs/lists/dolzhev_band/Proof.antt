@@ -17,7 +17,7 @@ use Rattle.dolzhev.proofs.ByValue.{word}
 use Rattle.dolzhev.proofs.Filled.{FillC, HandC}
 use Rattle.dolzhev.proofs.Planning.{PlanOf}
 use Rattle.dolzhev.proofs.Asked.{asked-meets}
-use Rattle.dolzhev.proofs.Askings.{ask}
+use Rattle.dolzhev.proofs.Askings.{listing}
 use Rattle.dolzhev.proofs.lists.dolzhev_band.Key.{name as #dolzhev·lists·dolzhev-band}
 use Rattle.dolzhev.proofs.lists.dolzhev_band as f
 use Rattle.dolzhev.proofs.lists.dolzhev_band.Statement as stated
@@ -28,7 +28,7 @@ unfolding code.routine tablesOf
 dolzhev-band-spec 𝓤 H 𝓜 𝓖 𝓡 =
     entered 𝓤 H (tripleOf 𝓤 H (𝓖 .A) f.signature (f.spec 𝓤 H (𝓖 .A) (𝓜 .mem) (𝓡 .run)))
     (tables 𝓤 H 𝓜 𝓡 code.env .C) (tables 𝓤 H 𝓜 𝓡 code.env .Λ) #dolzhev·lists·dolzhev-band code.function (code.unfolded 𝓤 H 𝓜 𝓡)
-    (asked-meets 𝓤 H (𝓖 .A) (givenOf 𝓤 H 𝓜 𝓖) (𝓜 .mem) (𝓡 .run) (ask bandQuery) (tablesOf 𝓤 H 𝓜 (tables 𝓤 H 𝓜 𝓡 code.env)) #query·plan-band
-    (cited 𝓤 H (PlanOf word (ask bandQuery .Planned) 𝓤 H (𝓖 .A)) 𝓜 𝓡 code.env #query·plan-band plan-def.routine code.calls-query·plan-band (plan-thm.met 𝓤 H 𝓜 𝓖 𝓡))
+    (asked-meets 𝓤 H (𝓖 .A) (givenOf 𝓤 H 𝓜 𝓖) (𝓜 .mem) (𝓡 .run) (listing bandQuery) (tablesOf 𝓤 H 𝓜 (tables 𝓤 H 𝓜 𝓡 code.env)) #query·plan-band
+    (cited 𝓤 H (PlanOf word (listing bandQuery .Planned) 𝓤 H (𝓖 .A)) 𝓜 𝓡 code.env #query·plan-band plan-def.routine code.calls-query·plan-band (plan-thm.met 𝓤 H 𝓜 𝓖 𝓡))
     (cited 𝓤 H (FillC 𝓤 H (𝓖 .A) (𝓜 .mem) (𝓡 .run)) 𝓜 𝓡 code.env #rows·fill fill-def.routine code.calls-rows·fill (fill-thm.met 𝓤 H 𝓜 𝓖 𝓡))
     (cited 𝓤 H (HandC 𝓤 H (𝓖 .A) (𝓜 .mem) (𝓡 .run)) 𝓜 𝓡 code.env #dolzhev·answer·handed handed-def.routine code.calls-dolzhev·answer·handed (handed-thm.met 𝓤 H 𝓜 𝓖 𝓡)))

@@ -17,14 +17,14 @@ use Rattle.dolzhev.proofs.ByValue.{given}
 use Rattle.dolzhev.proofs.Filled.{FillC, HandC}
 use Rattle.dolzhev.proofs.Planning.{PlanOf}
 use Rattle.dolzhev.proofs.Asked.{Asking, asked-meets}
-use Rattle.dolzhev.proofs.Askings.{look}
+use Rattle.dolzhev.proofs.Askings.{previewing}
 use Rattle.dolzhev.proofs.preview.dolzhev_preview_enter.Key.{name as #dolzhev·preview·dolzhev-preview-enter}
 use Rattle.dolzhev.proofs.preview.dolzhev_preview_enter as f
 use Rattle.dolzhev.proofs.preview.dolzhev_preview_enter.Statement as stated
 use Rattle.dolzhev.proofs.preview.dolzhev_preview_enter.Code as code
 
 abbrev asking : Asking given
-asking = look entering
+asking = previewing entering
 
 pub dolzhev-preview-enter-spec : {M : Type 1} → stated.statement M
 unfolding code.routine tablesOf

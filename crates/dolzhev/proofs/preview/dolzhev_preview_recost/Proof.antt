@@ -17,14 +17,14 @@ use Rattle.dolzhev.proofs.ByValue.{given}
 use Rattle.dolzhev.proofs.Filled.{FillC, HandC}
 use Rattle.dolzhev.proofs.Planning.{PlanOf}
 use Rattle.dolzhev.proofs.Asked.{Asking, asked-meets}
-use Rattle.dolzhev.proofs.Askings.{look}
+use Rattle.dolzhev.proofs.Askings.{previewing}
 use Rattle.dolzhev.proofs.preview.dolzhev_preview_recost.Key.{name as #dolzhev·preview·dolzhev-preview-recost}
 use Rattle.dolzhev.proofs.preview.dolzhev_preview_recost as f
 use Rattle.dolzhev.proofs.preview.dolzhev_preview_recost.Statement as stated
 use Rattle.dolzhev.proofs.preview.dolzhev_preview_recost.Code as code
 
 abbrev asking : Asking given
-asking = look recosting
+asking = previewing recosting
 
 pub dolzhev-preview-recost-spec : {M : Type 1} → stated.statement M
 unfolding code.routine tablesOf

@@ -17,14 +17,14 @@ use Rattle.dolzhev.proofs.ByValue.{short}
 use Rattle.dolzhev.proofs.Filled.{FillC, HandC}
 use Rattle.dolzhev.proofs.Planning.{PlanOf}
 use Rattle.dolzhev.proofs.Asked.{Asking, asked-meets}
-use Rattle.dolzhev.proofs.Askings.{look}
+use Rattle.dolzhev.proofs.Askings.{previewing}
 use Rattle.dolzhev.proofs.preview.dolzhev_preview_withdraw.Key.{name as #dolzhev·preview·dolzhev-preview-withdraw}
 use Rattle.dolzhev.proofs.preview.dolzhev_preview_withdraw as f
 use Rattle.dolzhev.proofs.preview.dolzhev_preview_withdraw.Statement as stated
 use Rattle.dolzhev.proofs.preview.dolzhev_preview_withdraw.Code as code
 
 abbrev asking : Asking short
-asking = look withdraw
+asking = previewing withdraw
 
 pub dolzhev-preview-withdraw-spec : {M : Type 1} → stated.statement M
 unfolding code.routine tablesOf
