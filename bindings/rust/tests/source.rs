@@ -38,7 +38,12 @@ const DOMINATES: &str = "!exceeds(d, p, q) & exceeds(d, q, p)";
 const CHOSEN: &str = "!exceeds_in(s, p, q) & exceeds_in(s, q, p)";
 const ON_K: &str = "(k <= d - greater) & exceeds(d, q, p)";
 const CHOOSE: &str = "factor * a + (1 - factor) * b";
-const LEAST: &str = "row[i] = choose(less(q[i], p[i]) as u16, q[i], p[i]);";
+const OVER: &str = "choose(less(b, a) as u16, a, b) - b";
+const LEAST: &str = "row[i] = p[i] - over(p[i], q[i]);";
+const GREATEST: &str = "row[i] = p[i] + over(q[i], p[i]);";
+const ZERO: &str = "1 - (less(0, a) as u16)";
+const COLUMN: &str = "worse = worse | over(columns[COLUMNS * k + j], q[k]);";
+const COUNT: &str = "fitting += fits_column(columns, w, j, q);";
 const LOWER: &str = "less(p.number, q.number)";
 
 #[test]
@@ -68,7 +73,14 @@ fn branches_are_found() {
         ("dominance::hides", "lower | exceeds(d, b, a)", "lower || exceeds(d, b, a)", "`||`"),
         ("dominance::choose", CHOOSE, "if factor == 1 { a } else { b }", "`else`"),
         ("dominance::limits_of", "i += 1;", "i += if i < d { 1 } else { COSTS };", "`if`"),
+        ("dominance::over", OVER, "if b < a { a - b } else { 0 }", "`else`"),
         ("dominance::least", LEAST, "if less(q[i], p[i]) == 1 { row[i] = q[i]; }", "`if`"),
+        ("dominance::greatest", GREATEST, "match over(q[i], p[i]) { 0 => (), more => row[i] = p[i] + more }", "`match`"),
+        ("memory::zero", ZERO, "if a == 0 { 1 } else { 0 }", "`if`"),
+        ("memory::fits_column", COLUMN, "if over(columns[COLUMNS * k + j], q[k]) == 1 { return 0; }", "`return`"),
+        ("memory::fits_column", "while k < w {", "while k < w && worse == 0 {", "`&&`"),
+        ("memory::fitting", COUNT, "if fits_column(columns, w, j, q) == 1 { return 1; }", "`return`"),
+        ("memory::fitting_hiders", "j += 1;", "if fitting == 1 { break; }\n        j += 1;", "`break`"),
         ("memory::from_above", LOOP, "while i < COSTS && costs[i] < 65535 {", "`&&`"),
         ("query::dominates_on", ON_K, "(k <= d - greater) && exceeds(d, q, p)", "`&&`"),
         ("query::dominates_at", CHOSEN, "!exceeds_in(s, p, q) && exceeds_in(s, q, p)", "`&&`"),
@@ -94,7 +106,12 @@ fn signs_are_found() {
         ("dominance::hides", LOWER, "less(p.costs[0], q.costs[0])", "`<`"),
         ("dominance::hides", "(lower |", "(p.number < q.number) & (lower |", "`<`"),
         ("dominance::limits_in", LOOP, "while (i < COSTS) & (q[i] < 65535) {", "`<`"),
-        ("dominance::least", LEAST, "row[i] = choose((q[i] < p[i]) as u16, q[i], p[i]);", "`<`"),
+        ("dominance::over", OVER, "(b < a) as u16 * (a - b)", "`<`"),
+        ("dominance::least", LEAST, "row[i] = p[i] - (q[i] < p[i]) as u16 * over(p[i], q[i]);", "`<`"),
+        ("dominance::greatest", LOOP, "while (i < COSTS) & (p[i] < 65535) {", "`<`"),
+        ("memory::zero", ZERO, "(a == 0) as u16", "`==`"),
+        ("memory::fits_column", COLUMN, "worse = worse | (columns[COLUMNS * k + j] > q[k]) as u16;", "`>`"),
+        ("memory::put", "while k < COSTS {", "while (k < COSTS) & (costs[k] != 0) {", "`!=`"),
         ("memory::lack", "{\n    65535 - cost", "{\n    (cost <= 65535) as u16 * (65535 - cost)", "`<=`"),
         ("query::dominates_on", ON_K, "(k <= d - greater) & (p[0] < q[0])", "`<`"),
         ("query::dominates_at", CHOSEN, "exceeds_in(s, p, q) == exceeds_in(s, q, p)", "`==`"),
@@ -116,7 +133,14 @@ fn calls_are_found() {
             r#"calls ["exceeds", "exceeds", "exceeds", "less"]"#,
         ),
         ("dominance::hides", "!exceeds(d, a, b)", "!dominates(d, b, a)", r#"calls ["dominates", "exceeds", "less"]"#),
-        ("dominance::least", "less(", "below(", r#"calls ["below", "choose"]"#),
+        ("dominance::least", "over(", "below(", r#"calls ["below"]"#),
+        ("memory::fits_column", "zero(", "none(", r#"calls ["none", "over"]"#),
+        (
+            "memory::fitting",
+            COUNT,
+            "fitting += fits_column(columns, w, j, q) * fits_column(columns, w, j, q);",
+            r#"calls ["fits_column", "fits_column"]"#,
+        ),
         ("query::dominates_on", "count_greater(", "fit(", r#"calls ["exceeds", "fit"]"#),
         ("dominance::hides", "fn hides(", "fn conceals(", "found 0 times"),
         ("query::dominates_on", "fn dominates_on(", "fn dominates_some(", "found 0 times"),

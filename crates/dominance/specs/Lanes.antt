@@ -26,3 +26,6 @@ isChosen set i = eqb (set / 2 ^ i % 2) 1
 
 abbrev pub lesser : List ℕ → List ℕ → ℕ → ℕ
 lesser p q i = cond (less (getD q i 0) (getD p i 0)) (getD q i 0) (getD p i 0)
+
+abbrev pub greater : List ℕ → List ℕ → ℕ → ℕ
+greater p q i = cond (less (getD p i 0) (getD q i 0)) (getD q i 0) (getD p i 0)

@@ -8,6 +8,7 @@ use memory::corners_of;
 use memory::costs_of;
 use memory::fits_at;
 use memory::in_blocks;
+use memory::is_listed;
 use memory::kept;
 use memory::next_within;
 use memory::number_at;
@@ -25,8 +26,8 @@ ghost use Rattle.memory.specs.declared.search.Among.the-variants.{InBlocks};
 ghost use Rattle.upkeep.specs.Planned.{Finds};
 ghost use Rattle.hours.specs.Open.{shownFor};
 
-// Of a move in an open block, a place before it with one that hides it, `last` if that does; its own place i if there is none.
-// Of a move in a shut block the number of moves, which is no place.
+// Of a move in an open block, a place before it with one that hides it, `last` if that does; its own place i if there is none,
+// as for every listed one. Of a move in a shut block the number of moves, which is no place.
 fn hider_of(
     m: &[u8],
     h: Head,
@@ -42,6 +43,9 @@ fn hider_of(
     let number = number_at(m, h.size, i);
     if !in_blocks(m, h.size, number, blocks) {
         return h.count;
+    }
+    if is_listed(m, h.size, number) {
+        return i;
     }
     let q = limits_of(h.dimension, costs_of(m, h.size, COSTS, number));
     if last < i {

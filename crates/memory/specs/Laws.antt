@@ -14,6 +14,12 @@ pub mod Marks
 pub mod Ordered
 pub mod Search
 pub mod Hiders
+pub mod Counts
+pub mod Columns
+pub mod Chunks
+pub mod Unhidden
+pub mod Highs
+pub mod Halves
 pub mod Decide
 pub mod Used
 pub mod Front

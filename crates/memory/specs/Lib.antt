@@ -5,4 +5,6 @@ pub mod Stores
 pub mod Frame
 pub mod Tests
 pub mod Search
+pub mod Columns
+pub mod Chunks
 pub mod Laws

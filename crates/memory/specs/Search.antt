@@ -7,6 +7,7 @@ use lib.Dec.{eqb}
 use lib.ListN.{length, getD}
 use Rattle.zorder.specs.Address.{rowCosts}
 use Rattle.model.specs.Dominance.{nowhereGreater}
+use Rattle.dominance.specs.Lanes.{limit, isFirst}
 use Rattle.promises.specs.Layout.{numberIn, blockIn, costsIn, tab}
 use Rattle.memory.specs.Tests.{isMarked}
 use Rattle.memory.specs.declared.search.Among.{Among}
@@ -37,6 +38,10 @@ seen (InBlocks blocks) costs = costs
 unfoldable pub seenAt : Among → ℕ → List ℕ → ℕ → List ℕ
 seenAt a c m i = seen a (costsIn c rowCosts m (numberIn c m i))
 
+-- What a move before place i that hides the one there is nowhere greater than.
+unfoldable pub limitsAt : ℕ → ℕ → List ℕ → ℕ → List ℕ
+limitsAt c d m i = tab (limit (isFirst d) (seenAt Listed c m i)) rowCosts
+
 -- What it looks for: a move that is nowhere greater than q.
 unfoldable pub fits : Among → ℕ → List ℕ → List ℕ → ℕ → Bool
 fits a c m q i = looksAt a c m i && nowhereGreater (seenAt a c m i) q
@@ -58,9 +63,15 @@ pub record Some (test : ℕ → Bool) (n r : ℕ) : Type 0 where
   pub found : r < n → test r ≡ true
   pub none : n ≤ r → None test 0 n
 
--- p is nowhere greater than q, place by place.
+abbrev pub ListedSome : Head → List ℕ → List ℕ → ℕ → ℕ → Type 0
+ListedSome h m q = Some (fits Listed (h .size) m q)
+
+-- p is nowhere greater than q, place by place; and in the costs of a row.
 abbrev pub Below : List ℕ → List ℕ → Type 0
 Below p q = (k : ℕ) → getD p k 0 ≤ getD q k 0
+
+abbrev pub Under : List ℕ → List ℕ → Type 0
+Under p q = (k : ℕ) → k < rowCosts → getD p k 0 ≤ getD q k 0
 
 -- The corner of each run is nowhere greater than the moves of the run that are looked at, of the first n.
 pub record Corners (a : Among) (c : ℕ) (m : List ℕ) (n : ℕ) (corners : List (List ℕ)) : Type 0 where

@@ -1,6 +1,6 @@
 -- What the tests of soundness compute. That together they decide `Sound` is a law (Laws/Decide).
 use Prim.Native.Nat.{ℕ, zero, suc, _-_}
-use mathlib.Core.Bool.{Bool, true, false, not, _&&_, Bool·beq}
+use mathlib.Core.Bool.{Bool, true, false, not, _&&_, _||_, Bool·beq}
 use mathlib.Core.Path.{_≡_}
 use mathlib.Core.List.{List}
 use lib.Dec.{leb, ltb, eqb}
@@ -53,6 +53,13 @@ hiddenAt c d m i = hiddenBefore c d m i (moveIn c d m i)
 
 unfoldable pub marksRight : ℕ → ℕ → ℕ → List ℕ → Bool
 marksRight c d n m = allTo (λ i. Bool·beq (isListed c m i) (not (hiddenAt c d m i))) n
+
+-- The two halves of that: each move that is not listed is hidden, and no listed one is.
+unfoldable pub hiddenRight : ℕ → ℕ → ℕ → List ℕ → Bool
+hiddenRight c d n m = allTo (λ i. isListed c m i || hiddenAt c d m i) n
+
+unfoldable pub listedRight : ℕ → ℕ → ℕ → List ℕ → Bool
+listedRight c d n m = allTo (λ i. not (isListed c m i && hiddenAt c d m i)) n
 
 -- The answer says whether the memory is sound.
 pub record Decides (r : Bool) (m : List ℕ) : Type 0 where

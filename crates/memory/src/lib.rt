@@ -1,7 +1,11 @@
 // The lent memory: its fields read and written, and whether it is sound. Above this crate nothing names a byte.
 mod bytes;
+mod chunks;
+mod columns;
 mod fields;
 mod heights;
+mod hiders;
+mod highs;
 mod marks;
 mod order;
 mod search;

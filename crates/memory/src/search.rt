@@ -7,6 +7,7 @@ use crate::fields::number_at;
 use crate::sound::Head;
 use dominance::exceeds;
 use dominance::least;
+use dominance::limits_of;
 use zorder::COSTS;
 ghost use mathlib.Core.Path.{_≡_};
 ghost use Prim.Native.Nat.{_+_, _-_, _*_, _/_, _≤_, _<_};
@@ -78,18 +79,26 @@ pub fn seen(among: Among, costs: [u16; COSTS]) -> [u16; COSTS]
 }
 
 // All words of the row, also those past d, which the limits of what is looked for leave out.
-fn seen_at(m: &[u8], h: Head, i: usize, among: Among) -> [u16; COSTS]
+pub(crate) fn seen_at(m: &[u8], h: Head, i: usize, among: Among) -> [u16; COSTS]
     requires { ⌜ Readable h (now m) × (i < h .count) ⌝ }
     ensures { λ r. ⌜ r ≡ spec.seenAt among (h .size) (now (m .entry)) i ⌝ }
 {
     seen(among, costs_of(m, h.size, COSTS, number_at(m, h.size, i)))
 }
 
-fn looks_at(m: &[u8], h: Head, i: usize, among: Among) -> bool
+pub(crate) fn looks_at(m: &[u8], h: Head, i: usize, among: Among) -> bool
     requires { ⌜ Readable h (now m) × (i < h .count) ⌝ }
     ensures { λ r. ⌜ r ≡ spec.looksAt among (h .size) (now (m .entry)) i ⌝ }
 {
     looks(m, h.size, number_at(m, h.size, i), among)
+}
+
+// What a move before place i that hides the one there is nowhere greater than.
+pub(crate) fn limits_at(m: &[u8], h: Head, i: usize) -> [u16; COSTS]
+    requires { ⌜ Readable h (now m) × (i < h .count) ⌝ }
+    ensures { λ r. ⌜ r ≡ spec.limitsAt (h .size) (h .dimension) (now (m .entry)) i ⌝ }
+{
+    limits_of(h.dimension, seen_at(m, h, i, Among::Listed))
 }
 
 // A corner with the move at place i, if the search looks at it.
@@ -126,7 +135,7 @@ fn run_corner(
 }
 
 // Where the run of place i ends, or `to` if that is before.
-fn run_end(i: usize, to: usize) -> usize
+pub(crate) fn run_end(i: usize, to: usize) -> usize
     requires { ⌜ (i < to) × (to ≤ 4096) ⌝ }
     ensures { λ r. ⌜ (i < r) × (r ≤ to) × (r ≤ 64 * (i / 64) + 64) ⌝ }
 {

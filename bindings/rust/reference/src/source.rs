@@ -27,8 +27,14 @@ const ON_K: &str = "(k <= d - greater) & exceeds(d, q, p)";
 /// The comparison of two moves' numbers.
 const LOWER: &str = "let lower = 0 < less(p.number, q.number);";
 
+/// The ends of the loops over columns: the costs of one, all of them, the hiders, and the costs of a move that becomes one.
+const COLUMN: &str = "while k < w {";
+const COLUMNS: &str = "while j < COLUMNS {";
+const HIDERS: &str = "while j < HIDERS {";
+const PUT: &str = "while k < COSTS {";
+
 /// Whatever one of these calls is one of them, so that no branch hides in a callee.
-const FUNCTIONS: [Function; 17] = [
+const FUNCTIONS: [Function; 24] = [
     function("dominance", "wide", &[], &[]),
     function("dominance", "less", &["wide", "wide"], &[]),
     function("dominance", "first_factor", &[], &[]),
@@ -41,9 +47,16 @@ const FUNCTIONS: [Function; 17] = [
     function("dominance", "hides", &["exceeds", "exceeds", "less"], &[LOWER]),
     function("dominance", "limits_of", &["choose", "first_factor"], &[LOOP]),
     function("dominance", "limits_in", &["choose"], &[LOOP]),
-    function("dominance", "least", &["choose", "less"], &[LOOP]),
+    function("dominance", "over", &["choose", "less"], &[]),
+    function("dominance", "least", &["over"], &[LOOP]),
+    function("dominance", "greatest", &["over"], &[LOOP]),
     function("memory", "lack", &[], &[]),
     function("memory", "from_above", &["lack"], &[LOOP]),
+    function("memory", "zero", &["less"], &[]),
+    function("memory", "fits_column", &["over", "zero"], &[COLUMN]),
+    function("memory", "fitting", &["fits_column"], &[COLUMNS]),
+    function("memory", "fitting_hiders", &["fits_column"], &[HIDERS]),
+    function("memory", "put", &[], &[PUT]),
     function("query", "dominates_on", &["count_greater", "exceeds"], &[ON_K]),
     function("query", "dominates_at", &["exceeds_in", "exceeds_in"], &[]),
 ];

@@ -1,15 +1,11 @@
 -- `least` meets its contract. The loop's invariant: the places before i are filled. Assumes nothing.
-use Prim.Native.Nat.{ℕ, _-_, _≤_}
-use mathlib.Core.Bool.{Bool, cond}
+use Prim.Native.Nat.{ℕ, _+_, _-_, _≤_}
 use mathlib.Core.Path.{ap, _∙_}
 use native.Mathlib.Omega.{arith}
-use lib.Dec.{eqb}
 use lib.ListN.{getD}
 use Rattle.zorder.specs.Address.{rowCosts}
-use Rattle.model.specs.Dominance.{less}
-use Rattle.model.specs.Laws.Basics.{at-most-one}
 use Rattle.dominance.specs.Lanes.{lesser}
-use Rattle.dominance.specs.Laws.Lanes.{FilledTo, filled-none, filled-more, filled-all, factor-test}
+use Rattle.dominance.specs.Laws.Lanes.{FilledTo, filled-none, filled-more, filled-all, lesser-number}
 use Rattle.dominance.proofs.least.Statement.{statement}
 use Rattle.dominance.proofs.least.Tie as tie
 
@@ -22,26 +18,12 @@ abbrev μ-loop : tie.MeasureT-loop
 loop-holds : tie.Need-loop-holds Inv-loop μ-loop
 loop-holds c = let a = c .args in (omega arith, filled-none (lesser (a .t1) (a .t2)) (a .t1) (omega arith))
 
--- The comparison is 0 or 1.
-cast-choose : tie.Need-cast-choose Inv-loop μ-loop
-cast-choose c =
-    let a = c .before .before .before .args in
-    let i = c .before .before .loop .i in
-    omega (arith, c .less .ensures, at-most-one (less (getD (a .t2) i 0) (getD (a .t1) i 0)))
-
-choose-requires : tie.Need-choose-requires Inv-loop μ-loop
-choose-requires c κs =
-    let a = c .before .before .before .args in
-    let i = c .before .before .loop .i in
-    omega (arith, c .less .ensures, at-most-one (less (getD (a .t2) i 0) (getD (a .t1) i 0)))
-
 loop-again : tie.Need-loop-again Inv-loop μ-loop
 loop-again c =
-    let a = c .before .before .before .before .args in
-    let own = c .before .before .before .loop in
-    let pick : Bool → ℕ = λ t. cond t (getD (a .t2) (own .i) 0) (getD (a .t1) (own .i) 0) in
-    let told = c .choose .ensures ∙ ap (λ (k : ℕ). pick (eqb k 1)) (c .before .less .ensures) ∙ ap pick (factor-test (less (getD (a .t2) (own .i) 0) (getD (a .t1) (own .i) 0))) in
-    (omega arith, filled-more _ (own .inv .1) (omega arith) told)
+    let a = c .before .before .before .args in
+    let own = c .before .before .loop in
+    let p = a .t1 in
+    (omega arith, filled-more _ (own .inv .1) (omega arith) (ap (λ (k : ℕ). getD p (own .i) 0 - k) (c .over .ensures) ∙ lesser-number p (a .t2) (own .i)))
 
 returns : tie.Need-returns Inv-loop μ-loop
 returns c = filled-all (c .before .loop .inv .1) (omega arith)
@@ -57,13 +39,10 @@ least-spec =
     (λ c. omega arith)
     (λ c. omega arith)
     (λ c. omega arith)
+    (λ c. omega arith)
+    (λ c. omega arith)
     (λ c κs. tt)
-    cast-choose
-    (λ c. omega arith)
-    (λ c. omega arith)
-    (λ c. omega arith)
-    (λ c. omega arith)
-    choose-requires
+    (λ c. omega (arith, c .over .ensures))
     (λ c. omega arith)
     (λ c. omega arith)
     (λ c. omega arith)

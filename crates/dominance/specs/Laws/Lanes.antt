@@ -15,7 +15,7 @@ use Rattle.zorder.specs.Address.{rowCosts}
 use Rattle.model.specs.Dominance.{less, nowhereGreater, at}
 use Rattle.model.specs.Laws.Bool.{testCases, same-test}
 use Rattle.model.specs.Laws.Dominance.{nowhere-greater-places, places-nowhere-greater, take-same-length}
-use Rattle.dominance.specs.Lanes.{Lanes, limit, isFirst, lesser}
+use Rattle.dominance.specs.Lanes.{Lanes, limit, isFirst, lesser, greater}
 
 -- ---- a choice by a factor
 
@@ -52,14 +52,36 @@ filled-more {f} {i} {row} v h l e = record { wide = length-set row i v ∙ h .wi
 pub filled-all : {f : ℕ → ℕ} {i : ℕ} {row : List ℕ} → FilledTo f i row → rowCosts ≤ i → Lanes f row
 filled-all h l = record { wide = h .wide; holds = λ k m. h .holds k (omega arith) }
 
--- ---- the lesser of two
+-- ---- the lesser and the greater of two
 
-pub lesser-below : (p q : List ℕ) (i : ℕ) → (lesser p q i ≤ getD p i 0) × (lesser p q i ≤ getD q i 0)
+-- What one number is above the other, by the greater of both.
+pub over-number : (a b : ℕ) → (b ≤ cond (less b a) a b) × (cond (less b a) a b - b ≡ a - b)
 unfolding less
-lesser-below p q i =
-    testCases (λ t. (cond t (getD q i 0) (getD p i 0) ≤ getD p i 0) × (cond t (getD q i 0) (getD p i 0) ≤ getD q i 0)) (ltb (getD q i 0) (getD p i 0))
-    (λ e. (omega (arith, ltb-true (getD q i 0) (getD p i 0) e), omega arith))
-    (λ e. (omega arith, omega (arith, ltb-false (getD q i 0) (getD p i 0) e)))
+over-number a b =
+    testCases (λ t. (b ≤ cond t a b) × (cond t a b - b ≡ a - b)) (ltb b a)
+    (λ e. (omega (arith, ltb-true b a e), omega arith))
+    (λ e. (omega arith, omega (arith, ltb-false b a e)))
+
+module _ (p q : List ℕ) (i : ℕ) where
+  pub lesser-number : getD p i 0 - (getD p i 0 - getD q i 0) ≡ lesser p q i
+  unfolding less
+  lesser-number =
+      testCases (λ t. getD p i 0 - (getD p i 0 - getD q i 0) ≡ cond t (getD q i 0) (getD p i 0)) (ltb (getD q i 0) (getD p i 0))
+      (λ e. omega (arith, ltb-true (getD q i 0) (getD p i 0) e))
+      (λ e. omega (arith, ltb-false (getD q i 0) (getD p i 0) e))
+
+  pub greater-number : getD p i 0 + (getD q i 0 - getD p i 0) ≡ greater p q i
+  unfolding less
+  greater-number =
+      testCases (λ t. getD p i 0 + (getD q i 0 - getD p i 0) ≡ cond t (getD q i 0) (getD p i 0)) (ltb (getD p i 0) (getD q i 0))
+      (λ e. omega (arith, ltb-true (getD p i 0) (getD q i 0) e))
+      (λ e. omega (arith, ltb-false (getD p i 0) (getD q i 0) e))
+
+  pub lesser-below : (lesser p q i ≤ getD p i 0) × (lesser p q i ≤ getD q i 0)
+  lesser-below = (omega (arith, lesser-number), omega (arith, lesser-number))
+
+  pub greater-above : (getD p i 0 ≤ greater p q i) × (getD q i 0 ≤ greater p q i)
+  greater-above = (omega (arith, greater-number), omega (arith, greater-number))
 
 -- ---- limits
 

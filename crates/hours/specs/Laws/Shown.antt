@@ -15,7 +15,7 @@ use Rattle.model.specs.Dominance.{nowhereGreater, hides}
 use Rattle.model.specs.Lists.{hidden, skyline, listedRows}
 use Rattle.model.specs.Hours.{Hours, blockOpen, openMoves}
 use Rattle.model.specs.Calls.{blockBad, blocksOn, hoursQuery, queryRows}
-use Rattle.model.specs.Laws.Bool.{and-false-right}
+use Rattle.model.specs.Laws.Bool.{byCases, both-ways, and-right, and-both, and-false-right, not-flip, not-back}
 use Rattle.model.specs.Laws.Basics.{select-ext, select-select, any-select}
 use Rattle.model.specs.Laws.Blocks.{block-most}
 use Rattle.model.specs.Laws.Hiding.{earlier-hides}
@@ -26,13 +26,13 @@ use Rattle.promises.specs.Run.{Bytes}
 use Rattle.promises.specs.Laws.Tab.{each-tab}
 use Rattle.memory.specs.Held.{SoundAt}
 use Rattle.memory.specs.Search.{inBlocks, looks, looksAt, seen, seenAt, fits, Some}
-use Rattle.memory.specs.Tests.{anyTo}
+use Rattle.memory.specs.Tests.{anyTo, isListed}
 use Rattle.memory.specs.Laws.Blocks.{block-at, blocks-right}
 use Rattle.memory.specs.Laws.Costs.{row-length, words-first}
-use Rattle.memory.specs.Laws.Held.{held-dimension, held-ordered}
+use Rattle.memory.specs.Laws.Held.{held-dimension, held-ordered, held-listed}
 use Rattle.memory.specs.Laws.Hiders.{some-any, some-ext, words-within}
 use Rattle.memory.specs.Laws.Lines.{movesIn-line}
-use Rattle.memory.specs.Laws.Places.{any-tab, anyTo-past}
+use Rattle.memory.specs.Laws.Places.{any-tab, anyTo-past, anyTo-mono}
 use Rattle.memory.specs.declared.search.Among.the-variants.{InBlocks}
 use Rattle.upkeep.specs.Planned.{foundMoves}
 use Rattle.upkeep.specs.Laws.Others.{own-place}
@@ -90,6 +90,25 @@ module _ (c d n : ℕ) (m : List ℕ) (s : SoundAt c d n m) (b : Bytes m) (block
       own-found r (found .to)
       ∙ ap not (sym (hidden-places ∙ earlier-places ∙ some-any hidesAt i r (some-ext (fits-hides q limits) found)))
       ∙ ap (λ (t : Bool). t && not (hidden d (movesInBlocks c d n blocks m) (moveIn c d m i))) (sym here)
+
+  -- What is listed no move hides, in whatever block.
+  all-places : hidden d (movesIn (lineFrom c d n m)) (moveIn c d m i) ≡ anyTo (λ j. hides d (moveIn c d m j) (moveIn c d m i)) n
+  unfolding hidden
+  all-places = ap (any (λ p. hides d p (moveIn c d m i))) (movesIn-line c d n m) ∙ any-tab (moveIn c d m) (λ p. hides d p (moveIn c d m i)) n
+
+  pub listed-shown : isListed c m i ≡ true → inBlocks blocks c m (numberIn c m i) ≡ true → eqb i i ≡ shownFor c d n blocks m (numberIn c m i)
+  unfolding shownFor moveIn
+  listed-shown listed here =
+      eq-eqb i i refl
+      ∙ sym
+      (and-both (inBlocks blocks c m (numberIn c m i)) (not (hidden d (movesInBlocks c d n blocks m) (moveIn c d m i))) here
+      (not-flip (hidden d (movesInBlocks c d n blocks m) (moveIn c d m i))
+      (byCases (hidden d (movesInBlocks c d n blocks m) (moveIn c d m i))
+      (λ t. both-ways
+      (all-places
+      ∙ anyTo-mono hidesAt (λ j. hides d (moveIn c d m j) (moveIn c d m i)) n (λ j k e. and-right (openAt j) (hides d (moveIn c d m j) (moveIn c d m i)) e) (sym hidden-places ∙ t))
+      (not-back (hidden d (movesIn (lineFrom c d n m)) (moveIn c d m i)) (sym (held-listed c d n m s i l) ∙ listed)))
+      (λ t. t))))
 
   pub shut-unshown : inBlocks blocks c m (numberIn c m i) ≡ false → eqb n i ≡ shownFor c d n blocks m (numberIn c m i)
   unfolding shownFor moveIn

@@ -5,8 +5,9 @@ use mathlib.Core.Bool.{Bool, true, false, not, _&&_, and-true}
 use mathlib.Core.List.{List, []}
 use mathlib.Core.Path.{_≡_, sym, ap, ap₂, _∙_, subst}
 use native.Mathlib.Decide.{ℕ-discrete, decLt}
+use native.Mathlib.Nat.{min-le-left}
 use native.Mathlib.Omega.{arith}
-use lib.ListN.{length, getD, set, take, length-set, List·getD-eq-default}
+use lib.ListN.{length, getD, set, take, length-set, length-take, List·getD-eq-default}
 use lib.Seq.{getD-set-same, getD-set-other, getD-take, take-all}
 use Rattle.zorder.specs.Address.{rowCosts}
 use Rattle.model.specs.Dominance.{nowhereGreater, somewhereLess}
@@ -18,7 +19,7 @@ use Rattle.dominance.specs.Laws.Sums.{nowhere-somewhere}
 use Rattle.promises.specs.Layout.{numberIn, costsIn, tab}
 use Rattle.promises.specs.Laws.Tab.{length-tab, tab-of}
 use Rattle.memory.specs.Laws.Costs.{row-length}
-use Rattle.memory.specs.Search.{looksAt, seen, seenAt, fits, None, First, Some, Below, Corners, CornerWith}
+use Rattle.memory.specs.Search.{looksAt, seen, seenAt, fits, None, First, Some, Below, Under, Corners, CornerWith}
 use Rattle.memory.specs.declared.search.Among.{Among}
 use Rattle.memory.specs.declared.search.Among.the-variants.{All, Listed, Hidden, InBlocks}
 
@@ -43,25 +44,23 @@ pub whole-row : (p q : List ℕ) → length p ≡ rowCosts → length q ≡ rowC
 whole-row p q e f =
     ap₂ (λ (x y : List ℕ). not (somewhereLess x y)) (take-all rowCosts q (omega arith)) (take-all rowCosts p (omega arith)) ∙ sym (nowhere-somewhere p q)
 
--- What a corner exceeds, every row that it lies below exceeds.
-pub corner-exceeds : (low p q : List ℕ) → length p ≡ rowCosts → length q ≡ rowCosts → Below low p
-    → somewhereLess (take rowCosts q) (take rowCosts low) ≡ true → nowhereGreater p q ≡ false
-corner-exceeds low p q e f below h = byCases (nowhereGreater p q) (λ g. absurd (against g)) (λ g. g)
+-- What a corner exceeds, every row that it lies below exceeds; and so it does what is nowhere greater than that.
+pub corner-exceeds : (low high p q : List ℕ) → length p ≡ rowCosts → length q ≡ rowCosts → Below low p → Under q high
+    → somewhereLess (take rowCosts high) (take rowCosts low) ≡ true → nowhereGreater p q ≡ false
+corner-exceeds low high p q e f below under h = byCases (nowhereGreater p q) (λ g. absurd (against g)) (λ g. g)
   where
-    at : (i : ℕ) × (i < length (take rowCosts q)) × (getD (take rowCosts q) i 0 < getD (take rowCosts low) i 0)
-    at = somewhere-less-place (take rowCosts q) (take rowCosts low) h
+    at : (i : ℕ) × (i < length (take rowCosts high)) × (getD (take rowCosts high) i 0 < getD (take rowCosts low) i 0)
+    at = somewhere-less-place (take rowCosts high) (take rowCosts low) h
 
     i : ℕ
     i = at .0
 
-    q-all : getD (take rowCosts q) i 0 ≡ getD q i 0
-    q-all = ap (λ (x : List ℕ). getD x i 0) (take-all rowCosts q (omega arith))
-
     few : i < rowCosts
-    few = omega (arith, at .1, ap length (take-all rowCosts q (omega arith)))
+    few = omega (arith, at .1, length-take rowCosts high, min-le-left rowCosts (length high))
 
     against : nowhereGreater p q ≡ true → ⊥
-    against g = omega (arith, nowhere-greater-places p q (e ∙ sym f) g i, at .2, q-all, getD-take rowCosts low i 0 few, below i)
+    against g =
+        omega (arith, nowhere-greater-places p q (e ∙ sym f) g i, at .2, getD-take rowCosts high i 0 few, getD-take rowCosts low i 0 few, below i, under i few)
 
 -- ---- no place, the first, some place
 
@@ -104,6 +103,22 @@ module _ (a : Among) (c : ℕ) (m q : List ℕ) (i : ℕ) where
   unfolding fits
   fits-exceeding = and-false-right (looksAt a c m i) (nowhereGreater (seenAt a c m i) q)
 
+-- ---- a row for each run of 64 places
+
+-- The row of i's run becomes r: what held of the rows before, and of r from place i on, holds of all rows up to e.
+pub runs-more : (P : ℕ → List ℕ → Type 0) (i e : ℕ) (rows : List (List ℕ)) (r : List ℕ) → length rows ≡ 64 → i / 64 < 64 → e ≤ 64 * (i / 64) + 64
+    → ((k : ℕ) → k < i → P k (getD rows (k / 64) [])) → ((k : ℕ) → i ≤ k → k < e → P k r) → ((k : ℕ) → P k (getD rows (i / 64) []) → P k r)
+    → (k : ℕ) → k < e → P k (getD (set rows (i / 64) r) (k / 64) [])
+runs-more P i e rows r runs small end before new old k l = go (decLt k i) (ℕ-discrete (k / 64) (i / 64))
+  where
+    here : k / 64 ≡ i / 64 → getD (set rows (i / 64) r) (k / 64) [] ≡ r
+    here same = ap (λ (j : ℕ). getD (set rows (i / 64) r) j []) same ∙ getD-set-same rows (i / 64) r [] (omega arith)
+
+    go : Dec (k < i) → Dec (k / 64 ≡ i / 64) → P k (getD (set rows (i / 64) r) (k / 64) [])
+    go (no later) _ = subst (P k) (sym (here (omega arith))) (new k (omega arith) l)
+    go (yes passed) (yes run) = subst (P k) (sym (here run)) (old k (subst (λ (n : ℕ). P k (getD rows n [])) run (before k passed)))
+    go (yes passed) (no run) = subst (P k) (sym (getD-set-other rows (i / 64) (k / 64) r [] run)) (before k passed)
+
 -- ---- corners
 
 module _ {a : Among} {c : ℕ} {m : List ℕ} where
@@ -114,26 +129,22 @@ module _ {a : Among} {c : ℕ} {m : List ℕ} where
   pub corners-fewer : {n i : ℕ} {corners : List (List ℕ)} → i ≤ n → Corners a c m n corners → Corners a c m i corners
   corners-fewer few h = record { runs = h .runs; below = λ k l. h .below k (omega arith) }
 
+  -- A place that the search doesn't look at changes none.
+  pub corners-unlooked : (i : ℕ) (corners : List (List ℕ)) → looksAt a c m i ≡ false → Corners a c m i corners → Corners a c m (i + 1) corners
+  corners-unlooked i corners e h = record { runs = h .runs; below = λ k l t. go k l t (ℕ-discrete k i) }
+    where
+      go : (k : ℕ) → k < i + 1 → looksAt a c m k ≡ true → Dec (k ≡ i) → Below (getD corners (k / 64) []) (seenAt a c m k)
+      go k l t (yes same) = both-ways t (ap (looksAt a c m) same ∙ e)
+      go k l t (no other) = h .below k (omega arith) t
+
   -- The corner of i's run becomes r, with the moves from place i up to place e: a turn of every loop that keeps corners.
   pub corners-more : (i e : ℕ) (corners : List (List ℕ)) (r : List ℕ) → i / 64 < 64 → e ≤ 64 * (i / 64) + 64 → Corners a c m i corners
       → CornerWith a c m i e (getD corners (i / 64) []) r → Corners a c m e (set corners (i / 64) r)
   corners-more i e corners r small end h w = record {
     runs = length-set corners (i / 64) r ∙ h .runs;
-    below = λ k l t. go k l t (decLt k i) (ℕ-discrete (k / 64) (i / 64));
+    below = runs-more (λ k y. looksAt a c m k ≡ true → Below y (seenAt a c m k)) i e corners r (h .runs) small end (h .below) (w .new)
+        (λ k g t j. omega (arith, w .old j, g t j));
   }
-    where
-      here : (n : ℕ) → n ≡ i / 64 → getD (set corners (i / 64) r) n [] ≡ r
-      here n e = ap (λ (j : ℕ). getD (set corners (i / 64) r) j []) e ∙ getD-set-same corners (i / 64) r [] (omega (arith, h .runs))
-
-      go : (k : ℕ) → k < e → looksAt a c m k ≡ true → Dec (k < i) → Dec (k / 64 ≡ i / 64) → Below (getD (set corners (i / 64) r) (k / 64) []) (seenAt a c m k)
-      go k l t (no later) run =
-          let same : k / 64 ≡ i / 64 = omega arith in
-          subst (λ (y : List ℕ). Below y (seenAt a c m k)) (sym (here (k / 64) same)) (w .new k (omega arith) l t)
-      go k l t (yes before) (yes run) =
-          subst (λ (y : List ℕ). Below y (seenAt a c m k)) (sym (here (k / 64) run))
-          (λ j. omega (arith, w .old j, subst (λ (n : ℕ). Below (getD corners n []) (seenAt a c m k)) run (h .below k before t) j))
-      go k l t (yes before) (no run) =
-          subst (λ (y : List ℕ). Below y (seenAt a c m k)) (sym (getD-set-other corners (i / 64) (k / 64) r [] run)) (h .below k before t)
 
 module _ {a : Among} {c : ℕ} {m : List ℕ} where
   pub corner-none : (i : ℕ) (low : List ℕ) → CornerWith a c m i i low low
@@ -172,8 +183,8 @@ pub run-passed : (a : Among) (c : ℕ) (m q : List ℕ) (n f e : ℕ) (corners :
     → somewhereLess (take rowCosts q) (take rowCosts (getD corners (f / 64) [])) ≡ true → None (fits a c m q) f e
 run-passed a c m q n f e corners h wide end room over k l g =
     byCases (looksAt a c m k)
-    (λ t. fits-exceeding a c m q k (corner-exceeds (getD corners (f / 64) []) (seenAt a c m k) q (length-seen-at a c m k) wide
-    (subst (λ (r : ℕ). Below (getD corners r []) (seenAt a c m k)) same (h .below k (omega arith) t)) over))
+    (λ t. fits-exceeding a c m q k (corner-exceeds (getD corners (f / 64) []) q (seenAt a c m k) q (length-seen-at a c m k) wide
+    (subst (λ (r : ℕ). Below (getD corners r []) (seenAt a c m k)) same (h .below k (omega arith) t)) (λ i l. omega arith) over))
     (fits-unlooked a c m q k)
   where
     same : k / 64 ≡ f / 64

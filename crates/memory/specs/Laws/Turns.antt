@@ -105,9 +105,3 @@ module _ (c d : ℕ) (m : List ℕ) where
   unfolding marksRight markRight
   marks-more i h listed hidden e f g =
       allTo-more markRight i h (ap₂ (λ (a b : Bool). Bool·beq a (not b)) e f ∙ beq-not listed hidden ∙ ap not g)
-
-  pub marks-fail : (n i : ℕ) → i < n → (listed hidden : Bool) → isListed c m i ≡ listed → hiddenBefore c d m i (moveIn c d m i) ≡ hidden
-      → Bool·beq listed hidden ≡ true → marksRight c d n m ≡ false
-  unfolding marksRight markRight
-  marks-fail n i l listed hidden e f g =
-      allTo-fails markRight n i l (ap₂ (λ (a b : Bool). Bool·beq a (not b)) e f ∙ beq-not listed hidden ∙ ap not g)

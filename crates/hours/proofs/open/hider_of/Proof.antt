@@ -12,10 +12,11 @@ use Rattle.promises.specs.Run.{Bytes}
 use Rattle.memory.specs.Search.{inBlocks, fits, Some}
 use Rattle.memory.specs.Laws.Held.{held-readable}
 use Rattle.memory.specs.Laws.Search.{tried-some, first-some, corners-fewer}
+use Rattle.memory.specs.Laws.Turns.{listed-at}
 use Rattle.memory.specs.declared.sound.Head.{Head}
 use Rattle.memory.specs.declared.search.Among.the-variants.{InBlocks}
 use Rattle.hours.specs.Open.{shownFor}
-use Rattle.hours.specs.Laws.Shown.{open-shown, shut-unshown}
+use Rattle.hours.specs.Laws.Shown.{open-shown, listed-shown, shut-unshown}
 use Rattle.hours.proofs.open.hider_of.Statement.{statement}
 use Rattle.hours.proofs.open.hider_of.Tie as tie
 
@@ -39,54 +40,73 @@ returns c =
     shut-unshown (a .h .size) (a .h .dimension) (a .h .count) m (s .pre .0 .0) bytes (a .blocks) (a .i) (s .pre .0 .1)
     (ap (inBlocks (a .blocks) (a .h .size) m) (sym (number .ensures)) ∙ sym (c .before .in-blocks .ensures) ∙ not-true (c .before .in-blocks .result) (c .if1 .taken))
 
-costs-of-requires : tie.Need-costs-of-requires
-costs-of-requires c κs =
+is-listed-requires : tie.Need-is-listed-requires
+is-listed-requires c κs =
     let s = c .before .before .before .before in
     let r = held-readable (s .pre .0 .0) in
-    (r .room, omega (arith, c .before .before .number-at .ensures, r .numbers (s .args .i) (s .pre .0 .1)), omega arith)
+    (r .room, omega (arith, c .before .before .number-at .ensures, r .numbers (s .args .i) (s .pre .0 .1)))
+
+returns-2 : tie.Need-returns-2
+unfolding Bytes
+returns-2 c =
+    let s = c .before .before .before .before .before .before in
+    let a = s .args in
+    let number = c .before .before .before .before .number-at in
+    let inside = c .before .before .before .in-blocks in
+    let m = a .m .now in
+    let bytes : Bytes m = λ i. omega (arith, c .before .before .before .before .before .shared-slice-known .given i) in
+    listed-shown (a .h .size) (a .h .dimension) (a .h .count) m (s .pre .0 .0) bytes (a .blocks) (a .i) (s .pre .0 .1)
+    (listed-at (a .h .size) m (a .i) (number .result) (number .ensures) ∙ sym (c .before .is-listed .ensures) ∙ c .if2 .taken)
+    (ap (inBlocks (a .blocks) (a .h .size) m) (sym (number .ensures)) ∙ sym (inside .ensures) ∙ not-false (inside .result) (c .before .before .if1 .left))
+
+costs-of-requires : tie.Need-costs-of-requires
+costs-of-requires c κs =
+    let s = c .before .before .before .before .before .before in
+    let r = held-readable (s .pre .0 .0) in
+    (r .room, omega (arith, c .before .before .before .before .number-at .ensures, r .numbers (s .args .i) (s .pre .0 .1)), omega arith)
 
 limits-of-requires : tie.Need-limits-of-requires
-limits-of-requires c κs = held-readable (c .before .before .before .before .before .pre .0 .0) .dimension
+limits-of-requires c κs = held-readable (c .before .before .before .before .before .before .before .pre .0 .0) .dimension
 
 -- What was found, once the limits are made.
 module _ (c : tie.After-limits-of) where
   abbrev m : List ℕ
-  m = c .before .before .before .before .before .before .args .m .now
+  m = c .before .before .before .before .before .before .before .before .args .m .now
 
   abbrev h : Head
-  h = c .before .before .before .before .before .before .args .h
+  h = c .before .before .before .before .before .before .before .before .args .h
 
   abbrev i : ℕ
-  i = c .before .before .before .before .before .before .args .i
+  i = c .before .before .before .before .before .before .before .before .args .i
 
   abbrev blocks : ℕ
-  blocks = c .before .before .before .before .before .before .args .blocks
+  blocks = c .before .before .before .before .before .before .before .before .args .blocks
 
   found : {r : ℕ} → Some (fits (InBlocks blocks) (h .size) m (c .limits-of .result)) i r → eqb r i ≡ shownFor (h .size) (h .dimension) (h .count) blocks m (numberIn (h .size) m i)
   unfolding Bytes
   found {r} some =
-      let pre = c .before .before .before .before .before .before .pre .0 in
-      let number = c .before .before .before .before .number-at in
-      let inside = c .before .before .before .in-blocks in
-      let bytes : Bytes m = λ i. omega (arith, c .before .before .before .before .before .shared-slice-known .given i) in
+      let pre = c .before .before .before .before .before .before .before .before .pre .0 in
+      let number = c .before .before .before .before .before .before .number-at in
+      let inside = c .before .before .before .before .before .in-blocks in
+      let bytes : Bytes m = λ i. omega (arith, c .before .before .before .before .before .before .before .shared-slice-known .given i) in
       let costs = c .before .costs-of .ensures ∙ ap (costsIn (h .size) rowCosts m) (number .ensures) in
       let limits = subst (λ (x : List ℕ). Lanes (limit (isFirst (h .dimension)) x) (c .limits-of .result)) costs (c .limits-of .ensures) in
       open-shown (h .size) (h .dimension) (h .count) m (pre .0) bytes blocks i (pre .1) (c .limits-of .result) limits r some
-      (ap (inBlocks blocks (h .size) m) (sym (number .ensures)) ∙ sym (inside .ensures) ∙ not-false (inside .result) (c .before .before .if1 .left))
+      (ap (inBlocks blocks (h .size) m) (sym (number .ensures)) ∙ sym (inside .ensures) ∙ not-false (inside .result) (c .before .before .before .before .if1 .left))
 
 fits-at-requires : tie.Need-fits-at-requires
-fits-at-requires c κs = (held-readable (c .before .before .before .before .before .before .before .pre .0 .0), omega arith)
+fits-at-requires c κs = (held-readable (c .before .before .before .before .before .before .before .before .before .pre .0 .0), omega arith)
 
-returns-2 : tie.Need-returns-2
-returns-2 c = found (c .before .before .before) (tried-some (c .before .before .if2 .taken) (sym (c .before .fits-at .ensures) ∙ c .if3 .taken))
+returns-3 : tie.Need-returns-3
+returns-3 c = found (c .before .before .before) (tried-some (c .before .before .if3 .taken) (sym (c .before .fits-at .ensures) ∙ c .if4 .taken))
 
 next-within-requires : tie.Need-next-within-requires
 next-within-requires c κs =
-    let pre = c .before .before .before .before .before .before .before .pre in
+    let pre = c .before .before .before .before .before .before .before .before .before .pre in
     ((held-readable (pre .0 .0), omega arith, omega arith), corners-fewer (omega arith) (pre .1))
 
-returns-3 : tie.Need-returns-3
-returns-3 c = found (c .before .before) (first-some (c .next-within .ensures))
+returns-4 : tie.Need-returns-4
+returns-4 c = found (c .before .before) (first-some (c .next-within .ensures))
 
 pub hider-of-spec : {M : Type 1} → statement M
 hider-of-spec =
@@ -95,9 +115,11 @@ hider-of-spec =
     number-at-requires
     in-blocks-requires
     returns
+    is-listed-requires
+    returns-2
     costs-of-requires
     limits-of-requires
     fits-at-requires
-    returns-2
+    returns-3
     next-within-requires
-    returns-3)
+    returns-4)

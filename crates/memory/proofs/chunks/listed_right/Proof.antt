@@ -1,0 +1,99 @@
+-- `chunks::listed_right` meets its contract. The loop's invariant: no move at a place passed hides a listed one. Assumes nothing.
+use Prim.Native.Nat.{ℕ, _-_, _≤_}
+use mathlib.Core.Path.{_≡_, sym, subst}
+use native.Mathlib.Omega.{arith}
+use borrow.Author.Tests.{not-true, not-false}
+use Rattle.promises.specs.Run.{Bytes}
+use Rattle.memory.specs.Chunks.{Unhidden}
+use Rattle.memory.specs.Laws.Unhidden.{unhidden-chunk, unhidden-right, hidden-wrong}
+use Rattle.memory.proofs.chunks.listed_right.Statement.{statement}
+use Rattle.memory.proofs.chunks.listed_right.Tie as tie
+
+abbrev Inv-loop : tie.InvT-loop
+Inv-loop m h n highs columns₀ from₀ columns from = (from ≤ n) × Unhidden (h .size) (h .dimension) m 0 from 0 n
+
+abbrev μ-loop : tie.MeasureT-loop
+μ-loop m h n highs columns₀ from₀ columns from = n - from
+
+loop-holds : tie.Need-loop-holds Inv-loop μ-loop
+loop-holds c = (omega arith, λ j l g t k z s. absurd (omega arith))
+
+next-chunk-requires : tie.Need-next-chunk-requires Inv-loop μ-loop
+next-chunk-requires c κs = (c .before .before .before .before .before .pre .0, omega arith)
+
+returns : tie.Need-returns Inv-loop μ-loop
+unfolding Bytes
+returns c =
+    let s = c .before .before .before .before .before .before .before .before in
+    let a = s .args in
+    let bytes : Bytes (a .m .now) = λ i. omega (arith, c .before .before .before .before .before .before .before .shared-slice-known .given i) in
+    let next = c .before .before .next-chunk in
+    sym
+    (hidden-wrong (a .h .size) (a .h .dimension) (a .h .count) (a .m .now) (s .pre .0 .dimension) bytes (s .pre .1)
+    (next .ensures .said .false-says (not-true (next .result .unhidden) (c .if1 .taken))))
+
+later-unhidden-requires : tie.Need-later-unhidden-requires Inv-loop μ-loop
+later-unhidden-requires c κs =
+    let next = c .before .before .before .before .next-chunk in
+    let more = next .ensures .more (not-false (next .result .unhidden) (c .before .before .if1 .left)) in (
+      (c .before .before .before .before .before .before .before .before .before .before .pre .0, omega (arith, next .ensures .starts, more), next .ensures .end),
+      (next .ensures .gathered, c .before .before .before .before .before .before .before .before .highs-of .ensures),
+    )
+
+returns-2 : tie.Need-returns-2 Inv-loop μ-loop
+unfolding Bytes
+returns-2 c =
+    let s = c .before .before .before .before .before .before .before .before .before .before .before .before in
+    let a = s .args in
+    let bytes : Bytes (a .m .now) = λ i. omega (arith, c .before .before .before .before .before .before .before .before .before .before .before .shared-slice-known .given i) in
+    let later = c .before .later-unhidden in
+    sym
+    (hidden-wrong (a .h .size) (a .h .dimension) (a .h .count) (a .m .now) (s .pre .0 .dimension) bytes (s .pre .1)
+    (later .ensures .false-says (not-true (later .result) (c .if2 .taken))))
+
+loop-less : tie.Need-loop-less Inv-loop μ-loop
+loop-less c =
+    let next = c .before .before .before .before .before .before .next-chunk in
+    omega (arith, next .ensures .more (not-false (next .result .unhidden) (c .before .before .before .before .if1 .left)), next .ensures .end)
+
+loop-again : tie.Need-loop-again Inv-loop μ-loop
+loop-again c =
+    let a = c .before .before .before .before .before .before .before .before .before .before .before .before .args in
+    let own = c .before .before .before .before .before .before .before .before .before .loop in
+    let next = c .before .before .before .before .before .before .next-chunk in
+    let n = a .h .count in
+    let to = next .result .to in
+    let later = c .before .later-unhidden in (
+      next .ensures .end,
+      unhidden-chunk (a .h .size) (a .h .dimension) (a .m .now) n (own .from) to (own .inv .1)
+          (next .ensures .said .true-says (not-false (next .result .unhidden) (c .before .before .before .before .if1 .left)))
+          (subst (λ (z : ℕ). Unhidden (a .h .size) (a .h .dimension) (a .m .now) z to to n) (next .ensures .starts) (later .ensures .true-says (not-false (later .result) (c .if2 .left)))),
+    )
+
+returns-3 : tie.Need-returns-3 Inv-loop μ-loop
+unfolding Bytes
+returns-3 c =
+    let s = c .before .before .before .before in
+    let a = s .args in
+    let own = c .before .loop in
+    let bytes : Bytes (a .m .now) = λ i. omega (arith, c .before .before .before .shared-slice-known .given i) in
+    let all : own .from ≡ a .h .count = omega arith in
+    sym
+    (unhidden-right (a .h .size) (a .h .dimension) (a .h .count) (a .m .now) (s .pre .0 .dimension) bytes (s .pre .1)
+    (subst (λ (z : ℕ). Unhidden (a .h .size) (a .h .dimension) (a .m .now) 0 z 0 (a .h .count)) all (own .inv .1)))
+
+pub listed-right-spec : {M : Type 1} → statement M
+listed-right-spec =
+    tie.close
+    (tie.spec
+    Inv-loop
+    μ-loop
+    (λ c κs. c .before .pre .0)
+    loop-holds
+    next-chunk-requires
+    returns
+    later-unhidden-requires
+    returns-2
+    loop-less
+    loop-again
+    returns-3)

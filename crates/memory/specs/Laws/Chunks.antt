@@ -1,0 +1,99 @@
+-- A chunk of listed moves as columns: what a turn of the loop that gathers them keeps, and what is known of them by their least
+-- costs and by the columns.
+use Prim.Native.Nat.{ℕ, _+_, _≤_, _<_}
+use mathlib.Core.Bool.{Bool, true, false, cond, _&&_}
+use mathlib.Core.List.{List}
+use mathlib.Core.Path.{_≡_, sym, ap, _∙_, subst}
+use native.Mathlib.Decide.{ℕ-discrete}
+use native.Mathlib.Omega.{arith}
+use borrow.Author.Tests.{ltb-false}
+use lib.Dec.{ltb}
+use lib.ListN.{length, take}
+use Rattle.zorder.specs.Address.{rowCosts}
+use Rattle.model.specs.Dominance.{somewhereLess}
+use Rattle.model.specs.Laws.Bool.{byCases, both-ways, and-both}
+use Rattle.dominance.specs.Lanes.{Lanes, lesser}
+use Rattle.memory.specs.Search.{seenAt, fits, Below, Under, CornerWith}
+use Rattle.memory.specs.Columns.{countTo, Column, NoneFits, Put}
+use Rattle.memory.specs.Chunks.{listed, slot, Gathered}
+use Rattle.memory.specs.Laws.Counts.{count-more, count-grows, count-passed}
+use Rattle.memory.specs.Laws.Search.{length-seen-at, fits-unlooked, fits-exceeding, corner-exceeds, corner-least}
+use Rattle.memory.specs.declared.search.Among.the-variants.{Listed}
+
+-- ---- the loop
+
+module _ (c : ℕ) (m : List ℕ) (a : ℕ) where
+  pub gathered-none : (columns low : List ℕ) → Gathered c m a a columns low
+  gathered-none columns low = record { few = omega arith; held = λ j l g. absurd (omega arith); below = λ j l g. absurd (omega arith) }
+
+  module _ (i count : ℕ) (columns low : List ℕ) (from : a ≤ i) (h : Gathered c m a i columns low)
+      (counted : countTo (listed c m) i ≡ countTo (listed c m) a + count) where
+    pub same-count : listed c m i ≡ false → countTo (listed c m) (i + 1) ≡ countTo (listed c m) a + count
+    same-count e = omega (arith, count-more (listed c m) i, ap (λ (t : Bool). cond {A = ℕ} t 1 0) e)
+
+    pub more-count : listed c m i ≡ true → countTo (listed c m) (i + 1) ≡ countTo (listed c m) a + (count + 1)
+    more-count e = omega (arith, count-more (listed c m) i, ap (λ (t : Bool). cond {A = ℕ} t 1 0) e)
+
+    -- A place that isn't listed.
+    pub gathered-same : listed c m i ≡ false → Gathered c m a (i + 1) columns low
+    gathered-same e = record {
+      few = omega (arith, h .few, counted, same-count e);
+      held = λ j l g t. h .held j l (before j g t (ℕ-discrete j i)) t;
+      below = λ j l g t. h .below j l (before j g t (ℕ-discrete j i)) t;
+    }
+      where
+        before : (j : ℕ) → j < i + 1 → listed c m j ≡ true → Dec (j ≡ i) → j < i
+        before j g t (yes same) = both-ways t (ap (listed c m) same ∙ e)
+        before j g t (no other) = omega arith
+
+    -- A listed one, put behind the others.
+    pub gathered-more : listed c m i ≡ true → count < 64 → (columns' low' : List ℕ) → Put columns count (seenAt Listed c m i) columns'
+        → Lanes (lesser low (seenAt Listed c m i)) low' → Gathered c m a (i + 1) columns' low'
+    gathered-more e small columns' low' put lower = record {
+      few = omega (arith, more-count e);
+      held = λ j l g t. held j l g t (ℕ-discrete j i);
+      below = λ j l g t. below j l g t (ℕ-discrete j i);
+    }
+      where
+        with-it : CornerWith Listed c m i (i + 1) low low'
+        with-it = corner-least Listed c m i low low' lower
+
+        held : (j : ℕ) → a ≤ j → j < i + 1 → listed c m j ≡ true → Dec (j ≡ i) → Column columns' (slot c m a j) (seenAt Listed c m j)
+        held j l g t (yes same) =
+            let at : slot c m a j ≡ count = omega (arith, counted, ap (countTo (listed c m)) same) in
+            subst (λ (s : ℕ). Column columns' s (seenAt Listed c m j)) (sym at) (subst (λ (n : ℕ). Column columns' count (seenAt Listed c m n)) (sym same) (put .here))
+        held j l g t (no other) = λ k b.
+            let before : slot c m a j < count = omega (arith, counted, count-grows (listed c m) a j l, count-passed (listed c m) j i (omega arith) t) in
+            put .other (slot c m a j) k (omega arith) (λ s. omega arith) ∙ h .held j l (omega arith) t k b
+
+        below : (j : ℕ) → a ≤ j → j < i + 1 → listed c m j ≡ true → Dec (j ≡ i) → Below low' (seenAt Listed c m j)
+        below j l g t (yes same) = with-it .new j (omega arith) g t
+        below j l g t (no other) = λ k. omega (arith, with-it .old k, h .below j l (omega arith) t k)
+
+-- The loop that gathers takes one place at least.
+pub chunk-grows : (a n i count : ℕ) → a < n → count + a ≤ i → (ltb i n && ltb count 64) ≡ false → a < i
+chunk-grows a n i count l k e =
+    byCases (ltb i n)
+    (λ t. byCases (ltb count 64) (λ u. both-ways (and-both (ltb i n) (ltb count 64) t u) e) (λ u. omega (arith, ltb-false count 64 u)))
+    (λ t. omega (arith, ltb-false i n t))
+
+-- ---- what is known of them
+
+module _ (c : ℕ) (m : List ℕ) (a b : ℕ) (columns low q : List ℕ) (h : Gathered c m a b columns low) (wide : length q ≡ rowCosts) where
+  -- What `low` exceeds they all do.
+  pub gathered-exceeds : (high : List ℕ) → Under q high → somewhereLess (take rowCosts high) (take rowCosts low) ≡ true
+      → (k : ℕ) → a ≤ k → k < b → fits Listed c m q k ≡ false
+  gathered-exceeds high under e k l g =
+      byCases (listed c m k)
+      (λ t. fits-exceeding Listed c m q k (corner-exceeds low high (seenAt Listed c m k) q (length-seen-at Listed c m k) wide (h .below k l g t) under e))
+      (fits-unlooked Listed c m q k)
+
+  -- Each is a column.
+  pub gathered-none-fits : NoneFits columns q → (k : ℕ) → a ≤ k → k < b → fits Listed c m q k ≡ false
+  gathered-none-fits none k l g =
+      byCases (listed c m k)
+      (λ t.
+      fits-exceeding Listed c m q k
+      (none (slot c m a k) (omega (arith, h .few, count-grows (listed c m) a k l, count-passed (listed c m) k b g t))
+      (seenAt Listed c m k) (length-seen-at Listed c m k) (h .held k l g t)))
+      (fits-unlooked Listed c m q k)

@@ -1,0 +1,46 @@
+// For each run of 64 places a row that what its listed moves are held to is nowhere greater than.
+use crate::search::Among;
+use crate::search::RUN;
+use crate::search::RUNS;
+use crate::search::limits_at;
+use crate::search::looks_at;
+use crate::search::run_end;
+use crate::sound::Head;
+use dominance::greatest;
+use zorder::COSTS;
+ghost use Prim.Native.Nat.{_≤_};
+ghost use Rattle.memory.specs.Room.{Readable};
+ghost use Rattle.memory.specs.Chunks as spec;
+
+// With the listed moves from place i up to `to`.
+fn run_high(m: &[u8], h: Head, i: usize, to: usize, high: [u16; COSTS]) -> [u16; COSTS]
+    requires { ⌜ Readable h (now m) × (i ≤ to) × (to ≤ h .count) ⌝ }
+    ensures { λ r. ⌜ spec.HighWith (h .size) (h .dimension) (now (m .entry)) i to high r ⌝ }
+{
+    let mut top = high;
+    let mut j = i;
+    while j < to {
+        if looks_at(m, h, j, Among::Listed) {
+            let higher = greatest(top, limits_at(m, h, j));
+            top = higher;
+        }
+        j += 1;
+    }
+    top
+}
+
+pub(crate) fn highs_of(m: &[u8], h: Head) -> [[u16; COSTS]; RUNS]
+    requires { ⌜ Readable h (now m) ⌝ }
+    ensures { λ r. ⌜ spec.Highs (h .size) (h .dimension) (now (m .entry)) (h .count) r ⌝ }
+{
+    let n = h.count;
+    let mut highs = [[0u16; COSTS]; RUNS];
+    let mut i = 0;
+    while i < n {
+        let e = run_end(i, n);
+        let high = highs[i / RUN];
+        highs[i / RUN] = run_high(m, h, i, e, high);
+        i = e;
+    }
+    highs
+}
