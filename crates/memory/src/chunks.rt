@@ -1,16 +1,15 @@
 // Whether no listed move is hidden: the listed moves are held against each other in chunks of 64, as columns.
 use crate::columns::CELLS;
 use crate::columns::COLUMNS;
+use crate::columns::fill;
 use crate::columns::put;
 use crate::columns::some_fits;
-use crate::highs::highs_of;
+use crate::highs::put_highs;
 use crate::search::Among;
 use crate::search::RUN;
 use crate::search::RUNS;
-use crate::search::corners_of;
 use crate::search::limits_at;
 use crate::search::looks_at;
-use crate::search::next_within;
 use crate::search::run_end;
 use crate::search::seen_at;
 use crate::sound::Head;
@@ -19,6 +18,7 @@ use dominance::least;
 use zorder::COSTS;
 ghost use mathlib.Core.Path.{_≡_};
 ghost use Prim.Native.Nat.{_≤_, _<_};
+ghost use lib.ListN.{length};
 ghost use Rattle.memory.specs.Room.{Readable, InOrder};
 ghost use Rattle.memory.specs.Chunks as spec;
 ghost use Rattle.memory.specs.Tests as tests;
@@ -31,35 +31,8 @@ pub struct Chunk {
     pub unhidden: bool,
 }
 
-// Whether no listed move from place i up to `to` is nowhere greater than q, by the search.
-fn none_in_places(m: &[u8], h: Head, i: usize, to: usize, q: [u16; COSTS]) -> bool
-    requires { ⌜ Readable h (now m) × (i ≤ to) × (to ≤ h .count) ⌝ }
-    ensures { λ r. ⌜ spec.NoneInPlaces (h .size) (now (m .entry)) q i to r ⌝ }
-{
-    let corners = corners_of(m, h, Among::Listed);
-    next_within(m, h, i, to, Among::Listed, &corners, q) == to
-}
-
-// The same of those that are columns. Columns left over may hold anything: where one fits, the search decides. On sound memory
-// none does, but for a move of nothing but greatest costs.
-fn none_in_columns(
-    m: &[u8],
-    h: Head,
-    i: usize,
-    to: usize,
-    columns: &[u16; CELLS],
-    q: [u16; COSTS],
-) -> bool
-    requires { ⌜ Readable h (now m) × (i ≤ to) × (to ≤ h .count) ⌝ }
-    ensures { λ r. ⌜ spec.NoneInColumns (h .size) (now (m .entry)) (now (columns .entry)) q i to r ⌝ }
-{
-    if !some_fits(columns, h.dimension, q) {
-        return true;
-    }
-    none_in_places(m, h, i, to, q)
-}
-
-// The next 64 listed moves from place `from` on, or as many as there are, each held against those before it in the chunk.
+// The next 64 listed moves from place `from` on, or as many as there are, each held against those before it in the chunk. The first
+// becomes every column, so that whichever of them fits is a move of the chunk.
 fn next_chunk(m: &[u8], h: Head, from: usize, columns: &mut [u16; CELLS]) -> Chunk
     requires { ⌜ Readable h (now m) × (from < h .count) ⌝ }
     ensures { λ r. ⌜ spec.NextChunk h (now (m .entry)) from (now (columns .exit)) r ⌝ }
@@ -71,8 +44,8 @@ fn next_chunk(m: &[u8], h: Head, from: usize, columns: &mut [u16; CELLS]) -> Chu
     while (i < n) & (count < COLUMNS) {
         if looks_at(m, h, i, Among::Listed) {
             let q = limits_at(m, h, i);
-            if !exceeds(COSTS, low, q) {
-                if !none_in_columns(m, h, from, i, columns, q) {
+            if (0 < count) & !exceeds(COSTS, low, q) {
+                if some_fits(columns, h.dimension, q) {
                     return Chunk {
                         from,
                         to: i,
@@ -82,6 +55,9 @@ fn next_chunk(m: &[u8], h: Head, from: usize, columns: &mut [u16; CELLS]) -> Chu
                 }
             }
             let costs = seen_at(m, h, i, Among::Listed);
+            if count == 0 {
+                fill(columns, costs);
+            }
             put(columns, count, costs);
             let lower = least(low, costs);
             low = lower;
@@ -106,18 +82,17 @@ fn run_unhidden(
     chunk: Chunk,
     columns: &[u16; CELLS],
 ) -> bool
-    requires { ⌜ Readable h (now m) × (chunk .from ≤ i) × (i ≤ to) × (to ≤ h .count) ⌝ }
-    requires { ⌜ spec.GatheredChunk h (now m) (now columns) chunk ⌝ }
+    requires { ⌜ Readable h (now m) × (chunk .to ≤ i) × (i ≤ to) × (to ≤ h .count) ⌝ }
+    requires { ⌜ spec.GatheredChunk h (now m) (now columns) chunk × spec.SomeListed h (now m) chunk ⌝ }
     ensures { λ r. ⌜ spec.UnhiddenSaid h (now (m .entry)) (chunk .from) (chunk .to) i to r ⌝ }
 {
-    let from = chunk.from;
     let low = chunk.low;
     let mut j = i;
     while j < to {
         if looks_at(m, h, j, Among::Listed) {
             let q = limits_at(m, h, j);
             if !exceeds(COSTS, low, q) {
-                if !none_in_columns(m, h, from, j, columns, q) {
+                if some_fits(columns, h.dimension, q) {
                     return false;
                 }
             }
@@ -135,8 +110,8 @@ fn later_unhidden(
     columns: &[u16; CELLS],
     highs: &[[u16; COSTS]; RUNS],
 ) -> bool
-    requires { ⌜ Readable h (now m) × (chunk .from ≤ chunk .to) × (chunk .to ≤ h .count) ⌝ }
-    requires { ⌜ spec.GatheredChunk h (now m) (now columns) chunk ⌝ }
+    requires { ⌜ Readable h (now m) × (chunk .to ≤ h .count) ⌝ }
+    requires { ⌜ spec.GatheredChunk h (now m) (now columns) chunk × (chunk .to < h .count → spec.SomeListed h (now m) chunk) ⌝ }
     requires { ⌜ spec.Highs (h .size) (h .dimension) (now m) (h .count) (now highs) ⌝ }
     ensures { λ r. ⌜ spec.UnhiddenSaid h (now (m .entry)) (chunk .from) (chunk .to) (chunk .to) (h .count) r ⌝ }
 {
@@ -156,20 +131,25 @@ fn later_unhidden(
     true
 }
 
-pub(crate) fn listed_right(m: &[u8], h: Head) -> bool
-    requires { ⌜ Readable h (now m) × InOrder h (now m) ⌝ }
+// The two arrays are working space: rows of nothing, and columns of any content.
+pub(crate) fn listed_right(
+    m: &[u8],
+    h: Head,
+    highs: &mut [[u16; COSTS]; RUNS],
+    columns: &mut [u16; CELLS],
+) -> bool
+    requires { ⌜ Readable h (now m) × InOrder h (now m) × (length (now highs) ≡ 64) ⌝ }
     ensures { λ r. ⌜ r ≡ tests.listedRight (h .size) (h .dimension) (h .count) (now (m .entry)) ⌝ }
 {
     let n = h.count;
-    let highs = highs_of(m, h);
-    let mut columns = [65535u16; CELLS];
+    put_highs(m, h, highs);
     let mut from = 0;
     while from < n {
-        let chunk = next_chunk(m, h, from, &mut columns);
+        let chunk = next_chunk(m, h, from, columns);
         if !chunk.unhidden {
             return false;
         }
-        if !later_unhidden(m, h, chunk, &columns, &highs) {
+        if !later_unhidden(m, h, chunk, columns, highs) {
             return false;
         }
         from = chunk.to;

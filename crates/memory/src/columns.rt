@@ -49,8 +49,9 @@ fn fitting(columns: &[u16; CELLS], w: usize, q: [u16; COSTS]) -> u16
     fitting
 }
 
-// Whether a column may be nowhere greater than q, a row of limits for d costs.
+// Whether a column is nowhere greater than q, a row of limits for d costs.
 pub(crate) fn some_fits(columns: &[u16; CELLS], d: usize, q: [u16; COSTS]) -> bool
+    requires { ⌜ spec.Limits d q ⌝ }
     ensures { λ r. ⌜ spec.SomeFits (now (columns .entry)) q r ⌝ }
 {
     if d <= 4 {
@@ -70,5 +71,16 @@ pub(crate) fn put(columns: &mut [u16; CELLS], at: usize, costs: [u16; COSTS])
     while k < COSTS {
         cells[COLUMNS * k + at] = costs[k];
         k += 1;
+    }
+}
+
+// A move as every column.
+pub(crate) fn fill(columns: &mut [u16; CELLS], costs: [u16; COSTS])
+    ensures { λ _. ⌜ spec.Filled costs (now (columns .exit)) ⌝ }
+{
+    let mut at = 0;
+    while at < COLUMNS {
+        put(columns, at, costs);
+        at += 1;
     }
 }

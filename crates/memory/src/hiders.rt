@@ -17,6 +17,7 @@ use zorder::COSTS;
 ghost use mathlib.Core.Bool.{true};
 ghost use mathlib.Core.Path.{_≡_};
 ghost use Prim.Native.Nat.{_<_};
+ghost use lib.ListN.{length};
 ghost use Rattle.memory.specs.Room.{Readable, InOrder};
 ghost use Rattle.memory.specs.Search as search;
 ghost use Rattle.memory.specs.Tests as tests;
@@ -93,13 +94,17 @@ pub(crate) fn found_from(
     next_within(m, h, 0, i, Among::Listed, corners, q)
 }
 
-pub(crate) fn hidden_right(m: &[u8], h: Head) -> bool
-    requires { ⌜ Readable h (now m) × InOrder h (now m) ⌝ }
+// The two arrays are working space: corners as of no place, and columns of any content.
+pub(crate) fn hidden_right(
+    m: &[u8],
+    h: Head,
+    corners: &mut [[u16; COSTS]; RUNS],
+    columns: &mut [u16; CELLS],
+) -> bool
+    requires { ⌜ Readable h (now m) × InOrder h (now m) × (length (now corners) ≡ 64) ⌝ }
     ensures { λ r. ⌜ r ≡ tests.hiddenRight (h .size) (h .dimension) (h .count) (now (m .entry)) ⌝ }
 {
     let n = h.count;
-    let mut corners = [[65535u16; COSTS]; RUNS];
-    let mut columns = [65535u16; CELLS];
     let mut places = [0usize; HIDERS];
     let mut at = 0;
     let mut last = 0;
@@ -112,14 +117,14 @@ pub(crate) fn hidden_right(m: &[u8], h: Head) -> bool
             nearest = i;
         } else {
             let q = limits_at(m, h, i);
-            last = guessed(m, h, i, last, &columns, &places, q);
+            last = guessed(m, h, i, last, columns, &places, q);
             if i <= last {
-                last = found_from(m, h, i, nearest, &corners, q);
+                last = found_from(m, h, i, nearest, corners, q);
                 if i <= last {
                     return false;
                 }
                 places[at] = last;
-                put(&mut columns, at, seen_at(m, h, last, Among::Listed));
+                put(columns, at, seen_at(m, h, last, Among::Listed));
                 at = (at + 1) % HIDERS;
             }
         }

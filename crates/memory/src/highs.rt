@@ -1,4 +1,4 @@
-// For each run of 64 places a row that what its listed moves are held to is nowhere greater than.
+// For each run of 64 places the greatest of what its listed moves are held to, cost by cost.
 use crate::search::Among;
 use crate::search::RUN;
 use crate::search::RUNS;
@@ -8,11 +8,13 @@ use crate::search::run_end;
 use crate::sound::Head;
 use dominance::greatest;
 use zorder::COSTS;
+ghost use mathlib.Core.Path.{_≡_};
 ghost use Prim.Native.Nat.{_≤_};
+ghost use lib.ListN.{length};
 ghost use Rattle.memory.specs.Room.{Readable};
 ghost use Rattle.memory.specs.Chunks as spec;
 
-// With the listed moves from place i up to `to`.
+// A row with the listed moves from place i up to `to`.
 fn run_high(m: &[u8], h: Head, i: usize, to: usize, high: [u16; COSTS]) -> [u16; COSTS]
     requires { ⌜ Readable h (now m) × (i ≤ to) × (to ≤ h .count) ⌝ }
     ensures { λ r. ⌜ spec.HighWith (h .size) (h .dimension) (now (m .entry)) i to high r ⌝ }
@@ -29,12 +31,11 @@ fn run_high(m: &[u8], h: Head, i: usize, to: usize, high: [u16; COSTS]) -> [u16;
     top
 }
 
-pub(crate) fn highs_of(m: &[u8], h: Head) -> [[u16; COSTS]; RUNS]
-    requires { ⌜ Readable h (now m) ⌝ }
-    ensures { λ r. ⌜ spec.Highs (h .size) (h .dimension) (now (m .entry)) (h .count) r ⌝ }
+pub(crate) fn put_highs(m: &[u8], h: Head, highs: &mut [[u16; COSTS]; RUNS])
+    requires { ⌜ Readable h (now m) × (length (now highs) ≡ 64) ⌝ }
+    ensures { λ _. ⌜ spec.Highs (h .size) (h .dimension) (now (m .entry)) (h .count) (now (highs .exit)) ⌝ }
 {
     let n = h.count;
-    let mut highs = [[0u16; COSTS]; RUNS];
     let mut i = 0;
     while i < n {
         let e = run_end(i, n);
@@ -42,5 +43,4 @@ pub(crate) fn highs_of(m: &[u8], h: Head) -> [[u16; COSTS]; RUNS]
         highs[i / RUN] = run_high(m, h, i, e, high);
         i = e;
     }
-    highs
 }

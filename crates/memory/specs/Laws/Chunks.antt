@@ -3,19 +3,23 @@
 use Prim.Native.Nat.{ℕ, _+_, _≤_, _<_}
 use mathlib.Core.Bool.{Bool, true, false, cond, _&&_}
 use mathlib.Core.List.{List}
+use mathlib.Core.Logic.{_⊎_, ⊎-elim}
 use mathlib.Core.Path.{_≡_, sym, ap, _∙_, subst}
 use native.Mathlib.Decide.{ℕ-discrete}
 use native.Mathlib.Omega.{arith}
-use borrow.Author.Tests.{ltb-false}
+use borrow.Author.Tests.{lt-ltb, ltb-false}
 use lib.Dec.{ltb}
 use lib.ListN.{length, take}
 use Rattle.zorder.specs.Address.{rowCosts}
-use Rattle.model.specs.Dominance.{somewhereLess}
+use Rattle.model.specs.Dominance.{nowhereGreater, somewhereLess}
 use Rattle.model.specs.Laws.Bool.{byCases, both-ways, and-both}
 use Rattle.dominance.specs.Lanes.{Lanes, lesser}
-use Rattle.memory.specs.Search.{seenAt, fits, Below, Under, CornerWith}
-use Rattle.memory.specs.Columns.{countTo, Column, NoneFits, Put}
-use Rattle.memory.specs.Chunks.{listed, slot, Gathered}
+use Rattle.promises.specs.Layout.{numberIn}
+use Rattle.promises.specs.Run.{Bytes}
+use Rattle.memory.specs.Search.{seen, seenAt, fits, Below, Under, CornerWith}
+use Rattle.memory.specs.Columns.{countTo, Column, FittingColumn, NoneFits, Put, Filled}
+use Rattle.memory.specs.Chunks.{listed, slot, ListedColumn, ListedColumns, Gathered, NoneBefore, FitsBefore}
+use Rattle.memory.specs.Laws.Costs.{words-small}
 use Rattle.memory.specs.Laws.Counts.{count-more, count-grows, count-passed}
 use Rattle.memory.specs.Laws.Search.{length-seen-at, fits-unlooked, fits-exceeding, corner-exceeds, corner-least}
 use Rattle.memory.specs.declared.search.Among.the-variants.{Listed}
@@ -24,7 +28,17 @@ use Rattle.memory.specs.declared.search.Among.the-variants.{Listed}
 
 module _ (c : ℕ) (m : List ℕ) (a : ℕ) where
   pub gathered-none : (columns low : List ℕ) → Gathered c m a a columns low
-  gathered-none columns low = record { few = omega arith; held = λ j l g. absurd (omega arith); below = λ j l g. absurd (omega arith) }
+  gathered-none columns low = record {
+    few = omega arith;
+    held = λ j l g. absurd (omega arith);
+    only = λ l. absurd (omega arith);
+    below = λ j l g. absurd (omega arith);
+  }
+
+  later-columns : {i e : ℕ} {columns : List ℕ} → i ≤ e → ListedColumns c m a i columns → ListedColumns c m a e columns
+  later-columns more h t l =
+      let one = h t l in
+      record { place = one .place; after = one .after; before = omega (arith, one .before); shown = one .shown; held = one .held }
 
   module _ (i count : ℕ) (columns low : List ℕ) (from : a ≤ i) (h : Gathered c m a i columns low)
       (counted : countTo (listed c m) i ≡ countTo (listed c m) a + count) where
@@ -39,6 +53,7 @@ module _ (c : ℕ) (m : List ℕ) (a : ℕ) where
     gathered-same e = record {
       few = omega (arith, h .few, counted, same-count e);
       held = λ j l g t. h .held j l (before j g t (ℕ-discrete j i)) t;
+      only = λ l. later-columns (omega arith) (h .only (omega (arith, counted, same-count e)));
       below = λ j l g t. h .below j l (before j g t (ℕ-discrete j i)) t;
     }
       where
@@ -46,12 +61,40 @@ module _ (c : ℕ) (m : List ℕ) (a : ℕ) where
         before j g t (yes same) = both-ways t (ap (listed c m) same ∙ e)
         before j g t (no other) = omega arith
 
-    -- A listed one, put behind the others.
-    pub gathered-more : listed c m i ≡ true → count < 64 → (columns' low' : List ℕ) → Put columns count (seenAt Listed c m i) columns'
-        → Lanes (lesser low (seenAt Listed c m i)) low' → Gathered c m a (i + 1) columns' low'
-    gathered-more e small columns' low' put lower = record {
+    -- Before the first listed one nothing is gathered.
+    none-gathered : count ≡ 0 → (j : ℕ) → a ≤ j → j < i → listed c m j ≡ true → ⊥
+    none-gathered e j l g t = omega (arith, counted, count-grows (listed c m) a j l, count-passed (listed c m) j i g t)
+
+    pub none-fits-before : count ≡ 0 → (q : List ℕ) → NoneBefore c m q a i i
+    none-fits-before e q k l n before = byCases (listed c m k) (λ t. absurd (none-gathered e k l n t)) (fits-unlooked Listed c m q k)
+
+    -- A listed one, put behind the others. The first becomes every column before.
+    Ready : List ℕ → Type 0
+    Ready ready = ((count ≡ 0) × Filled (seenAt Listed c m i) ready) ⊎ ((0 < count) × (ready ≡ columns))
+
+    module _ (e : listed c m i ≡ true) (ready : List ℕ) (r : Ready ready) where
+      ready-held : (j : ℕ) → a ≤ j → j < i → listed c m j ≡ true → Column ready (slot c m a j) (seenAt Listed c m j)
+      unfolding Ready
+      ready-held j l g t =
+          ⊎-elim (λ first. absurd (none-gathered (first .0) j l g t))
+          (λ later. subst (λ (x : List ℕ). Column x (slot c m a j) (seenAt Listed c m j)) (sym (later .1)) (h .held j l g t))
+          r
+
+      ready-only : ListedColumns c m a (i + 1) ready
+      unfolding Ready
+      ready-only =
+          ⊎-elim (λ first t l. record { place = i; after = from; before = omega arith; shown = e; held = first .1 t l })
+          (λ later. subst (ListedColumns c m a (i + 1)) (sym (later .1)) (later-columns (omega arith) (h .only (omega (arith, counted, later .0)))))
+          r
+
+    pub gathered-more : listed c m i ≡ true → count < 64 → (ready columns' low' : List ℕ)
+        → ((count ≡ 0) × Filled (seenAt Listed c m i) ready) ⊎ ((0 < count) × (ready ≡ columns))
+        → Put ready count (seenAt Listed c m i) columns' → Lanes (lesser low (seenAt Listed c m i)) low' → Gathered c m a (i + 1) columns' low'
+    unfolding Ready
+    gathered-more e small ready columns' low' r put lower = record {
       few = omega (arith, more-count e);
       held = λ j l g t. held j l g t (ℕ-discrete j i);
+      only = λ _ t l. only t l (ℕ-discrete t count);
       below = λ j l g t. below j l g t (ℕ-discrete j i);
     }
       where
@@ -64,7 +107,25 @@ module _ (c : ℕ) (m : List ℕ) (a : ℕ) where
             subst (λ (s : ℕ). Column columns' s (seenAt Listed c m j)) (sym at) (subst (λ (n : ℕ). Column columns' count (seenAt Listed c m n)) (sym same) (put .here))
         held j l g t (no other) = λ k b.
             let before : slot c m a j < count = omega (arith, counted, count-grows (listed c m) a j l, count-passed (listed c m) j i (omega arith) t) in
-            put .other (slot c m a j) k (omega arith) (λ s. omega arith) ∙ h .held j l (omega arith) t k b
+            put .other (slot c m a j) k (omega arith) (λ s. omega arith) ∙ ready-held e ready r j l (omega arith) t k b
+
+        only : (t : ℕ) → t < 64 → Dec (t ≡ count) → ListedColumn c m a (i + 1) columns' t
+        only t l (yes same) = record {
+          place = i;
+          after = from;
+          before = omega arith;
+          shown = e;
+          held = subst (λ (s : ℕ). Column columns' s (seenAt Listed c m i)) (sym same) (put .here);
+        }
+        only t l (no other) =
+            let one = ready-only e ready r t l in
+            record {
+              place = one .place;
+              after = one .after;
+              before = one .before;
+              shown = one .shown;
+              held = λ k g. put .other t k l other ∙ one .held k g;
+            }
 
         below : (j : ℕ) → a ≤ j → j < i + 1 → listed c m j ≡ true → Dec (j ≡ i) → Below low' (seenAt Listed c m j)
         below j l g t (yes same) = with-it .new j (omega arith) g t
@@ -76,6 +137,11 @@ chunk-grows a n i count l k e =
     byCases (ltb i n)
     (λ t. byCases (ltb count 64) (λ u. both-ways (and-both (ltb i n) (ltb count 64) t u) e) (λ u. omega (arith, ltb-false count 64 u)))
     (λ t. omega (arith, ltb-false i n t))
+
+-- A chunk that does not go to the last place is full.
+pub chunk-some : (n i count : ℕ) → (ltb i n && ltb count 64) ≡ false → i < n → 0 < count
+chunk-some n i count e l =
+    byCases (ltb count 64) (λ t. both-ways (and-both (ltb i n) (ltb count 64) (lt-ltb i n l) t) e) (λ t. omega (arith, ltb-false count 64 t))
 
 -- ---- what is known of them
 
@@ -97,3 +163,15 @@ module _ (c : ℕ) (m : List ℕ) (a b : ℕ) (columns low q : List ℕ) (h : Ga
       (none (slot c m a k) (omega (arith, h .few, count-grows (listed c m) a k l, count-passed (listed c m) k b g t))
       (seenAt Listed c m k) (length-seen-at Listed c m k) (h .held k l g t)))
       (fits-unlooked Listed c m q k)
+
+  -- And every column is one of them.
+  pub gathered-fits : Bytes m → countTo (listed c m) a < countTo (listed c m) b → (j : ℕ) → b ≤ j → FittingColumn columns q → FitsBefore c m q j
+  unfolding fits seenAt seen
+  gathered-fits bytes some j l column =
+      let one = h .only some (column .column) (column .inside) in
+      record {
+        place = one .place;
+        earlier = omega (arith, one .before);
+        fitting = and-both (listed c m (one .place)) (nowhereGreater (seenAt Listed c m (one .place)) q) (one .shown)
+            (column .fits (seenAt Listed c m (one .place)) (length-seen-at Listed c m (one .place)) (words-small c m (numberIn c m (one .place)) bytes) (one .held));
+      }

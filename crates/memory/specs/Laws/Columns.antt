@@ -2,23 +2,23 @@
 use Prim.Native.Nat.{ℕ, zero, suc, _+_, _-_, _*_, _≤_, _<_}
 use mathlib.Core.Bool.{Bool, true, false, cond, _&&_}
 use mathlib.Core.List.{List}
-use mathlib.Core.Path.{_≡_, refl, sym, ap, _∙_}
-use native.Mathlib.Decide.{ℕ-discrete}
+use mathlib.Core.Path.{_≡_, refl, sym, ap, _∙_, subst}
+use native.Mathlib.Decide.{ℕ-discrete, decLt}
 use native.Mathlib.Numerals.{add-one}
 use native.Mathlib.Omega.{arith}
-use borrow.Author.Tests.{leb-true, le-leb, lt-ltb, ltb-false, eqb-true, eq-eqb, ne-eqb}
+use borrow.Author.Tests.{leb-true, le-leb, lt-ltb, ltb-true, ltb-false, eqb-true, eq-eqb, ne-eqb}
 use lib.Bits.{bitOr, or-add-and, and-le-l, and-le-r}
 use lib.Dec.{eqb, leb, ltb}
-use lib.ListN.{length, getD, set, length-set}
+use lib.ListN.{length, getD, set, length-set, List·getD-eq-default}
 use lib.Seq.{getD-set-same, getD-set-other}
 use Rattle.zorder.specs.Address.{rowCosts}
 use Rattle.model.specs.Dominance.{less, nowhereGreater}
 use Rattle.model.specs.Laws.Bool.{byCases, both-ways, and-left, and-right, and-both, same-test}
-use Rattle.model.specs.Laws.Dominance.{nowhere-greater-places}
+use Rattle.model.specs.Laws.Dominance.{nowhere-greater-places, places-nowhere-greater}
 use Rattle.memory.specs.Tests.{allTo}
-use Rattle.memory.specs.Columns.{countTo, columnFits, fitting, Column, NoneFits, Put}
-use Rattle.memory.specs.Laws.Places.{allTo-all}
-use Rattle.memory.specs.Laws.Counts.{count-zero}
+use Rattle.memory.specs.Columns.{countTo, columnFits, fitting, Column, Limits, FittingColumn, NoneFits, SomeFits, Put, Filled}
+use Rattle.memory.specs.Laws.Places.{allTo-at, allTo-all}
+use Rattle.memory.specs.Laws.Counts.{count-zero, count-some}
 
 -- ---- one column asked
 
@@ -61,15 +61,40 @@ module _ (columns q : List ℕ) (j : ℕ) where
       allTo-all (λ k. leb (getD columns (64 * k + j) 0) (getD q k 0)) w
       (λ k i. le-leb (getD columns (64 * k + j) 0) (getD q k 0) (omega (arith, h k (omega arith), nowhere-greater-places row q (e ∙ sym f) g k)))
 
--- Where none is counted, by any number of costs, none is nowhere greater.
-pub none-counted : (columns q : List ℕ) → length q ≡ rowCosts → (w count : ℕ) → w ≤ rowCosts → count ≡ fitting w columns q → ltb 0 count ≡ false
-    → NoneFits columns q
-unfolding fitting
-none-counted columns q wide w count few counted none t l row e held =
-    byCases (nowhereGreater row q)
-    (λ g. both-ways (column-fits columns q t row e wide held g w few)
-    (count-zero (columnFits w columns q) 64 t l (omega (arith, counted, ltb-false 0 count none))))
-    (λ g. g)
+-- ---- all columns asked
+
+module _ (columns q : List ℕ) (wide : length q ≡ rowCosts) (w count : ℕ) (counted : count ≡ fitting w columns q) where
+  -- Where none is counted, by any number of costs, none is nowhere greater.
+  none-counted : w ≤ rowCosts → ltb 0 count ≡ false → NoneFits columns q
+  unfolding fitting
+  none-counted few none t l row e held =
+      byCases (nowhereGreater row q)
+      (λ g. both-ways (column-fits columns q t row e wide held g w few)
+      (count-zero (columnFits w columns q) 64 t l (omega (arith, counted, ltb-false 0 count none))))
+      (λ g. g)
+
+  -- Where one is counted by all costs that count, it is.
+  some-counted : Limits w q → ltb 0 count ≡ true → FittingColumn columns q
+  unfolding fitting columnFits
+  some-counted limits some =
+      let one = count-some (columnFits w columns q) 64 (omega (arith, counted, ltb-true 0 count some)) in
+      record {
+        column = one .0;
+        inside = one .1;
+        fits = λ row e small held.
+            places-nowhere-greater row q (λ k. go (one .0) (one .2) row e small held k (decLt k rowCosts) (decLt k w));
+      }
+    where
+      go : (t : ℕ) → allTo (λ k. leb (getD columns (64 * k + t) 0) (getD q k 0)) w ≡ true → (row : List ℕ) → length row ≡ rowCosts
+          → ((k : ℕ) → getD row k 0 < 65536) → Column columns t row → (k : ℕ) → Dec (k < rowCosts) → Dec (k < w) → getD row k 0 ≤ getD q k 0
+      go t fits row e small held k (yes l) (yes asked) =
+          omega (arith, held k l, leb-true (getD columns (64 * k + t) 0) (getD q k 0) (allTo-at (λ i. leb (getD columns (64 * i + t) 0) (getD q i 0)) w k asked fits))
+      go t fits row e small held k (yes l) (no past) = omega (arith, small k, limits k (omega arith) l)
+      go t fits row e small held k (no past) _ =
+          let none : getD row k 0 ≡ 0 = List·getD-eq-default row 0 {n = k} (omega (arith, e)) in omega arith
+
+  pub fits-said : w ≤ rowCosts → Limits w q → SomeFits columns q (ltb 0 count)
+  fits-said few limits = record { true-says = some-counted limits; false-says = none-counted few }
 
 -- ---- one column filled
 
@@ -99,3 +124,12 @@ module _ {old : List ℕ} {t : ℕ} {row : List ℕ} where
 
   pub put-all : {n : ℕ} {new : List ℕ} → rowCosts ≤ n → PutTo old t row n new → Put old t row new
   put-all l h = record { here = λ k g. h .here k (omega arith); other = h .other }
+
+-- ---- every column filled, one after another
+
+pub filled-column : (row old new : List ℕ) (t : ℕ) → t < 64 → ((s : ℕ) → s < t → Column old s row) → Put old t row new → (s : ℕ) → s < t + 1 → Column new s row
+filled-column row old new t l before put s n = go (ℕ-discrete s t)
+  where
+    go : Dec (s ≡ t) → Column new s row
+    go (yes same) = subst (λ (z : ℕ). Column new z row) (sym same) (put .here)
+    go (no other) = λ k g. put .other s k (omega arith) other ∙ before s (omega arith) k g

@@ -40,3 +40,10 @@ module _ (p : ℕ → Bool) where
 
   pub count-zero : (n i : ℕ) → i < n → countTo p n ≤ 0 → p i ≡ false
   count-zero n i l few = byCases (p i) (λ e. absurd (omega (arith, count-passed i n l e))) (λ e. e)
+
+  pub count-some : (n : ℕ) → 0 < countTo p n → (i : ℕ) × (i < n) × (p i ≡ true)
+  unfolding countTo
+  count-some zero l = absurd (omega arith)
+  count-some (suc n) l =
+      byCases (p n) (λ e. (n, omega arith, e))
+      (λ e. let more = count-some n (omega (arith, ap (λ (t : Bool). cond {A = ℕ} t 1 0) e)) in (more .0, omega (arith, more .1), more .2))

@@ -1,12 +1,12 @@
 -- Listed moves that hide no other: what the loops over them keep, and that they decide it.
 use Prim.Native.Nat.{ℕ, _+_, _≤_, _<_}
-use mathlib.Core.Bool.{Bool, true, false, not, _&&_}
+use mathlib.Core.Bool.{Bool, true, false, not, cond, _&&_}
 use mathlib.Core.List.{List}
 use mathlib.Core.Path.{_≡_, sym, ap, _∙_, subst}
 use native.Mathlib.Decide.{ℕ-discrete, decLt}
 use native.Mathlib.Omega.{arith}
-use borrow.Author.Tests.{lt-ltb, le-ltb, eqb-true, eqb-false}
-use lib.Dec.{ltb, eqb}
+use borrow.Author.Tests.{lt-ltb, le-ltb}
+use lib.Dec.{ltb}
 use lib.ListN.{getD, take}
 use Rattle.zorder.specs.Address.{rowCosts}
 use Rattle.model.specs.Dominance.{somewhereLess}
@@ -16,11 +16,12 @@ use Rattle.promises.specs.Run.{Bytes}
 use Rattle.promises.specs.Laws.Tab.{length-tab, getD-tab}
 use Rattle.memory.specs.Room.{Ordered}
 use Rattle.memory.specs.Tests.{isListed, hiddenAt, listedRight}
-use Rattle.memory.specs.Search.{looks, looksAt, seen, seenAt, fits, limitsAt, None, First, Some}
-use Rattle.memory.specs.Chunks.{listed, Gathered, NoneBefore, FitsBefore, NoneInPlaces, Unhidden, ListedHidden}
+use Rattle.memory.specs.Search.{looks, looksAt, seen, seenAt, fits, limitsAt, Some}
+use Rattle.memory.specs.Columns.{countTo, Limits, FittingColumn, NoneFits}
+use Rattle.memory.specs.Chunks.{listed, Gathered, NoneBefore, Unhidden, ListedHidden}
 use Rattle.memory.specs.Laws.Places.{allTo-all, allTo-fails}
 use Rattle.memory.specs.Laws.Search.{tried-some}
-use Rattle.memory.specs.Laws.Chunks.{gathered-exceeds}
+use Rattle.memory.specs.Laws.Chunks.{gathered-exceeds, gathered-none-fits, gathered-fits}
 use Rattle.memory.specs.Laws.Hiders.{hider-hidden}
 use Rattle.memory.specs.declared.search.Among.the-variants.{Listed}
 
@@ -31,30 +32,31 @@ limits-lanes c d m j = record {
   holds = λ i l. getD-tab (limit (isFirst d) (seenAt Listed c m j)) 0 rowCosts i l;
 }
 
--- What a search says of all places.
-pub first-said : {c : ℕ} {m q : List ℕ} {i n r : ℕ} → First (fits Listed c m q) i n r → NoneInPlaces c m q i n (eqb r n)
-first-said {c} {m} {q} {i} {n} {r} f = record {
-  true-says = λ e. subst (None (fits Listed c m q) i) (eqb-true r n e) (f .passed);
-  false-says = λ e.
-      let before : r < n = omega (arith, f .to, eqb-false r n e) in
-      record { place = r; earlier = before; fitting = f .found before };
-}
+pub limits-past : (c d : ℕ) (m : List ℕ) (j : ℕ) → Limits d (limitsAt c d m j)
+limits-past c d m j k l g = limits-lanes c d m j .holds k g ∙ ap (λ (t : Bool). cond {A = ℕ} t (getD (seenAt Listed c m j) k 0) 65535) (le-ltb k d l)
 
 -- ---- one listed move, held against those of a chunk
 
-module _ (c d : ℕ) (m : List ℕ) (j : ℕ) (q : List ℕ) (e : q ≡ limitsAt c d m j) where
-  pub found-hidden : (n : ℕ) → j < n → listed c m j ≡ true → FitsBefore c m q j → ListedHidden c d n m
-  found-hidden n l t f = record { place = j; inside = l; shown = t; hider = subst (λ (x : List ℕ). FitsBefore c m x j) e f }
+module _ (c d : ℕ) (m : List ℕ) (j : ℕ) (q : List ℕ) (e : q ≡ limitsAt c d m j) (a b : ℕ) (columns low : List ℕ) (g : Gathered c m a b columns low) where
+  -- Their least costs exceed it.
+  pub exceeds-none : somewhereLess (take rowCosts q) (take rowCosts low) ≡ true → NoneBefore c m (limitsAt c d m j) a b j
+  exceeds-none over k l n before =
+      gathered-exceeds c m a b columns low (limitsAt c d m j) g (limits-lanes c d m j .wide) q (λ i r. omega (arith, ap (λ (x : List ℕ). getD x i 0) e)) over k l n
 
-  module _ (a b : ℕ) (columns low : List ℕ) (g : Gathered c m a b columns low) where
-    -- Their least costs exceed it.
-    pub exceeds-none : somewhereLess (take rowCosts q) (take rowCosts low) ≡ true → NoneBefore c m (limitsAt c d m j) a b j
-    exceeds-none over k l n before =
-        gathered-exceeds c m a b columns low (limitsAt c d m j) g (limits-lanes c d m j .wide) q (λ i r. omega (arith, ap (λ (x : List ℕ). getD x i 0) e)) over k l n
+  -- None of the columns fits.
+  pub columns-none : NoneFits columns q → NoneBefore c m (limitsAt c d m j) a b j
+  columns-none none k l n before =
+      gathered-none-fits c m a b columns low (limitsAt c d m j) g (limits-lanes c d m j .wide) (subst (NoneFits columns) e none) k l n
 
-    -- The columns were asked.
-    pub columns-none : ((z : ℕ) (y : List ℕ) → Gathered c m a z columns y → NoneBefore c m q a z j) → NoneBefore c m (limitsAt c d m j) a b j
-    columns-none h = subst (λ (x : List ℕ). NoneBefore c m x a b j) e (h b low g)
+  -- One does.
+  pub columns-some : Bytes m → countTo (listed c m) a < countTo (listed c m) b → b ≤ j → (n : ℕ) → j < n → listed c m j ≡ true → FittingColumn columns q
+      → ListedHidden c d n m
+  columns-some bytes some later n l t f = record {
+    place = j;
+    inside = l;
+    shown = t;
+    hider = gathered-fits c m a b columns low (limitsAt c d m j) g (limits-lanes c d m j .wide) bytes some j later (subst (FittingColumn columns) e f);
+  }
 
 -- ---- turns
 

@@ -30,7 +30,7 @@ run-unhidden-requires c κs =
     let asked = c .before .before .before .before .before .before .before .before .pre in
     let own = c .before .before .before .before .before .loop in
     let e = c .before .before .before .run-end in
-    ((asked .0 .0, omega (arith, asked .0, own .inv), omega (arith, e .ensures), omega (arith, e .ensures)), asked .1 .0)
+    ((asked .0 .0, own .inv .0, omega (arith, e .ensures), omega (arith, e .ensures)), (asked .1 .0 .0, asked .1 .0 .1 (omega (arith, own .inv, e .ensures))))
 
 returns : tie.Need-returns Inv-loop μ-loop
 returns c = record { true-says = λ e. both-ways e refl; false-says = λ _. c .before .run-unhidden .ensures .false-says (not-true (c .before .run-unhidden .result) (c .if2 .taken)) }
@@ -56,7 +56,7 @@ loop-again-2 c =
       omega (arith, own .inv, e .ensures),
       omega (arith, e .ensures),
       unhidden-join (a .h .size) (a .h .dimension) (a .m .now) (a .chunk .from) (a .chunk .to) (a .chunk .to) (own .f) (e .result) (own .inv .2)
-          (high-unhidden (a .chunk .from) (a .chunk .to) (a .h .count) (own .f) (e .result) (a .columns .now) (a .chunk .low) (a .highs .now) (s .pre .1 .0) (s .pre .1 .1) (e .ensures .2) (e .ensures .1)
+          (high-unhidden (a .chunk .from) (a .chunk .to) (a .h .count) (own .f) (e .result) (a .columns .now) (a .chunk .low) (a .highs .now) (s .pre .1 .0 .0) (s .pre .1 .1) (e .ensures .2) (e .ensures .1)
           (sym (c .before .exceeds .ensures) ∙ not-false (c .before .exceeds .result) (c .if1 .left))),
     )
 

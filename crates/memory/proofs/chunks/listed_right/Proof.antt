@@ -10,23 +10,23 @@ use Rattle.memory.proofs.chunks.listed_right.Statement.{statement}
 use Rattle.memory.proofs.chunks.listed_right.Tie as tie
 
 abbrev Inv-loop : tie.InvT-loop
-Inv-loop m h n highs columns₀ from₀ columns from = (from ≤ n) × Unhidden (h .size) (h .dimension) m 0 from 0 n
+Inv-loop m h highs columns₀ n from₀ columns from = (from ≤ n) × Unhidden (h .size) (h .dimension) m 0 from 0 n
 
 abbrev μ-loop : tie.MeasureT-loop
-μ-loop m h n highs columns₀ from₀ columns from = n - from
+μ-loop m h highs columns₀ n from₀ columns from = n - from
 
 loop-holds : tie.Need-loop-holds Inv-loop μ-loop
 loop-holds c = (omega arith, λ j l g t k z s. absurd (omega arith))
 
 next-chunk-requires : tie.Need-next-chunk-requires Inv-loop μ-loop
-next-chunk-requires c κs = (c .before .before .before .before .before .pre .0, omega arith)
+next-chunk-requires c κs = (c .before .before .before .before .before .before .pre .0, omega arith)
 
 returns : tie.Need-returns Inv-loop μ-loop
 unfolding Bytes
 returns c =
-    let s = c .before .before .before .before .before .before .before .before in
+    let s = c .before .before .before .before .before .before .before .before .before in
     let a = s .args in
-    let bytes : Bytes (a .m .now) = λ i. omega (arith, c .before .before .before .before .before .before .before .shared-slice-known .given i) in
+    let bytes : Bytes (a .m .now) = λ i. omega (arith, c .before .before .before .before .before .before .before .before .shared-slice-known .given i) in
     let next = c .before .before .next-chunk in
     sym
     (hidden-wrong (a .h .size) (a .h .dimension) (a .h .count) (a .m .now) (s .pre .0 .dimension) bytes (s .pre .1)
@@ -35,17 +35,17 @@ returns c =
 later-unhidden-requires : tie.Need-later-unhidden-requires Inv-loop μ-loop
 later-unhidden-requires c κs =
     let next = c .before .before .before .before .next-chunk in
-    let more = next .ensures .more (not-false (next .result .unhidden) (c .before .before .if1 .left)) in (
-      (c .before .before .before .before .before .before .before .before .before .before .pre .0, omega (arith, next .ensures .starts, more), next .ensures .end),
-      (next .ensures .gathered, c .before .before .before .before .before .before .before .before .highs-of .ensures),
+    let unhidden = not-false (next .result .unhidden) (c .before .before .if1 .left) in (
+      (c .before .before .before .before .before .before .before .before .before .before .before .pre .0, next .ensures .end),
+      ((next .ensures .gathered, next .ensures .some unhidden), c .before .before .before .before .before .before .before .before .put-highs .ensures),
     )
 
 returns-2 : tie.Need-returns-2 Inv-loop μ-loop
 unfolding Bytes
 returns-2 c =
-    let s = c .before .before .before .before .before .before .before .before .before .before .before .before in
+    let s = c .before .before .before .before .before .before .before .before .before .before .before .before .before in
     let a = s .args in
-    let bytes : Bytes (a .m .now) = λ i. omega (arith, c .before .before .before .before .before .before .before .before .before .before .before .shared-slice-known .given i) in
+    let bytes : Bytes (a .m .now) = λ i. omega (arith, c .before .before .before .before .before .before .before .before .before .before .before .before .shared-slice-known .given i) in
     let later = c .before .later-unhidden in
     sym
     (hidden-wrong (a .h .size) (a .h .dimension) (a .h .count) (a .m .now) (s .pre .0 .dimension) bytes (s .pre .1)
@@ -58,7 +58,7 @@ loop-less c =
 
 loop-again : tie.Need-loop-again Inv-loop μ-loop
 loop-again c =
-    let a = c .before .before .before .before .before .before .before .before .before .before .before .before .args in
+    let a = c .before .before .before .before .before .before .before .before .before .before .before .before .before .args in
     let own = c .before .before .before .before .before .before .before .before .before .loop in
     let next = c .before .before .before .before .before .before .next-chunk in
     let n = a .h .count in
@@ -73,10 +73,10 @@ loop-again c =
 returns-3 : tie.Need-returns-3 Inv-loop μ-loop
 unfolding Bytes
 returns-3 c =
-    let s = c .before .before .before .before in
+    let s = c .before .before .before .before .before in
     let a = s .args in
     let own = c .before .loop in
-    let bytes : Bytes (a .m .now) = λ i. omega (arith, c .before .before .before .shared-slice-known .given i) in
+    let bytes : Bytes (a .m .now) = λ i. omega (arith, c .before .before .before .before .shared-slice-known .given i) in
     let all : own .from ≡ a .h .count = omega arith in
     sym
     (unhidden-right (a .h .size) (a .h .dimension) (a .h .count) (a .m .now) (s .pre .0 .dimension) bytes (s .pre .1)
@@ -88,7 +88,7 @@ listed-right-spec =
     (tie.spec
     Inv-loop
     μ-loop
-    (λ c κs. c .before .pre .0)
+    (λ c κs. (c .before .before .pre .0, c .before .before .pre .2))
     loop-holds
     next-chunk-requires
     returns

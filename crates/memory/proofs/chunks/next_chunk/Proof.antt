@@ -1,19 +1,22 @@
 -- `chunks::next_chunk` meets its contract. The loop's invariant: the listed moves passed are the first columns, and none of them hides
 -- another. Assumes nothing.
 use Prim.Native.Nat.{ℕ, _+_, _-_, _≤_, _<_}
-use mathlib.Core.Bool.{true, _&&_}
+use mathlib.Core.Bool.{Bool, true, not, _&&_}
 use mathlib.Core.List.{List}
-use mathlib.Core.Logic.{⊎-elim}
-use mathlib.Core.Path.{_≡_, refl, sym, _∙_, subst}
+use mathlib.Core.Logic.{inl, inr, ⊎-elim}
+use mathlib.Core.Path.{_≡_, refl, sym, ap, _∙_, subst}
 use native.Mathlib.Omega.{arith}
-use borrow.Author.Tests.{ltb-true, not-true, not-false}
+use borrow.Author.Tests.{ltb-true, ltb-false, not-false}
 use lib.Dec.{ltb}
-use Rattle.model.specs.Laws.Bool.{both-ways, and-left, and-right}
+use Rattle.model.specs.Laws.Bool.{byCases, both-ways, and-left, and-right}
 use Rattle.dominance.specs.Lanes.{Lanes, lesser}
-use Rattle.memory.specs.Columns.{countTo, Put}
+use Rattle.promises.specs.Run.{Bytes}
+use Rattle.memory.specs.Search.{seenAt, limitsAt}
+use Rattle.memory.specs.Columns.{countTo, Limits, Put, Filled}
 use Rattle.memory.specs.Chunks.{listed, Gathered, Unhidden}
-use Rattle.memory.specs.Laws.Chunks.{gathered-none, gathered-same, gathered-more, same-count, more-count, chunk-grows}
-use Rattle.memory.specs.Laws.Unhidden.{found-hidden, exceeds-none, columns-none, unhidden-none, unhidden-within}
+use Rattle.memory.specs.Laws.Chunks.{gathered-none, gathered-same, gathered-more, same-count, more-count, none-fits-before, chunk-grows, chunk-some}
+use Rattle.memory.specs.Laws.Unhidden.{limits-past, exceeds-none, columns-none, columns-some, unhidden-none, unhidden-within}
+use Rattle.memory.specs.declared.search.Among.the-variants.{Listed}
 use Rattle.memory.proofs.chunks.next_chunk.Statement.{statement}
 use Rattle.memory.proofs.chunks.next_chunk.Tie as tie
 
@@ -61,31 +64,35 @@ limits-at-requires c κs =
     let own = c .before .before .before .loop in
     (s .pre .0, inside (own .i) (s .args .h .count) (own .count) (c .before .before .loop-test .taken))
 
-none-in-columns-requires : tie.Need-none-in-columns-requires Inv-loop μ-loop
-none-in-columns-requires c κs =
-    let s = c .before .before .before .before .before .before .before .before .before in
+some-fits-requires : tie.Need-some-fits-requires Inv-loop μ-loop
+some-fits-requires c κs =
+    let a = c .before .before .before .before .before .before .before .before .before .args in
     let own = c .before .before .before .before .before .before .before .loop in
-    (s .pre .0, own .inv .0, own .inv .1)
+    subst (Limits (a .h .dimension)) (sym (c .before .before .before .limits-at .ensures)) (limits-past (a .h .size) (a .h .dimension) (a .m .now) (own .i))
 
 returns : tie.Need-returns Inv-loop μ-loop
+unfolding Bytes
 returns c =
     let s = c .before .before .before .before .before .before .before .before .before .before .before in
     let a = s .args in
     let own = c .before .before .before .before .before .before .before .before .before .loop in
     let limits = c .before .before .before .before .before .limits-at in
-    let none = c .before .none-in-columns in
+    let bytes : Bytes (a .m .now) = λ k. omega (arith, c .before .before .before .before .before .before .before .before .before .before .shared-slice-known .given k) in
+    let some = ltb-true 0 (own .count) (and-left (ltb 0 (own .count)) (not (c .before .before .before .before .exceeds .result)) (c .before .before .before .if2 .taken)) in
     record {
       starts = refl;
       more = λ e. both-ways e refl;
       end = own .inv .1;
       gathered = own .inv .5;
+      some = λ e. both-ways e refl;
       said = record {
         true-says = λ e. both-ways e refl;
         false-says = λ _.
-            found-hidden (a .h .size) (a .h .dimension) (a .m .now) (own .i) (limits .result) (limits .ensures) (a .h .count)
+            columns-some (a .h .size) (a .h .dimension) (a .m .now) (own .i) (limits .result) (limits .ensures) (a .from) (own .i) (own .columns) (own .low) (own .inv .5) bytes
+            (omega (arith, own .inv .4, some)) (omega arith) (a .h .count)
             (inside (own .i) (a .h .count) (own .count) (c .before .before .before .before .before .before .before .before .loop-test .taken))
             (sym (c .before .before .before .before .before .before .before .looks-at .ensures) ∙ c .before .before .before .before .before .before .if1 .taken)
-            (none .ensures .false-says (not-true (none .result) (c .if3 .taken)));
+            (c .before .some-fits .ensures .true-says (c .if3 .taken));
       };
     }
 
@@ -97,9 +104,9 @@ seen-at-requires c κs =
 
 put-requires : tie.Need-put-requires Inv-loop μ-loop
 put-requires c κs =
-    let own = c .before .before .before .before .before .before .before .before .loop in
-    room (own .i) (c .before .before .before .before .before .before .before .before .before .before .args .h .count) (own .count)
-    (c .before .before .before .before .before .before .before .loop-test .taken)
+    let own = c .before .before .before .before .before .before .before .before .before .loop in
+    room (own .i) (c .before .before .before .before .before .before .before .before .before .before .before .args .h .count) (own .count)
+    (c .before .before .before .before .before .before .before .before .loop-test .taken)
 
 loop-less : tie.Need-loop-less Inv-loop μ-loop
 loop-less c =
@@ -120,18 +127,22 @@ loop-again c =
     let shown = sym (c .before .looks-at .ensures) in (
       omega arith,
       omega (arith, inside (own .i) (a .h .count) (own .count) taken),
-      ⊎-elim (λ w. omega (arith, w .10, free)) (λ w. omega (arith, w .3, free)) (c .if1 .came),
-      ⊎-elim (λ w. omega (arith, w .10, inv .3)) (λ w. omega (arith, w .3, inv .3)) (c .if1 .came),
-      ⊎-elim (λ w. omega (arith, w .10, more-count size m (a .from) i (own .count) (own .columns) (own .low) (inv .0) (inv .5) (inv .4) (shown ∙ w .0 .taken)))
+      ⊎-elim (λ w. omega (arith, w .11, free)) (λ w. omega (arith, w .3, free)) (c .if1 .came),
+      ⊎-elim (λ w. omega (arith, w .11, inv .3)) (λ w. omega (arith, w .3, inv .3)) (c .if1 .came),
+      ⊎-elim (λ w. omega (arith, w .11, more-count size m (a .from) i (own .count) (own .columns) (own .low) (inv .0) (inv .5) (inv .4) (shown ∙ w .0 .taken)))
           (λ w. omega (arith, w .3, same-count size m (a .from) i (own .count) (own .columns) (own .low) (inv .0) (inv .5) (inv .4) (shown ∙ w .0 .left)))
           (c .if1 .came),
       ⊎-elim
           (λ w.
-          subst (λ (x : List ℕ). Gathered size m (a .from) (i + 1) x (c .if1 .low)) (sym (w .8))
-          (subst (λ (x : List ℕ). Gathered size m (a .from) (i + 1) (w .6 .last .0) x) (sym (w .9))
-          (gathered-more size m (a .from) i (own .count) (own .columns) (own .low) (inv .0) (inv .5) (inv .4) (shown ∙ w .0 .taken) free (w .6 .last .0) (w .7 .result)
-          (subst (λ (x : List ℕ). Put (own .columns) (own .count) x (w .6 .last .0)) (w .4 .ensures) (w .6 .ensures))
-          (subst (λ (x : List ℕ). Lanes (lesser (own .low) x) (w .7 .result)) (w .4 .ensures) (w .7 .ensures)))))
+          subst (λ (x : List ℕ). Gathered size m (a .from) (i + 1) x (c .if1 .low)) (sym (w .9))
+          (subst (λ (x : List ℕ). Gathered size m (a .from) (i + 1) (w .7 .last .0) x) (sym (w .10))
+          (gathered-more size m (a .from) i (own .count) (own .columns) (own .low) (inv .0) (inv .5) (inv .4) (shown ∙ w .0 .taken) free (w .5 .columns) (w .7 .last .0) (w .8 .result)
+          (⊎-elim
+          (λ v. inl (v .0 .taken, subst (Filled (seenAt Listed size m i)) (sym (v .3)) (subst (λ (x : List ℕ). Filled x (v .2 .last .0)) (w .4 .ensures) (v .2 .ensures))))
+          (λ v. inr (omega (arith, v .0 .left), v .1))
+          (w .5 .came))
+          (subst (λ (x : List ℕ). Put (w .5 .columns) (own .count) x (w .7 .last .0)) (w .4 .ensures) (w .7 .ensures))
+          (subst (λ (x : List ℕ). Lanes (lesser (own .low) x) (w .8 .result)) (w .4 .ensures) (w .8 .ensures)))))
           (λ w.
           subst (λ (x : List ℕ). Gathered size m (a .from) (i + 1) x (c .if1 .low)) (sym (w .1))
           (subst (λ (x : List ℕ). Gathered size m (a .from) (i + 1) (own .columns) x) (sym (w .2))
@@ -142,8 +153,12 @@ loop-again c =
           ⊎-elim
           (λ w.
           ⊎-elim
-          (λ u. columns-none size d m i (w .1 .result) (w .1 .ensures) (a .from) i (own .columns) (own .low) (inv .5) (u .2 .ensures .true-says (not-false (u .2 .result) (u .3 .left))))
-          (λ u. exceeds-none size d m i (w .1 .result) (w .1 .ensures) (a .from) i (own .columns) (own .low) (inv .5) (sym (w .2 .ensures) ∙ not-false (w .2 .result) (u .left)))
+          (λ u. columns-none size d m i (w .1 .result) (w .1 .ensures) (a .from) i (own .columns) (own .low) (inv .5) (u .2 .ensures .false-says (u .3 .left)))
+          (λ u.
+          byCases (ltb 0 (own .count))
+          (λ some. exceeds-none size d m i (w .1 .result) (w .1 .ensures) (a .from) i (own .columns) (own .low) (inv .5)
+          (sym (w .2 .ensures) ∙ not-false (w .2 .result) (ap (λ (b : Bool). b && not (w .2 .result)) (sym some) ∙ u .left)))
+          (λ none. none-fits-before size m (a .from) i (own .count) (own .columns) (own .low) (inv .0) (inv .5) (inv .4) (omega (arith, ltb-false 0 (own .count) none)) (limitsAt size d m i)))
           (w .3 .came))
           (λ w. both-ways t (shown ∙ w .0 .left))
           (c .if1 .came)),
@@ -158,6 +173,7 @@ returns-2 c =
       more = λ _. chunk-grows (s .args .from) (s .args .h .count) (own .i) (own .count) (s .pre .1) (own .inv .3) (c .loop-test .left);
       end = own .inv .1;
       gathered = own .inv .5;
+      some = λ _ l. omega (arith, own .inv .4, chunk-some (s .args .h .count) (own .i) (own .count) (c .loop-test .left) l);
       said = record { true-says = λ _. own .inv .6; false-says = λ e. both-ways refl e };
     }
 
@@ -171,9 +187,10 @@ next-chunk-spec =
     looks-at-requires
     limits-at-requires
     (λ c κs. omega arith)
-    none-in-columns-requires
+    some-fits-requires
     returns
     seen-at-requires
+    (λ c κs. tt)
     put-requires
     (λ c κs. tt)
     (λ c. omega arith)

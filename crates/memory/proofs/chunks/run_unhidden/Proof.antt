@@ -1,26 +1,29 @@
--- `chunks::run_unhidden` meets its contract. The loop's invariant: no move of the chunk hides a place passed. Assumes nothing.
+-- `chunks::run_unhidden` meets its contract. The loop's invariant: no move of the columns hides a place passed. Assumes nothing.
 use Prim.Native.Nat.{ℕ, _-_, _≤_}
+use mathlib.Core.List.{List}
 use mathlib.Core.Logic.{⊎-elim}
 use mathlib.Core.Path.{_≡_, refl, sym, _∙_, subst}
 use native.Mathlib.Omega.{arith}
-use borrow.Author.Tests.{not-true, not-false}
+use borrow.Author.Tests.{not-false}
 use Rattle.model.specs.Laws.Bool.{both-ways}
+use Rattle.promises.specs.Run.{Bytes}
+use Rattle.memory.specs.Columns.{Limits}
 use Rattle.memory.specs.Chunks.{Gathered, Unhidden}
-use Rattle.memory.specs.Laws.Unhidden.{found-hidden, exceeds-none, columns-none, unhidden-none, unhidden-more}
+use Rattle.memory.specs.Laws.Unhidden.{limits-past, exceeds-none, columns-none, columns-some, unhidden-none, unhidden-more}
 use Rattle.memory.proofs.chunks.run_unhidden.Statement.{statement}
 use Rattle.memory.proofs.chunks.run_unhidden.Tie as tie
 
 abbrev Inv-loop : tie.InvT-loop
-Inv-loop m h i to columns from low j₀ j =
-    (i ≤ j) × (j ≤ to) × ((b : ℕ) → Gathered (h .size) m from b columns low → Unhidden (h .size) (h .dimension) m from b i j)
+Inv-loop m h i to columns low j₀ j =
+    (i ≤ j) × (j ≤ to) × ((a b : ℕ) → Gathered (h .size) m a b columns low → Unhidden (h .size) (h .dimension) m a b i j)
 
 abbrev μ-loop : tie.MeasureT-loop
-μ-loop m h i to columns from low j₀ j = to - j
+μ-loop m h i to columns low j₀ j = to - j
 
 loop-holds : tie.Need-loop-holds Inv-loop μ-loop
 loop-holds c =
-    let a = c .before .before .args in
-    (omega arith, omega arith, λ b g. unhidden-none (a .h .size) (a .h .dimension) (a .m .now) (a .chunk .from) b (a .i))
+    let x = c .before .before .args in
+    (omega arith, omega arith, λ a b g. unhidden-none (x .h .size) (x .h .dimension) (x .m .now) a b (x .i))
 
 looks-at-requires : tie.Need-looks-at-requires Inv-loop μ-loop
 looks-at-requires c κs = (c .before .before .before .before .pre .0 .0, omega arith)
@@ -28,46 +31,46 @@ looks-at-requires c κs = (c .before .before .before .before .pre .0 .0, omega a
 limits-at-requires : tie.Need-limits-at-requires Inv-loop μ-loop
 limits-at-requires c κs = (c .before .before .before .before .before .before .pre .0 .0, omega arith)
 
-none-in-columns-requires : tie.Need-none-in-columns-requires Inv-loop μ-loop
-none-in-columns-requires c κs =
-    let asked = c .before .before .before .before .before .before .before .before .before .pre .0 in
+some-fits-requires : tie.Need-some-fits-requires Inv-loop μ-loop
+some-fits-requires c κs =
+    let x = c .before .before .before .before .before .before .before .before .before .args in
     let own = c .before .before .before .before .before .before .loop in
-    (asked .0, omega (arith, asked, own .inv), omega (arith, asked, own .inv, c .before .before .before .before .before .loop-test .taken))
+    subst (Limits (x .h .dimension)) (sym (c .before .before .limits-at .ensures)) (limits-past (x .h .size) (x .h .dimension) (x .m .now) (own .j))
 
 returns : tie.Need-returns Inv-loop μ-loop
+unfolding Bytes
 returns c =
     let s = c .before .before .before .before .before .before .before .before .before .before .before in
-    let a = s .args in
+    let x = s .args in
     let own = c .before .before .before .before .before .before .before .before .loop in
     let limits = c .before .before .before .before .limits-at in
-    let none = c .before .none-in-columns in
+    let bytes : Bytes (x .m .now) = λ i. omega (arith, c .before .before .before .before .before .before .before .before .before .before .shared-slice-known .given i) in
     record {
       true-says = λ e. both-ways e refl;
       false-says = λ _.
-          found-hidden (a .h .size) (a .h .dimension) (a .m .now) (own .j) (limits .result) (limits .ensures) (a .h .count)
+          columns-some (x .h .size) (x .h .dimension) (x .m .now) (own .j) (limits .result) (limits .ensures) (x .chunk .from) (x .chunk .to) (x .columns .now) (x .chunk .low)
+          (s .pre .1 .0) bytes (s .pre .1 .1) (omega (arith, s .pre .0, own .inv)) (x .h .count)
           (omega (arith, s .pre .0, c .before .before .before .before .before .before .before .loop-test .taken))
           (sym (c .before .before .before .before .before .before .looks-at .ensures) ∙ c .before .before .before .before .before .if1 .taken)
-          (none .ensures .false-says (not-true (none .result) (c .if3 .taken)));
+          (c .before .some-fits .ensures .true-says (c .if3 .taken));
     }
 
 loop-again : tie.Need-loop-again Inv-loop μ-loop
 loop-again c =
-    let a = c .before .before .before .before .before .before .args in
+    let x = c .before .before .before .before .before .before .args in
     let own = c .before .before .before .loop in
-    let size = a .h .size in
-    let d = a .h .dimension in
-    let m = a .m .now in
-    let from = a .chunk .from in
-    let columns = a .columns .now in
-    let low = a .chunk .low in (
+    let size = x .h .size in
+    let d = x .h .dimension in
+    let m = x .m .now in
+    let columns = x .columns .now in
+    let low = x .chunk .low in (
       omega arith,
       omega (arith, c .before .before .loop-test .taken),
-      λ b g. unhidden-more size d m from b (a .i) (own .j) (own .inv .2 b g)
+      λ a b g. unhidden-more size d m a b (x .i) (own .j) (own .inv .2 a b g)
           (λ shown.
-          ⊎-elim
-          (λ w. columns-none size d m (own .j) (w .1 .result) (w .1 .ensures) from b columns low g (w .4 .ensures .true-says (not-false (w .4 .result) (w .5 .left))))
+          ⊎-elim (λ w. columns-none size d m (own .j) (w .1 .result) (w .1 .ensures) a b columns low g (w .4 .ensures .false-says (w .5 .left)))
           (⊎-elim
-          (λ w. exceeds-none size d m (own .j) (w .1 .result) (w .1 .ensures) from b columns low g (sym (w .2 .ensures) ∙ not-false (w .2 .result) (w .3 .left)))
+          (λ w. exceeds-none size d m (own .j) (w .1 .result) (w .1 .ensures) a b columns low g (sym (w .2 .ensures) ∙ not-false (w .2 .result) (w .3 .left)))
           (λ w. both-ways shown (sym (c .before .looks-at .ensures) ∙ w .left)))
           (c .if1 .came)),
     )
@@ -75,12 +78,13 @@ loop-again c =
 returns-2 : tie.Need-returns-2 Inv-loop μ-loop
 returns-2 c =
     let s = c .before .before .before .before in
-    let a = s .args in
+    let x = s .args in
     let own = c .before .loop in
-    let all : own .j ≡ a .to = omega arith in
+    let all : own .j ≡ x .to = omega arith in
     record {
       true-says = λ _.
-          subst (Unhidden (a .h .size) (a .h .dimension) (a .m .now) (a .chunk .from) (a .chunk .to) (a .i)) all (own .inv .2 (a .chunk .to) (s .pre .1));
+          subst (Unhidden (x .h .size) (x .h .dimension) (x .m .now) (x .chunk .from) (x .chunk .to) (x .i)) all
+          (own .inv .2 (x .chunk .from) (x .chunk .to) (s .pre .1 .0));
       false-says = λ e. both-ways refl e;
     }
 
@@ -94,7 +98,7 @@ run-unhidden-spec =
     looks-at-requires
     limits-at-requires
     (λ c κs. omega arith)
-    none-in-columns-requires
+    some-fits-requires
     returns
     (λ c. omega arith)
     (λ c. omega arith)

@@ -17,16 +17,16 @@ use Rattle.memory.proofs.hiders.hidden_right.Statement.{statement}
 use Rattle.memory.proofs.hiders.hidden_right.Tie as tie
 
 abbrev Inv-loop : tie.InvT-loop
-Inv-loop m h n corners₀ columns₀ places₀ at₀ last₀ nearest₀ i₀ corners columns places at last nearest i =
+Inv-loop m h corners₀ columns₀ n places₀ at₀ last₀ nearest₀ i₀ corners columns places at last nearest i =
     (i ≤ n) × (at < 8) × ListedCorners h m i corners × (hiddenRight (h .size) (h .dimension) i m ≡ true)
 
 abbrev μ-loop : tie.MeasureT-loop
-μ-loop m h n corners₀ columns₀ places₀ at₀ last₀ nearest₀ i₀ corners columns places at last nearest i = n - i
+μ-loop m h corners₀ columns₀ n places₀ at₀ last₀ nearest₀ i₀ corners columns places at last nearest i = n - i
 
 loop-holds : tie.Need-loop-holds Inv-loop μ-loop
 loop-holds c =
     let a = c .before .args in
-    (omega arith, omega arith, corners-none _ refl, hidden-none (a .h .size) (a .h .dimension) (a .m .now))
+    (omega arith, omega arith, corners-none _ (c .before .pre .2), hidden-none (a .h .size) (a .h .dimension) (a .m .now))
 
 looks-at-requires : tie.Need-looks-at-requires Inv-loop μ-loop
 looks-at-requires c κs = (c .before .before .before .pre .0, omega arith)

@@ -1,7 +1,6 @@
 -- `marks::marks_right` meets its contract. Assumes nothing.
 use mathlib.Core.Bool.{Bool, _&&_}
-use mathlib.Core.Path.{sym, ap, _∙_}
-use borrow.Author.Needs.{needs}
+use mathlib.Core.Path.{refl, sym, ap, _∙_}
 use borrow.Author.Tests.{not-true, not-false}
 use Rattle.memory.specs.Tests.{listedRight}
 use Rattle.memory.specs.Laws.Halves.{marks-halves}
@@ -10,7 +9,7 @@ use Rattle.memory.proofs.marks.marks_right.Tie as tie
 
 returns : tie.Need-returns
 returns c =
-    let a = c .before .before .before .args in
+    let a = c .before .before .before .before .before .args in
     let half = c .before .hidden-right in
     sym
     (marks-halves (a .h .size) (a .h .dimension) (a .h .count) (a .m .now)
@@ -18,12 +17,18 @@ returns c =
 
 returns-2 : tie.Need-returns-2
 returns-2 c =
-    let a = c .before .before .before .before .args in
-    let half = c .before .before .hidden-right in
+    let a = c .before .before .before .before .before .before .before .before .args in
+    let half = c .before .before .before .before .hidden-right in
     c .listed-right .ensures
     ∙ sym
     (marks-halves (a .h .size) (a .h .dimension) (a .h .count) (a .m .now)
-    ∙ ap (λ (t : Bool). t && listedRight (a .h .size) (a .h .dimension) (a .h .count) (a .m .now)) (sym (half .ensures) ∙ not-false (half .result) (c .before .if1 .left)))
+    ∙ ap (λ (t : Bool). t && listedRight (a .h .size) (a .h .dimension) (a .h .count) (a .m .now)) (sym (half .ensures) ∙ not-false (half .result) (c .before .before .before .if1 .left)))
 
 pub marks-right-spec : {M : Type 1} → statement M
-marks-right-spec = tie.close (tie.spec (λ c κs. search needs) returns (λ c κs. search needs) returns-2)
+marks-right-spec =
+    tie.close
+    (tie.spec
+    (λ c κs. let asked = c .before .before .before .pre in (asked .0, asked .1, refl))
+    returns
+    (λ c κs. let asked = c .before .before .before .before .before .before .before .pre in (asked .0, asked .1, refl))
+    returns-2)
