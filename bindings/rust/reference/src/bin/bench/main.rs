@@ -4,6 +4,7 @@
 //!
 //!     cargo run --release --offline --bin bench [short | long]
 mod boards;
+mod clock;
 mod measure;
 mod programs;
 mod rounds;
