@@ -19,6 +19,7 @@ use tables::Measured;
 
 /// The numbers of costs.
 const DIMENSIONS: [usize; 5] = [2, 3, 4, 6, COSTS];
+const DIMENSIONS_AGAINST: [usize; 4] = [2, 3, 4, COSTS];
 
 /// The sizes, and how long each board is timed.
 fn effort(word: Option<&str>) -> Option<([usize; 2], Effort)> {
@@ -48,9 +49,10 @@ fn main() {
         drawn.extend(DRAWN.map(|board| measured(&effort, board, c, &DIMENSIONS, true)));
     }
     let [_, greatest] = sizes;
-    let against = AGAINST.map(|board| measured(&effort, board, greatest, &DIMENSIONS[..3], false));
-    println!("### Drawn boards, d of 2 / 3 / 4 / 6 / 8\n");
+    let against = AGAINST.map(|board| measured(&effort, board, greatest, &DIMENSIONS_AGAINST, false));
+    tables::print_title("Drawn boards", &DIMENSIONS);
     tables::print(&DRAWN, &sizes, &drawn, true);
-    println!("\n### Boards against the search, d of 2 / 3 / 4\n");
+    println!();
+    tables::print_title("Boards against the search", &DIMENSIONS_AGAINST);
     tables::print(&AGAINST, &[greatest], &against, false);
 }

@@ -43,6 +43,12 @@ fn cells(measured: &Measured, call: usize, all_pairs: bool) -> String {
     cells + &format!(" {} |", cell(times().map(|t| t.ratio(call, PLAIN)), ratio))
 }
 
+/// What a table is of, and the order of the numbers in its cells.
+pub fn print_title(title: &str, dimensions: &[usize]) {
+    let dimensions: Vec<String> = dimensions.iter().map(usize::to_string).collect();
+    println!("### {title}, d of {}\n", dimensions.join(" / "));
+}
+
 fn heading(sizes: &[usize], all_pairs: bool) -> String {
     let mut names = "| call | board |".to_string();
     for c in sizes {
