@@ -12,6 +12,11 @@ pub fn least(p: &Costs, q: &Costs) -> Costs {
     std::array::from_fn(|i| p[i].min(q[i]))
 }
 
+/// The greater.
+pub fn greatest(p: &Costs, q: &Costs) -> Costs {
+    std::array::from_fn(|i| p[i].max(q[i]))
+}
+
 /// Whether p keeps q out of the list.
 pub fn hides(p: &Move, q: &Move) -> bool {
     !exceeds(&p.costs, &q.costs) && (p.number < q.number || exceeds(&q.costs, &p.costs))

@@ -92,6 +92,11 @@ impl Head {
         m[self.field(3) + usize::from(number)] == 1
     }
 
+    /// The listed moves at some places: where each stands, and its number.
+    pub fn listed_among(self, m: &[u8], places: Range<usize>) -> impl Iterator<Item = (usize, u16)> + '_ {
+        places.clone().zip(self.numbers(m, places)).filter(move |&(_, number)| self.listed(m, number))
+    }
+
     pub fn set_listed(self, m: &mut [u8], number: u16, listed: bool) {
         m[self.field(3) + usize::from(number)] = listed.into();
     }
@@ -126,6 +131,11 @@ impl Head {
 
     pub fn costs_at(self, m: &[u8], place: usize) -> Costs {
         self.costs(m, self.number(m, place))
+    }
+
+    /// What a move that stands before this one and hides it is nowhere above.
+    pub fn limits(self, m: &[u8], number: u16) -> Costs {
+        limits(&self.used, &self.stored(m, number))
     }
 
     pub fn move_at(self, m: &[u8], place: usize) -> Move {

@@ -1,4 +1,5 @@
-//! The hours call on sound memory: each move in an open block is held against those before it in open blocks.
+//! The hours call on sound memory: of the moves in open blocks the listed ones are shown, and each other one is held against
+//! those before it in open blocks.
 use super::bytes::Head;
 use super::lists::tell_where;
 use super::refused;
@@ -20,8 +21,12 @@ pub fn hours(m: &[u8], head: Head, minute: usize, hours: &[BlockHours], rows: &m
     let search = Search::over(blocks, m, head);
     let mut last = 0;
     tell_where(m, head, rows, |&i| {
-        if !blocks.looks(m, head, head.number(m, i)) {
+        let number = head.number(m, i);
+        if !blocks.looks(m, head, number) {
             return false;
+        }
+        if head.listed(m, number) {
+            return true;
         }
         let hider = search.hider(m, head, i, last);
         last = hider.unwrap_or(last);

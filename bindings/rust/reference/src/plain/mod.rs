@@ -3,7 +3,10 @@
 mod beats;
 mod bytes;
 mod change;
+mod chunks;
+mod columns;
 mod enter;
+mod hiders;
 mod hours;
 mod lists;
 mod load;

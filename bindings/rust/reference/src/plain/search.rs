@@ -1,12 +1,13 @@
 //! The search that the calls share. The places stand in runs of 64, each with the least costs of its moves: a run whose least
 //! costs exceed the limits has no move within them.
 use super::beats::{exceeds, least};
-use super::bytes::{limits, Head};
+use super::bytes::Head;
 use crate::{Costs, COSTS};
 use std::iter::successors;
 use std::ops::Range;
 
-const RUN: usize = 64;
+pub const RUN: usize = 64;
+pub const RUNS: usize = 4096 / RUN;
 
 /// Which moves a search looks at.
 pub trait Among: Copy {
@@ -15,6 +16,15 @@ pub trait Among: Copy {
     /// The costs that it goes by.
     fn costs(self, stored: Costs) -> Costs {
         stored
+    }
+
+    fn looked_at(self, m: &[u8], head: Head, number: u16) -> Option<Costs> {
+        self.looks(m, head, number).then(|| self.costs(head.stored(m, number)))
+    }
+
+    /// Whether a move is looked at and nowhere above the limits.
+    fn fits(self, m: &[u8], head: Head, number: u16, limits: &Costs) -> bool {
+        self.looked_at(m, head, number).is_some_and(|costs| !exceeds(&costs, limits))
     }
 }
 
@@ -62,14 +72,20 @@ pub fn turned(costs: &Costs) -> Costs {
     costs.map(|cost| !cost)
 }
 
+/// Some places, run by run.
+pub fn runs(places: Range<usize>) -> impl Iterator<Item = Range<usize>> {
+    let runs = places.start / RUN..places.end.div_ceil(RUN);
+    runs.map(move |run| places.start.max(RUN * run)..places.end.min(RUN * run + RUN))
+}
+
 pub struct Search<A> {
-    corners: [Costs; 4096 / RUN],
+    corners: [Costs; RUNS],
     among: A,
 }
 
 impl<A: Among> Search<A> {
     pub fn empty(among: A) -> Self {
-        Search { corners: [[u16::MAX; COSTS]; 4096 / RUN], among }
+        Search { corners: [[u16::MAX; COSTS]; RUNS], among }
     }
 
     pub fn over(among: A, m: &[u8], head: Head) -> Self {
@@ -78,20 +94,16 @@ impl<A: Among> Search<A> {
         search
     }
 
-    fn looked_at(&self, m: &[u8], head: Head, number: u16) -> Option<Costs> {
-        self.among.looks(m, head, number).then(|| self.among.costs(head.stored(m, number)))
+    /// A move that it looks at, by the costs that it goes by.
+    pub fn put(&mut self, place: usize, costs: &Costs) {
+        let corner = &mut self.corners[place / RUN];
+        *corner = least(corner, costs);
     }
 
     pub fn add(&mut self, m: &[u8], head: Head, place: usize) {
-        if let Some(costs) = self.looked_at(m, head, head.number(m, place)) {
-            let corner = &mut self.corners[place / RUN];
-            *corner = least(corner, &costs);
+        if let Some(costs) = self.among.looked_at(m, head, head.number(m, place)) {
+            self.put(place, &costs);
         }
-    }
-
-    /// Whether a move is looked at and nowhere above the limits.
-    fn fits(&self, m: &[u8], head: Head, number: u16, limits: &Costs) -> bool {
-        self.looked_at(m, head, number).is_some_and(|costs| !exceeds(&costs, limits))
     }
 
     /// The first of some places with such a move.
@@ -101,7 +113,7 @@ impl<A: Among> Search<A> {
             let run = from / RUN;
             let to = places.end.min(RUN * run + RUN);
             if !exceeds(&self.corners[run], limits) {
-                let found = head.numbers(m, from..to).position(|number| self.fits(m, head, number, limits));
+                let found = head.numbers(m, from..to).position(|number| self.among.fits(m, head, number, limits));
                 if let Some(ahead) = found {
                     return Some(from + ahead);
                 }
@@ -126,8 +138,8 @@ impl<A: Among> Search<A> {
     /// A place with a move that hides the one at `place`: of earlier moves those do that are nowhere greater. `last`, the
     /// place found before, is tried first.
     pub fn hider(&self, m: &[u8], head: Head, place: usize, last: usize) -> Option<usize> {
-        let q = limits(&head.used, &head.costs_at(m, place));
-        if last < place && self.fits(m, head, head.number(m, last), &q) {
+        let q = head.limits(m, head.number(m, place));
+        if last < place && self.among.fits(m, head, head.number(m, last), &q) {
             return Some(last);
         }
         self.first(m, head, 0..place, &q)

@@ -14,6 +14,10 @@ pub enum Board {
     Spite,
     /// One move beats a board of which otherwise all would be listed: when it goes, all others come up.
     Crown,
+    /// All moves have one sum of costs: none beats another.
+    OneSum,
+    /// Spite of half as many moves, each with one behind it that hardly another hides.
+    Veil,
 }
 
 pub const DRAWN: [Board; 4] = [
@@ -22,23 +26,48 @@ pub const DRAWN: [Board; 4] = [
     Board::Drawn(Shape::AntiCorrelated),
     Board::Drawn(Shape::AllListed),
 ];
-pub const AGAINST: [Board; 2] = [Board::Spite, Board::Crown];
+pub const AGAINST: [Board; 4] = [Board::Spite, Board::Crown, Board::OneSum, Board::Veil];
 /// The number of the move on top of a crown, and what is under it.
 pub const TOP: u16 = 0;
 pub const UNDER: Board = Board::Drawn(Shape::AllListed);
 
+/// Costs below a bound that have this sum, drawn until the last one fits.
+fn draw_sum(random: &mut Random, costs: &mut [u16], bound: usize, sum: usize) {
+    let [others @ .., last] = costs else {
+        return;
+    };
+    loop {
+        others.fill_with(|| random.below(bound) as u16);
+        let spent: usize = others.iter().map(|&cost| usize::from(cost)).sum();
+        if (spent..spent + bound).contains(&sum) {
+            *last = (sum - spent) as u16;
+            return;
+        }
+    }
+}
+
 fn spite(random: &mut Random, d: usize, number: u16, c: usize) -> Costs {
     let run = usize::from(number) / RUN;
-    let sum = if d == 2 { 1000 - run } else { 1200 - run };
-    loop {
-        let mut costs = [0; COSTS];
-        costs[0] = (run * (SPAN * RUN / c)) as u16;
-        costs[1..d - 1].fill_with(|| random.below(1024) as u16);
-        let others: usize = costs[1..d - 1].iter().map(|&cost| usize::from(cost)).sum();
-        if (others..others + 1024).contains(&sum) {
-            costs[d - 1] = (sum - others) as u16;
-            return costs;
-        }
+    let sum = if d == 2 { 1000 } else { 1200.max(400 * (d - 1)) };
+    let mut costs = [0; COSTS];
+    costs[0] = (run * (SPAN * RUN / c)) as u16;
+    draw_sum(random, &mut costs[1..d], 1024, sum - run);
+    costs
+}
+
+fn one_sum(random: &mut Random, d: usize) -> Costs {
+    let mut costs = [0; COSTS];
+    draw_sum(random, &mut costs[..d], SPAN, SPAN / 2 * d);
+    costs
+}
+
+/// Each odd number put behind the even one below it.
+fn veil(moves: &mut [Given], d: usize) {
+    let mut fronts = vec![[0; COSTS]; moves.len()];
+    moves.iter().for_each(|x| fronts[usize::from(x.number)] = x.costs);
+    for x in moves.iter_mut().filter(|x| x.number % 2 == 1) {
+        x.costs = fronts[usize::from(x.number) - 1];
+        x.costs[d - 1] += 1;
     }
 }
 
@@ -51,13 +80,16 @@ impl Board {
             Board::Drawn(Shape::AllListed) => "all listed",
             Board::Spite => "spite",
             Board::Crown => "crown",
+            Board::OneSum => "one sum",
+            Board::Veil => "veil",
         }
     }
 
     pub fn costs(self, random: &mut Random, d: usize, number: u16, c: usize) -> Costs {
         match self {
             Board::Drawn(shape) => costs(random, shape, d, SPAN, usize::from(number), c),
-            Board::Spite => spite(random, d, number, c),
+            Board::Spite | Board::Veil => spite(random, d, number, c),
+            Board::OneSum => one_sum(random, d),
             Board::Crown if number == TOP => [0; COSTS],
             Board::Crown => UNDER.costs(random, d, number, c),
         }
@@ -67,6 +99,10 @@ impl Board {
     pub fn moves(self, random: &mut Random, d: usize, c: usize) -> Vec<Given> {
         let numbers = random.numbers(c, c);
         let given = |number| Given { number, block: random.block(), costs: self.costs(random, d, number, c) };
-        numbers.into_iter().map(given).collect()
+        let mut moves: Vec<Given> = numbers.into_iter().map(given).collect();
+        if self == Board::Veil {
+            veil(&mut moves, d);
+        }
+        moves
     }
 }

@@ -2,14 +2,17 @@
 //! afresh after every change, and (b) the plain board that does on the same bytes what the library does. Prints the tables of
 //! docs/BENCHMARK.md.
 //!
-//!     cargo run --release --offline --bin bench [short | long]
+//!     cargo run --release --offline --bin bench [short | long | instructions]
 mod boards;
+mod clock;
+mod instructions;
 mod measure;
 mod programs;
 mod rounds;
 mod tables;
 
 use boards::{Board, AGAINST, DRAWN};
+use instructions::JUDGE;
 use measure::{measure, Effort};
 use reference::COSTS;
 use rounds::Rounds;
@@ -18,17 +21,7 @@ use tables::Measured;
 
 /// The numbers of costs.
 const DIMENSIONS: [usize; 5] = [2, 3, 4, 6, COSTS];
-
-/// The sizes, and how long each board is timed.
-fn effort(word: Option<&str>) -> Option<([usize; 2], Effort)> {
-    let effort = |sizes, millis, most| Some((sizes, Effort { budget: Duration::from_millis(millis), most }));
-    match word {
-        None => effort([256, 4096], 1000, 200),
-        Some("short") => effort([256, 1024], 20, 8),
-        Some("long") => effort([256, 4096], 10000, 2000),
-        Some(_) => None,
-    }
-}
+const DIMENSIONS_AGAINST: [usize; 4] = [2, 3, 4, COSTS];
 
 fn measured(effort: &Effort, board: Board, c: usize, dimensions: &[usize], all_pairs: bool) -> Measured {
     eprintln!("{} at {c}", board.name());
@@ -36,20 +29,34 @@ fn measured(effort: &Effort, board: Board, c: usize, dimensions: &[usize], all_p
     Measured { board, times: times.collect() }
 }
 
-fn main() {
-    let word = std::env::args().nth(1);
-    let Some((sizes, effort)) = effort(word.as_deref()) else {
-        eprintln!("bench [short | long]");
-        std::process::exit(2);
-    };
+/// The tables of times. A board is timed for so many milliseconds, or so many rounds if these are fewer.
+fn print_times(sizes: [usize; 2], millis: u64, most: usize) {
+    let effort = Effort { budget: Duration::from_millis(millis), most };
     let mut drawn = Vec::new();
     for c in sizes {
         drawn.extend(DRAWN.map(|board| measured(&effort, board, c, &DIMENSIONS, true)));
     }
     let [_, greatest] = sizes;
-    let against = AGAINST.map(|board| measured(&effort, board, greatest, &DIMENSIONS[..3], false));
-    println!("### Drawn boards, d of 2 / 3 / 4 / 6 / 8\n");
+    let against = AGAINST.map(|board| measured(&effort, board, greatest, &DIMENSIONS_AGAINST, false));
+    tables::print_title("Drawn boards", &DIMENSIONS);
     tables::print(&DRAWN, &sizes, &drawn, true);
-    println!("\n### Boards against the search, d of 2 / 3 / 4\n");
+    println!();
+    tables::print_title("Boards against the search", &DIMENSIONS_AGAINST);
     tables::print(&AGAINST, &[greatest], &against, false);
+}
+
+fn main() {
+    let words: Vec<String> = std::env::args().skip(1).collect();
+    let words: Vec<&str> = words.iter().map(String::as_str).collect();
+    match words[..] {
+        [] => print_times([256, 4096], 1000, 200),
+        ["short"] => print_times([256, 1024], 20, 8),
+        ["long"] => print_times([256, 4096], 10000, 2000),
+        ["instructions"] => instructions::print(),
+        [JUDGE, ref memory @ ..] => instructions::judge(memory),
+        _ => {
+            eprintln!("bench [short | long | instructions]");
+            std::process::exit(2);
+        }
+    }
 }

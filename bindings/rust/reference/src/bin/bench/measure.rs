@@ -1,8 +1,8 @@
 //! The rounds of a board, played and timed.
+use crate::clock::Clock;
 use crate::programs::{programs, Program, ALL_PAIRS, LIBRARY, PLAIN, PROGRAMS};
 use crate::rounds::{refusal, Named, Rounds, CALLS};
-use reference::Call;
-use std::time::{Duration, Instant};
+use std::time::Duration;
 
 /// The time that the rounds of a board may take, for the library and the plain board and for all pairs each; and the most
 /// rounds.
@@ -39,14 +39,9 @@ impl Times {
     }
 }
 
-fn timed(program: &mut Box<dyn Program>, call: &Call) -> (usize, Duration) {
-    let start = Instant::now();
-    let told = program.ask(call);
-    (told, start.elapsed())
-}
-
 /// One round, the programs of the order in turn; the time of each.
 fn play(
+    clock: &Clock,
     programs: &mut [Box<dyn Program>; PROGRAMS],
     order: &[usize],
     round: Vec<Named>,
@@ -58,7 +53,7 @@ fn play(
         let mut told = None;
         // all pairs keeps no memory that could be judged
         for &i in order.iter().filter(|&&i| i != ALL_PAIRS || refusal(&call) == 0) {
-            let (rows, time) = timed(&mut programs[i], &call);
+            let (rows, time) = clock.timed(|| programs[i].ask(&call));
             assert_eq!(*told.get_or_insert(rows), rows, "the rows of {call:?}");
             spent[i] += time;
             if let Some(place) = place {
@@ -72,6 +67,7 @@ fn play(
 /// As many rounds as the effort allows. Every other round has the programs the other way about, and after two rounds with
 /// changes come two with previews: a change whose preview was just asked would take less time.
 pub fn measure(effort: &Effort, rounds: &mut Rounds, c: usize, d: usize, all_pairs: bool) -> Times {
+    let clock = Clock::new();
     let mut programs = programs(c, d);
     let mut times = Times::default();
     let mut spent = [Duration::ZERO; PROGRAMS];
@@ -87,7 +83,7 @@ pub fn measure(effort: &Effort, rounds: &mut Rounds, c: usize, d: usize, all_pai
         if all_pairs && goes_on(LEAST_OF_ALL_PAIRS, spent[ALL_PAIRS]) {
             order.push(ALL_PAIRS);
         }
-        let more = play(&mut programs, &order, rounds.round(round / 2 % 2 == 1), &mut times);
+        let more = play(&clock, &mut programs, &order, rounds.round(round / 2 % 2 == 1), &mut times);
         spent.iter_mut().zip(more).for_each(|(sum, time)| *sum += time);
     }
     times

@@ -54,11 +54,13 @@ fn hours(open: usize) -> Call {
     Call::Hours { minute: 600, hours: entries.collect() }
 }
 
-/// What a call of the rounds is answered. Whether the memory is sound is asked by a rank of no rows, which is judged like any
-/// other and then turned down.
+/// Whether the memory is sound is asked by a rank of no rows, which is judged like any other and then turned down.
+pub const SOUND: Call = Call::Rank(0);
+
+/// What a call of the rounds is answered.
 pub fn refusal(call: &Call) -> usize {
-    match call {
-        Call::Rank(0) => 7,
+    match *call {
+        SOUND => 7,
         _ => 0,
     }
 }
@@ -119,7 +121,7 @@ impl Rounds {
         let changes = self.changes(&rows).into_iter().flat_map(|change| made(change, previews));
         let others = [
             ("load", Call::Load { c: self.c, d: self.d, rows }),
-            ("sound", Call::Rank(0)),
+            ("sound", SOUND),
             ("list", Call::List),
             ("band", Call::Band(2)),
             ("rank", Call::Rank(10)),

@@ -10,10 +10,10 @@ pub struct Measured {
     pub times: Vec<Times>,
 }
 
-fn micros(time: f64) -> String {
-    match time {
-        ..100.0 => format!("{time:.1}"),
-        _ => format!("{time:.0}"),
+pub fn rounded(number: f64) -> String {
+    match number {
+        ..100.0 => format!("{number:.1}"),
+        _ => format!("{number:.0}"),
     }
 }
 
@@ -25,7 +25,7 @@ fn ratio(ratio: f64) -> String {
     }
 }
 
-fn cell(numbers: impl Iterator<Item = Option<f64>>, text: fn(f64) -> String) -> String {
+pub fn cell(numbers: impl Iterator<Item = Option<f64>>, text: fn(f64) -> String) -> String {
     let texts: Vec<String> = numbers.map(|number| number.map_or("–".to_string(), text)).collect();
     if texts.iter().all(|text| text == "–") {
         return "–".to_string();
@@ -36,25 +36,33 @@ fn cell(numbers: impl Iterator<Item = Option<f64>>, text: fn(f64) -> String) -> 
 /// The cells of a call: microseconds, the ratio to all pairs if asked for, the ratio to the plain board.
 fn cells(measured: &Measured, call: usize, all_pairs: bool) -> String {
     let times = || measured.times.iter();
-    let mut cells = format!(" {} |", cell(times().map(|t| t.micros(call)), micros));
+    let mut cells = format!(" {} |", cell(times().map(|t| t.micros(call)), rounded));
     if all_pairs {
         cells += &format!(" {} |", cell(times().map(|t| t.ratio(call, ALL_PAIRS)), ratio));
     }
     cells + &format!(" {} |", cell(times().map(|t| t.ratio(call, PLAIN)), ratio))
 }
 
-fn heading(sizes: &[usize], all_pairs: bool) -> String {
-    let mut names = "| call | board |".to_string();
-    for c in sizes {
-        let to_a = if all_pairs { " to (a) |" } else { "" };
-        names += &format!(" µs at {c} |{to_a} to (b) |");
-    }
+/// What a table is of, and the order of the numbers in its cells.
+pub fn print_title(title: &str, dimensions: &[usize]) {
+    let dimensions: Vec<String> = dimensions.iter().map(usize::to_string).collect();
+    println!("### {title}, d of {}\n", dimensions.join(" / "));
+}
+
+/// The names of the columns, each between strokes.
+pub fn print_heading(names: &str) {
     let columns = names.matches('|').count() - 1;
-    names + "\n|" + &"---|".repeat(columns)
+    println!("{names}\n|{}", "---|".repeat(columns));
+}
+
+fn heading(sizes: &[usize], all_pairs: bool) -> String {
+    let to_a = if all_pairs { " to (a) |" } else { "" };
+    let columns = sizes.iter().map(|c| format!(" µs at {c} |{to_a} to (b) |"));
+    "| call | board |".to_string() + &columns.collect::<String>()
 }
 
 pub fn print(boards: &[Board], sizes: &[usize], all: &[Measured], all_pairs: bool) {
-    println!("{}", heading(sizes, all_pairs));
+    print_heading(&heading(sizes, all_pairs));
     for (call, name) in CALLS.iter().enumerate() {
         for (place, board) in boards.iter().enumerate() {
             let first = if place == 0 { name } else { "" };
