@@ -39,8 +39,8 @@ fn damaged_fields_of_the_plain_board() {
 }
 
 /// Whether the bytes are sound; list is held against that.
-fn list_as_checked(bytes: &[u8]) -> bool {
-    let mut against = Against::over(library::ask, bytes);
+fn list_as_checked(ask: Ask, bytes: &[u8]) -> bool {
+    let mut against = Against::over(ask, bytes);
     let sound = against.is_sound();
     assert_eq!(against.check(&Call::List, 48).answer.refusal == 3, !sound);
     sound
@@ -62,7 +62,7 @@ fn every_byte_three_ways() {
             let old = bytes[at];
             for new in [old ^ 1, old ^ 255, 0] {
                 bytes[at] = new;
-                seen.count(list_as_checked(&bytes));
+                seen.count(list_as_checked(library::ask, &bytes));
             }
             bytes[at] = old;
         }
@@ -81,7 +81,11 @@ fn every_value_of_a_block() {
             let old = bytes[at];
             for value in 0..=255 {
                 bytes[at] = value;
-                assert_eq!(list_as_checked(&bytes), !(on_board && value > 63), "number {number}, value {value}");
+                assert_eq!(
+                    list_as_checked(library::ask, &bytes),
+                    !(on_board && value > 63),
+                    "number {number}, value {value}"
+                );
             }
             bytes[at] = old;
         }
@@ -155,4 +159,23 @@ fn damaged_large_board() {
         try_all(library::ask, &damaged, &mut random, &mut seen);
     }
     assert!(seen.sound > 5 && seen.unsound > 5, "{seen:?}");
+}
+
+/// Each mark turned on boards with several times 64 listed moves: what hides a listed one may stand far before it.
+#[test]
+fn every_mark_of_several_chunks() {
+    const C: usize = 300;
+    let mut seen = Seen::default();
+    for (d, shape) in [(4, Shape::AntiCorrelated), (COSTS, Shape::Uniform)] {
+        let mut loaded = Against::over(library::ask, &vec![0; 64 * C + 1024]);
+        loaded.check(&Draw::new(d as u64, shape, 65536, C).load(C, d, C), 0);
+        for number in 0..C {
+            let mut bytes = loaded.memory().to_vec();
+            bytes[16 + 3 * C + number] ^= 1;
+            for ask in [library::ask as Ask, plain::ask] {
+                seen.count(list_as_checked(ask, &bytes));
+            }
+        }
+    }
+    assert_eq!((seen.sound, seen.unsound), (0, 4 * C), "{seen:?}");
 }

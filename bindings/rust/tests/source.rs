@@ -75,7 +75,12 @@ fn branches_are_found() {
         ("dominance::limits_of", "i += 1;", "i += if i < d { 1 } else { COSTS };", "`if`"),
         ("dominance::over", OVER, "if b < a { a - b } else { 0 }", "`else`"),
         ("dominance::least", LEAST, "if less(q[i], p[i]) == 1 { row[i] = q[i]; }", "`if`"),
-        ("dominance::greatest", GREATEST, "match over(q[i], p[i]) { 0 => (), more => row[i] = p[i] + more }", "`match`"),
+        (
+            "dominance::greatest",
+            GREATEST,
+            "match over(q[i], p[i]) { 0 => (), more => row[i] = p[i] + more }",
+            "`match`",
+        ),
         ("memory::zero", ZERO, "if a == 0 { 1 } else { 0 }", "`if`"),
         ("memory::fits_column", COLUMN, "if over(columns[COLUMNS * k + j], q[k]) == 1 { return 0; }", "`return`"),
         ("memory::fits_column", "while k < w {", "while k < w && worse == 0 {", "`&&`"),

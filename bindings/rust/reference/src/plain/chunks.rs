@@ -2,7 +2,7 @@
 use super::beats::{exceeds, greatest, least};
 use super::bytes::Head;
 use super::columns::Columns;
-use super::search::{runs, Listed, Search, RUN, RUNS};
+use super::search::{runs, RUN, RUNS};
 use crate::{Costs, COSTS};
 use std::ops::Range;
 
@@ -20,28 +20,23 @@ impl Chunk {
         Chunk { columns: Columns::new(), places: 0..0, low: [u16::MAX; COSTS] }
     }
 
-    /// Whether a move of the chunk hides a later one, by the search: on sound memory hardly ever asked.
-    #[cold]
-    fn hides_by_search(&self, m: &[u8], head: Head, place: usize, limits: &Costs) -> bool {
-        Search::over(Listed, m, head).first(m, head, self.places.start..place, limits).is_some()
+    /// Whether a move of the chunk hides a later one with these limits.
+    fn hides(&self, head: Head, limits: &Costs) -> bool {
+        !exceeds(&self.low, limits) && self.columns.some_fits(head.d, limits)
     }
 
-    /// The same by the columns. Those left over hold moves before the chunk, or none: where a column fits, the search decides.
-    fn hides(&self, m: &[u8], head: Head, place: usize, limits: &Costs) -> bool {
-        !exceeds(&self.low, limits)
-            && self.columns.some_fits(head.d, limits)
-            && self.hides_by_search(m, head, place, limits)
-    }
-
-    /// The next listed moves taken, 64 or as many as there are; whether none of them hides another.
+    /// The next listed moves taken, 64 or as many as there are; whether none of them hides another. The first becomes every
+    /// column, so that each is a move of the chunk.
     fn take_next(&mut self, m: &[u8], head: Head) -> bool {
         self.places = self.places.end..head.n;
         self.low = [u16::MAX; COSTS];
         for (column, (i, number)) in head.listed_among(m, self.places.clone()).take(CHUNK).enumerate() {
-            if self.hides(m, head, i, &head.limits(m, number)) {
+            let costs = head.stored(m, number);
+            if column == 0 {
+                self.columns.fill(&costs);
+            } else if self.hides(head, &head.limits(m, number)) {
                 return false;
             }
-            let costs = head.stored(m, number);
             self.columns.put(column, &costs);
             self.low = least(&self.low, &costs);
             if column + 1 == CHUNK {
@@ -54,7 +49,7 @@ impl Chunk {
     /// Whether it hides a listed move after it. Runs are passed by whose moves all have a limit below its least costs.
     fn hides_later(&self, m: &[u8], head: Head, highs: &[Costs; RUNS]) -> bool {
         let mut runs = runs(self.places.end..head.n).filter(|run| !exceeds(&self.low, &highs[run.start / RUN]));
-        runs.any(|run| head.listed_among(m, run).any(|(i, number)| self.hides(m, head, i, &head.limits(m, number))))
+        runs.any(|run| head.listed_among(m, run).any(|(_, number)| self.hides(head, &head.limits(m, number))))
     }
 }
 

@@ -14,6 +14,10 @@ impl<const N: usize> Columns<N> {
         self.0.iter_mut().zip(costs).for_each(|(row, &cost)| row[column] = cost);
     }
 
+    pub fn fill(&mut self, costs: &Costs) {
+        self.0.iter_mut().zip(costs).for_each(|(row, &cost)| row.fill(cost));
+    }
+
     /// For each column 0 if it is nowhere above the limits in the first D costs.
     fn excess<const D: usize>(&self, limits: &Costs) -> [u16; N] {
         std::array::from_fn(|j| (0..D).fold(0, |excess, i| excess | self.0[i][j].saturating_sub(limits[i])))
