@@ -7,22 +7,25 @@ use mathlib.Core.Logic.{_⊎_, ⊎-elim}
 use mathlib.Core.Path.{_≡_, sym, ap, _∙_, subst}
 use native.Mathlib.Decide.{ℕ-discrete}
 use native.Mathlib.Omega.{arith}
-use borrow.Author.Tests.{lt-ltb, ltb-false}
+use borrow.Author.Tests.{lt-ltb, le-ltb, ltb-false}
 use lib.Dec.{ltb}
-use lib.ListN.{length, take}
+use lib.ListN.{length, getD, take}
 use Rattle.zorder.specs.Address.{rowCosts}
 use Rattle.model.specs.Dominance.{nowhereGreater, somewhereLess}
 use Rattle.model.specs.Laws.Bool.{byCases, both-ways, and-both}
 use Rattle.dominance.specs.Lanes.{Lanes, lesser}
 use Rattle.promises.specs.Layout.{numberIn}
 use Rattle.promises.specs.Run.{Bytes}
-use Rattle.memory.specs.Search.{seen, seenAt, fits, Below, Under, CornerWith}
-use Rattle.memory.specs.Columns.{countTo, Column, FittingColumn, NoneFits, Put, Filled}
+use Rattle.memory.specs.Search.{seen, seenAt, limitsAt, fits, Below, Under, CornerWith}
+use Rattle.memory.specs.Columns.{countTo, Column, Limits, FittingColumn, NoneFits, Put, Filled}
 use Rattle.memory.specs.Chunks.{listed, slot, ListedColumn, ListedColumns, Gathered, NoneBefore, FitsBefore}
 use Rattle.memory.specs.Laws.Costs.{words-small}
 use Rattle.memory.specs.Laws.Counts.{count-more, count-grows, count-passed}
-use Rattle.memory.specs.Laws.Search.{length-seen-at, fits-unlooked, fits-exceeding, corner-exceeds, corner-least}
+use Rattle.memory.specs.Laws.Search.{limits-lanes, length-seen-at, fits-unlooked, fits-exceeding, corner-exceeds, corner-least}
 use Rattle.memory.specs.declared.search.Among.the-variants.{Listed}
+
+pub limits-past : (c d : ℕ) (m : List ℕ) (j : ℕ) → Limits d (limitsAt c d m j)
+limits-past c d m j k l g = limits-lanes c d m j .holds k g ∙ ap (λ (t : Bool). cond {A = ℕ} t (getD (seenAt Listed c m j) k 0) 65535) (le-ltb k d l)
 
 -- ---- the loop
 
@@ -68,29 +71,26 @@ module _ (c : ℕ) (m : List ℕ) (a : ℕ) where
     pub none-fits-before : count ≡ 0 → (q : List ℕ) → NoneBefore c m q a i i
     none-fits-before e q k l n before = byCases (listed c m k) (λ t. absurd (none-gathered e k l n t)) (fits-unlooked Listed c m q k)
 
-    -- A listed one, put behind the others. The first becomes every column before.
-    Ready : List ℕ → Type 0
+    -- Before a listed one is put: the first of the chunk is every column, for another the columns are as they were.
+    abbrev pub Ready : List ℕ → Type 0
     Ready ready = ((count ≡ 0) × Filled (seenAt Listed c m i) ready) ⊎ ((0 < count) × (ready ≡ columns))
 
     module _ (e : listed c m i ≡ true) (ready : List ℕ) (r : Ready ready) where
       ready-held : (j : ℕ) → a ≤ j → j < i → listed c m j ≡ true → Column ready (slot c m a j) (seenAt Listed c m j)
-      unfolding Ready
       ready-held j l g t =
           ⊎-elim (λ first. absurd (none-gathered (first .0) j l g t))
           (λ later. subst (λ (x : List ℕ). Column x (slot c m a j) (seenAt Listed c m j)) (sym (later .1)) (h .held j l g t))
           r
 
       ready-only : ListedColumns c m a (i + 1) ready
-      unfolding Ready
       ready-only =
           ⊎-elim (λ first t l. record { place = i; after = from; before = omega arith; shown = e; held = first .1 t l })
           (λ later. subst (ListedColumns c m a (i + 1)) (sym (later .1)) (later-columns (omega arith) (h .only (omega (arith, counted, later .0)))))
           r
 
-    pub gathered-more : listed c m i ≡ true → count < 64 → (ready columns' low' : List ℕ)
-        → ((count ≡ 0) × Filled (seenAt Listed c m i) ready) ⊎ ((0 < count) × (ready ≡ columns))
+    -- A listed one, put behind the others.
+    pub gathered-more : listed c m i ≡ true → count < 64 → (ready columns' low' : List ℕ) → Ready ready
         → Put ready count (seenAt Listed c m i) columns' → Lanes (lesser low (seenAt Listed c m i)) low' → Gathered c m a (i + 1) columns' low'
-    unfolding Ready
     gathered-more e small ready columns' low' r put lower = record {
       few = omega (arith, more-count e);
       held = λ j l g t. held j l g t (ℕ-discrete j i);

@@ -16,7 +16,7 @@ use Rattle.model.specs.Dominance.{less, nowhereGreater}
 use Rattle.model.specs.Laws.Bool.{byCases, both-ways, and-left, and-right, and-both, same-test}
 use Rattle.model.specs.Laws.Dominance.{nowhere-greater-places, places-nowhere-greater}
 use Rattle.memory.specs.Tests.{allTo}
-use Rattle.memory.specs.Columns.{countTo, columnFits, fitting, Column, Limits, FittingColumn, NoneFits, SomeFits, Put, Filled}
+use Rattle.memory.specs.Columns.{columnFits, fitting, Column, Limits, FittingColumn, NoneFits, SomeFits, Put}
 use Rattle.memory.specs.Laws.Places.{allTo-at, allTo-all}
 use Rattle.memory.specs.Laws.Counts.{count-zero, count-some}
 

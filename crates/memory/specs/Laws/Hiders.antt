@@ -18,9 +18,10 @@ use Rattle.promises.specs.Layout.{numberIn, costsIn, moveIn}
 use Rattle.promises.specs.Run.{Bytes}
 use Rattle.memory.specs.Room.{Ordered}
 use Rattle.memory.specs.Tests.{anyTo, isListed, hiddenBefore, hiddenAt}
-use Rattle.memory.specs.Search.{looks, looksAt, seen, seenAt, fits, None, Some}
+use Rattle.memory.specs.Search.{looks, looksAt, seen, seenAt, limitsAt, fits, None, Some}
 use Rattle.memory.specs.Laws.Costs.{row-length, words-first, words-small}
 use Rattle.memory.specs.Laws.Places.{allTo-all, anyTo-found}
+use Rattle.memory.specs.Laws.Search.{limits-lanes}
 use Rattle.memory.specs.declared.search.Among.the-variants.{Listed}
 
 -- ---- some place, as a test of all
@@ -70,3 +71,8 @@ module _ (c d : ℕ) (m : List ℕ) (few : d ≤ rowCosts) (b : Bytes m) where
   unfolding hiddenBefore
   hider-hidden n i r q o l h s =
       some-any (λ j. isListed c m j && hides d (moveIn c d m j) (moveIn c d m i)) i r (some-ext (λ j k. hider-fits n i j q o l k h) s)
+
+  -- The same by the limits of place i.
+  pub hidden-at : (n : ℕ) → Ordered c d n m → (i r : ℕ) → i < n → Some (fits Listed c m (limitsAt c d m i)) i r → hiddenAt c d m i ≡ ltb r i
+  unfolding seenAt seen
+  hidden-at n o i r l s = hider-hidden n i r (limitsAt c d m i) o l (limits-lanes c d m i) s

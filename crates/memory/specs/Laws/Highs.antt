@@ -13,9 +13,8 @@ use Rattle.dominance.specs.Lanes.{Lanes, greater}
 use Rattle.dominance.specs.Laws.Lanes.{greater-above}
 use Rattle.memory.specs.Search.{limitsAt, Under}
 use Rattle.memory.specs.Chunks.{listed, Gathered, Unhidden, HighWith, Highs}
-use Rattle.memory.specs.Laws.Search.{runs-more}
+use Rattle.memory.specs.Laws.Search.{limits-lanes, runs-more}
 use Rattle.memory.specs.Laws.Chunks.{gathered-exceeds}
-use Rattle.memory.specs.Laws.Unhidden.{limits-lanes}
 
 module _ {c d : ℕ} {m : List ℕ} where
   pub high-none : (i : ℕ) (high : List ℕ) → HighWith c d m i i high high

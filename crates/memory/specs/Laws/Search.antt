@@ -13,13 +13,13 @@ use Rattle.zorder.specs.Address.{rowCosts}
 use Rattle.model.specs.Dominance.{nowhereGreater, somewhereLess}
 use Rattle.model.specs.Laws.Bool.{byCases, both-ways, and-false-right}
 use Rattle.model.specs.Laws.Dominance.{nowhere-greater-places, somewhere-less-place}
-use Rattle.dominance.specs.Lanes.{Lanes, lesser}
+use Rattle.dominance.specs.Lanes.{Lanes, limit, isFirst, lesser}
 use Rattle.dominance.specs.Laws.Lanes.{lesser-below}
 use Rattle.dominance.specs.Laws.Sums.{nowhere-somewhere}
 use Rattle.promises.specs.Layout.{numberIn, costsIn, tab}
-use Rattle.promises.specs.Laws.Tab.{length-tab, tab-of}
+use Rattle.promises.specs.Laws.Tab.{length-tab, getD-tab, tab-of}
 use Rattle.memory.specs.Laws.Costs.{row-length}
-use Rattle.memory.specs.Search.{looksAt, seen, seenAt, fits, None, First, Some, Below, Under, Corners, CornerWith}
+use Rattle.memory.specs.Search.{looksAt, seen, seenAt, limitsAt, fits, None, First, Some, Below, Under, Corners, CornerWith}
 use Rattle.memory.specs.declared.search.Among.{Among}
 use Rattle.memory.specs.declared.search.Among.the-variants.{All, Listed, Hidden, InBlocks}
 
@@ -38,6 +38,13 @@ length-seen (InBlocks blocks) costs e = e
 pub length-seen-at : (a : Among) (c : ℕ) (m : List ℕ) (i : ℕ) → length (seenAt a c m i) ≡ rowCosts
 unfolding seenAt
 length-seen-at a c m i = length-seen a (costsIn c rowCosts m (numberIn c m i)) (row-length c rowCosts m (numberIn c m i) (omega arith))
+
+pub limits-lanes : (c d : ℕ) (m : List ℕ) (j : ℕ) → Lanes (limit (isFirst d) (seenAt Listed c m j)) (limitsAt c d m j)
+unfolding limitsAt
+limits-lanes c d m j = record {
+  wide = length-tab (limit (isFirst d) (seenAt Listed c m j)) rowCosts;
+  holds = λ i l. getD-tab (limit (isFirst d) (seenAt Listed c m j)) 0 rowCosts i l;
+}
 
 -- "Somewhere greater" as the code asks it.
 pub whole-row : (p q : List ℕ) → length p ≡ rowCosts → length q ≡ rowCosts → not (somewhereLess (take rowCosts q) (take rowCosts p)) ≡ nowhereGreater p q

@@ -1,39 +1,26 @@
 -- Listed moves that hide no other: what the loops over them keep, and that they decide it.
 use Prim.Native.Nat.{ℕ, _+_, _≤_, _<_}
-use mathlib.Core.Bool.{Bool, true, false, not, cond, _&&_}
+use mathlib.Core.Bool.{Bool, true, false, not, _&&_}
 use mathlib.Core.List.{List}
 use mathlib.Core.Path.{_≡_, sym, ap, _∙_, subst}
 use native.Mathlib.Decide.{ℕ-discrete, decLt}
 use native.Mathlib.Omega.{arith}
 use borrow.Author.Tests.{lt-ltb, le-ltb}
-use lib.Dec.{ltb}
 use lib.ListN.{getD, take}
 use Rattle.zorder.specs.Address.{rowCosts}
 use Rattle.model.specs.Dominance.{somewhereLess}
 use Rattle.model.specs.Laws.Bool.{byCases, and-both, and-false-right}
-use Rattle.dominance.specs.Lanes.{Lanes, limit, isFirst}
 use Rattle.promises.specs.Run.{Bytes}
-use Rattle.promises.specs.Laws.Tab.{length-tab, getD-tab}
 use Rattle.memory.specs.Room.{Ordered}
 use Rattle.memory.specs.Tests.{isListed, hiddenAt, listedRight}
-use Rattle.memory.specs.Search.{looks, looksAt, seen, seenAt, fits, limitsAt, Some}
-use Rattle.memory.specs.Columns.{countTo, Limits, FittingColumn, NoneFits}
+use Rattle.memory.specs.Search.{looks, looksAt, fits, limitsAt}
+use Rattle.memory.specs.Columns.{countTo, FittingColumn, NoneFits}
 use Rattle.memory.specs.Chunks.{listed, Gathered, NoneBefore, Unhidden, ListedHidden}
 use Rattle.memory.specs.Laws.Places.{allTo-all, allTo-fails}
-use Rattle.memory.specs.Laws.Search.{tried-some}
+use Rattle.memory.specs.Laws.Search.{limits-lanes, tried-some}
 use Rattle.memory.specs.Laws.Chunks.{gathered-exceeds, gathered-none-fits, gathered-fits}
-use Rattle.memory.specs.Laws.Hiders.{hider-hidden}
+use Rattle.memory.specs.Laws.Hiders.{hidden-at}
 use Rattle.memory.specs.declared.search.Among.the-variants.{Listed}
-
-pub limits-lanes : (c d : ℕ) (m : List ℕ) (j : ℕ) → Lanes (limit (isFirst d) (seenAt Listed c m j)) (limitsAt c d m j)
-unfolding limitsAt
-limits-lanes c d m j = record {
-  wide = length-tab (limit (isFirst d) (seenAt Listed c m j)) rowCosts;
-  holds = λ i l. getD-tab (limit (isFirst d) (seenAt Listed c m j)) 0 rowCosts i l;
-}
-
-pub limits-past : (c d : ℕ) (m : List ℕ) (j : ℕ) → Limits d (limitsAt c d m j)
-limits-past c d m j k l g = limits-lanes c d m j .holds k g ∙ ap (λ (t : Bool). cond {A = ℕ} t (getD (seenAt Listed c m j) k 0) 65535) (le-ltb k d l)
 
 -- ---- one listed move, held against those of a chunk
 
@@ -99,10 +86,6 @@ module _ (c d : ℕ) (m : List ℕ) where
 -- ---- the end
 
 module _ (c d n : ℕ) (m : List ℕ) (few : d ≤ rowCosts) (b : Bytes m) (o : Ordered c d n m) where
-  pub hidden-at : (j r : ℕ) → j < n → Some (fits Listed c m (limitsAt c d m j)) j r → hiddenAt c d m j ≡ ltb r j
-  unfolding seenAt seen
-  hidden-at j r l s = hider-hidden c d m few b n j r (limitsAt c d m j) o l (limits-lanes c d m j) s
-
   pub unhidden-right : Unhidden c d m 0 n 0 n → listedRight c d n m ≡ true
   unfolding listedRight looksAt looks isListed
   unhidden-right h =
@@ -110,7 +93,7 @@ module _ (c d n : ℕ) (m : List ℕ) (few : d ≤ rowCosts) (b : Bytes m) (o : 
       (λ j l. ap not
       (byCases (isListed c m j)
       (λ t. and-false-right (isListed c m j) (hiddenAt c d m j)
-      (hidden-at j j l (record { to = omega arith; found = λ g. absurd (omega arith); none = λ g k z s. h j (omega arith) l t k z (omega arith) s }) ∙ le-ltb j j (omega arith)))
+      (hidden-at c d m few b n o j j l (record { to = omega arith; found = λ g. absurd (omega arith); none = λ g k z s. h j (omega arith) l t k z (omega arith) s }) ∙ le-ltb j j (omega arith)))
       (λ t. ap (λ (x : Bool). x && hiddenAt c d m j) t)))
 
   pub hidden-wrong : ListedHidden c d n m → listedRight c d n m ≡ false
@@ -119,5 +102,5 @@ module _ (c d n : ℕ) (m : List ℕ) (few : d ≤ rowCosts) (b : Bytes m) (o : 
       allTo-fails (λ i. not (isListed c m i && hiddenAt c d m i)) n (s .place) (s .inside)
       (ap not
       (and-both (isListed c m (s .place)) (hiddenAt c d m (s .place)) (s .shown)
-      (hidden-at (s .place) (s .hider .place) (s .inside) (tried-some (s .hider .earlier) (s .hider .fitting))
+      (hidden-at c d m few b n o (s .place) (s .hider .place) (s .inside) (tried-some (s .hider .earlier) (s .hider .fitting))
       ∙ lt-ltb (s .hider .place) (s .place) (s .hider .earlier))))

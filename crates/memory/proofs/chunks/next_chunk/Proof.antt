@@ -14,8 +14,8 @@ use Rattle.promises.specs.Run.{Bytes}
 use Rattle.memory.specs.Search.{seenAt, limitsAt}
 use Rattle.memory.specs.Columns.{countTo, Limits, Put, Filled}
 use Rattle.memory.specs.Chunks.{listed, Gathered, Unhidden}
-use Rattle.memory.specs.Laws.Chunks.{gathered-none, gathered-same, gathered-more, same-count, more-count, none-fits-before, chunk-grows, chunk-some}
-use Rattle.memory.specs.Laws.Unhidden.{limits-past, exceeds-none, columns-none, columns-some, unhidden-none, unhidden-within}
+use Rattle.memory.specs.Laws.Chunks.{limits-past, gathered-none, gathered-same, gathered-more, same-count, more-count, none-fits-before, chunk-grows, chunk-some}
+use Rattle.memory.specs.Laws.Unhidden.{exceeds-none, columns-none, columns-some, unhidden-none, unhidden-within}
 use Rattle.memory.specs.declared.search.Among.the-variants.{Listed}
 use Rattle.memory.proofs.chunks.next_chunk.Statement.{statement}
 use Rattle.memory.proofs.chunks.next_chunk.Tie as tie

@@ -1,6 +1,5 @@
 -- `chunks::run_unhidden` meets its contract. The loop's invariant: no move of the columns hides a place passed. Assumes nothing.
 use Prim.Native.Nat.{ℕ, _-_, _≤_}
-use mathlib.Core.List.{List}
 use mathlib.Core.Logic.{⊎-elim}
 use mathlib.Core.Path.{_≡_, refl, sym, _∙_, subst}
 use native.Mathlib.Omega.{arith}
@@ -9,7 +8,8 @@ use Rattle.model.specs.Laws.Bool.{both-ways}
 use Rattle.promises.specs.Run.{Bytes}
 use Rattle.memory.specs.Columns.{Limits}
 use Rattle.memory.specs.Chunks.{Gathered, Unhidden}
-use Rattle.memory.specs.Laws.Unhidden.{limits-past, exceeds-none, columns-none, columns-some, unhidden-none, unhidden-more}
+use Rattle.memory.specs.Laws.Chunks.{limits-past}
+use Rattle.memory.specs.Laws.Unhidden.{exceeds-none, columns-none, columns-some, unhidden-none, unhidden-more}
 use Rattle.memory.proofs.chunks.run_unhidden.Statement.{statement}
 use Rattle.memory.proofs.chunks.run_unhidden.Tie as tie
 

@@ -4,14 +4,14 @@ use Prim.Native.Nat.{ℕ, _+_, _-_, _≤_, _<_}
 use mathlib.Core.Bool.{true}
 use mathlib.Core.List.{List}
 use mathlib.Core.Logic.{⊎-elim}
-use mathlib.Core.Path.{_≡_, refl, sym, _∙_, subst}
+use mathlib.Core.Path.{_≡_, sym, _∙_, subst}
 use native.Mathlib.Omega.{arith}
 use borrow.Author.Tests.{lt-ltb, le-ltb}
 use Rattle.promises.specs.Run.{Bytes}
 use Rattle.memory.specs.Search.{looksAt, looks, limitsAt, ListedCorners, ListedSome}
 use Rattle.memory.specs.Tests.{isListed, hiddenRight}
 use Rattle.memory.specs.Laws.Search.{corners-none, corners-unlooked, corners-more}
-use Rattle.memory.specs.Laws.Unhidden.{hidden-at}
+use Rattle.memory.specs.Laws.Hiders.{hidden-at}
 use Rattle.memory.specs.Laws.Halves.{hidden-none, hidden-shown, hidden-more, hidden-fail}
 use Rattle.memory.proofs.hiders.hidden_right.Statement.{statement}
 use Rattle.memory.proofs.hiders.hidden_right.Tie as tie
@@ -55,7 +55,7 @@ returns c =
     let some = subst (λ (q : List ℕ). ListedSome (a .h) (a .m .now) q (own .i) (found .result)) (c .before .before .before .before .before .before .before .limits-at .ensures) (found .ensures) in
     sym
     (hidden-fail (a .h .size) (a .h .dimension) (a .m .now) (a .h .count) (own .i) inside (sym (c .before .before .before .before .before .before .before .before .before .looks-at .ensures) ∙ c .before .before .before .before .before .before .before .before .if1 .left)
-    (hidden-at (a .h .size) (a .h .dimension) (a .h .count) (a .m .now) (s .pre .0 .dimension) bytes (s .pre .1) (own .i) (found .result) inside some
+    (hidden-at (a .h .size) (a .h .dimension) (a .m .now) (s .pre .0 .dimension) bytes (a .h .count) (s .pre .1) (own .i) (found .result) inside some
     ∙ le-ltb (found .result) (own .i) (omega (arith, c .if3 .taken))))
 
 seen-at-requires : tie.Need-seen-at-requires Inv-loop μ-loop
@@ -74,7 +74,7 @@ loop-again c =
     → hiddenRight (a .h .size) (a .h .dimension) (own .i + 1) (a .m .now) ≡ true =
     λ q r e l some.
     hidden-more (a .h .size) (a .h .dimension) (a .m .now) (own .i) (own .inv .3)
-    (hidden-at (a .h .size) (a .h .dimension) (a .h .count) (a .m .now) (s .pre .0 .dimension) bytes (s .pre .1) (own .i) r inside
+    (hidden-at (a .h .size) (a .h .dimension) (a .m .now) (s .pre .0 .dimension) bytes (a .h .count) (s .pre .1) (own .i) r inside
     (subst (λ (x : List ℕ). ListedSome (a .h) (a .m .now) x (own .i) r) e some)
     ∙ lt-ltb r (own .i) l) in
     let For : List (List ℕ) → Type 0 = λ r. ListedCorners (a .h) (a .m .now) (own .i + 1) r in (

@@ -1,12 +1,12 @@
 -- `marks::hider_before` meets its contract. Assumes nothing.
 use Prim.Native.Nat.{ℕ}
 use mathlib.Core.List.{List}
-use mathlib.Core.Path.{_≡_, subst}
+use mathlib.Core.Path.{subst}
 use native.Mathlib.Omega.{arith}
 use borrow.Author.Needs.{needs}
 use Rattle.promises.specs.Run.{Bytes}
 use Rattle.memory.specs.Search.{ListedSome}
-use Rattle.memory.specs.Laws.Unhidden.{hidden-at}
+use Rattle.memory.specs.Laws.Hiders.{hidden-at}
 use Rattle.memory.proofs.marks.hider_before.Statement.{statement}
 use Rattle.memory.proofs.marks.hider_before.Tie as tie
 
@@ -17,7 +17,7 @@ returns c =
     let a = s .args in
     let asked = s .pre .0 in
     let bytes : Bytes (a .m .now) = λ i. omega (arith, c .before .before .shared-slice-known .given i) in
-    hidden-at (a .h .size) (a .h .dimension) (a .h .count) (a .m .now) (asked .0 .dimension) bytes (asked .1) (a .i) (c .found-from .result) (asked .2)
+    hidden-at (a .h .size) (a .h .dimension) (a .m .now) (asked .0 .dimension) bytes (a .h .count) (asked .1) (a .i) (c .found-from .result) (asked .2)
     (subst (λ (q : List ℕ). ListedSome (a .h) (a .m .now) q (a .i) (c .found-from .result)) (c .before .limits-at .ensures) (c .found-from .ensures))
 
 pub hider-before-spec : {M : Type 1} → statement M
