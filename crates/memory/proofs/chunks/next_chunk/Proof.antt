@@ -46,23 +46,22 @@ loop-holds c =
     )
 
 -- The two halves of the loop's test.
-module _ (i n count : ℕ) (taken : (ltb i n && ltb count 64) ≡ true) where
-  inside : i < n
-  inside = ltb-true i n (and-left (ltb i n) (ltb count 64) taken)
+inside : (i n : ℕ) (b : Bool) → (ltb i n && b) ≡ true → i < n
+inside i n b taken = ltb-true i n (and-left (ltb i n) b taken)
 
-  room : count < 64
-  room = ltb-true count 64 (and-right (ltb i n) (ltb count 64) taken)
+room : (a : Bool) (count : ℕ) → (a && ltb count 64) ≡ true → count < 64
+room a count taken = ltb-true count 64 (and-right a (ltb count 64) taken)
 
 looks-at-requires : tie.Need-looks-at-requires Inv-loop μ-loop
 looks-at-requires c κs =
     let s = c .before .before .before in
-    (s .pre .0, inside (c .before .loop .i) (s .args .h .count) (c .before .loop .count) (c .loop-test .taken))
+    (s .pre .0, inside (c .before .loop .i) (s .args .h .count) _ (c .loop-test .taken))
 
 limits-at-requires : tie.Need-limits-at-requires Inv-loop μ-loop
 limits-at-requires c κs =
     let s = c .before .before .before .before .before in
     let own = c .before .before .before .loop in
-    (s .pre .0, inside (own .i) (s .args .h .count) (own .count) (c .before .before .loop-test .taken))
+    (s .pre .0, inside (own .i) (s .args .h .count) _ (c .before .before .loop-test .taken))
 
 some-fits-requires : tie.Need-some-fits-requires Inv-loop μ-loop
 some-fits-requires c κs =
@@ -90,7 +89,7 @@ returns c =
         false-says = λ _.
             columns-some (a .h .size) (a .h .dimension) (a .m .now) (own .i) (limits .result) (limits .ensures) (a .from) (own .i) (own .columns) (own .low) (own .inv .5) bytes
             (omega (arith, own .inv .4, some)) (omega arith) (a .h .count)
-            (inside (own .i) (a .h .count) (own .count) (c .before .before .before .before .before .before .before .before .loop-test .taken))
+            (inside (own .i) (a .h .count) _ (c .before .before .before .before .before .before .before .before .loop-test .taken))
             (sym (c .before .before .before .before .before .before .before .looks-at .ensures) ∙ c .before .before .before .before .before .before .if1 .taken)
             (c .before .some-fits .ensures .true-says (c .if3 .taken));
       };
@@ -100,25 +99,25 @@ seen-at-requires : tie.Need-seen-at-requires Inv-loop μ-loop
 seen-at-requires c κs =
     let s = c .before .before .before .before .before .before .before .before in
     let own = c .before .before .before .before .before .before .loop in
-    (s .pre .0, inside (own .i) (s .args .h .count) (own .count) (c .before .before .before .before .before .loop-test .taken))
+    (s .pre .0, inside (own .i) (s .args .h .count) _ (c .before .before .before .before .before .loop-test .taken))
 
 put-requires : tie.Need-put-requires Inv-loop μ-loop
 put-requires c κs =
     let own = c .before .before .before .before .before .before .before .before .before .loop in
-    room (own .i) (c .before .before .before .before .before .before .before .before .before .before .before .args .h .count) (own .count)
+    room (ltb (own .i) (c .before .before .before .before .before .before .before .before .before .before .before .args .h .count)) (own .count)
     (c .before .before .before .before .before .before .before .before .loop-test .taken)
 
 loop-less : tie.Need-loop-less Inv-loop μ-loop
 loop-less c =
     let own = c .before .before .before .loop in
-    omega (arith, inside (own .i) (c .before .before .before .before .before .args .h .count) (own .count) (c .before .before .loop-test .taken))
+    omega (arith, inside (own .i) (c .before .before .before .before .before .args .h .count) _ (c .before .before .loop-test .taken))
 
 loop-again : tie.Need-loop-again Inv-loop μ-loop
 loop-again c =
     let a = c .before .before .before .before .before .args in
     let own = c .before .before .before .loop in
     let taken = c .before .before .loop-test .taken in
-    let free = room (own .i) (a .h .count) (own .count) taken in
+    let free = room (ltb (own .i) (a .h .count)) (own .count) taken in
     let size = a .h .size in
     let d = a .h .dimension in
     let m = a .m .now in
@@ -126,7 +125,7 @@ loop-again c =
     let inv = own .inv in
     let shown = sym (c .before .looks-at .ensures) in (
       omega arith,
-      omega (arith, inside (own .i) (a .h .count) (own .count) taken),
+      omega (arith, inside (own .i) (a .h .count) _ taken),
       ⊎-elim (λ w. omega (arith, w .11, free)) (λ w. omega (arith, w .3, free)) (c .if1 .came),
       ⊎-elim (λ w. omega (arith, w .11, inv .3)) (λ w. omega (arith, w .3, inv .3)) (c .if1 .came),
       ⊎-elim (λ w. omega (arith, w .11, more-count size m (a .from) i (own .count) (own .columns) (own .low) (inv .0) (inv .5) (inv .4) (shown ∙ w .0 .taken)))
