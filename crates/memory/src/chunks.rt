@@ -142,15 +142,20 @@ pub(crate) fn listed_right(
     ensures { λ r. ⌜ r ≡ tests.listedRight (h .size) (h .dimension) (h .count) (now (m .entry)) ⌝ }
 {
     let n = h.count;
-    put_highs(m, h, highs);
     let mut from = 0;
     while from < n {
         let chunk = next_chunk(m, h, from, columns);
         if !chunk.unhidden {
             return false;
         }
-        if !later_unhidden(m, h, chunk, columns, highs) {
-            return false;
+        if chunk.to < n {
+            // Where one chunk has all listed moves, no run is asked for its greatest limits.
+            if from == 0 {
+                put_highs(m, h, highs);
+            }
+            if !later_unhidden(m, h, chunk, columns, highs) {
+                return false;
+            }
         }
         from = chunk.to;
     }

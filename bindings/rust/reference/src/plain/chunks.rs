@@ -64,10 +64,14 @@ fn highs(m: &[u8], head: Head) -> [Costs; RUNS] {
 }
 
 pub fn listed_right(m: &[u8], head: Head) -> bool {
-    let highs = highs(m, head);
     let mut chunk = Chunk::empty();
+    let mut limits = None;
     while chunk.places.end < head.n {
-        if !chunk.take_next(m, head) || chunk.hides_later(m, head, &highs) {
+        if !chunk.take_next(m, head) {
+            return false;
+        }
+        let is_last = chunk.places.end == head.n;
+        if !is_last && chunk.hides_later(m, head, limits.get_or_insert_with(|| highs(m, head))) {
             return false;
         }
     }
