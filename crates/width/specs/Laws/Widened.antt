@@ -20,13 +20,13 @@ use Rattle.model.specs.Dominance.{dominatesAt, dominatesOn}
 use Rattle.model.specs.Lists.{hidden, skyline, dominators, band, rankBefore, rank, dominated, onK, chosen, chosenCosts, listedRows}
 use Rattle.model.specs.Hours.{blockOpen, openMoves}
 use Rattle.model.specs.Notice.{missing, noticeOf}
-use Rattle.model.specs.Calls.{Board, listOf, changed, changedMoves, Query, list, bandQuery, rankQuery, onKQuery, chosenQuery, hoursQuery, queryRows, Change, changeNotice}
+use Rattle.model.specs.Calls.{Board, listOf, changed, changedMoves, queryRows, Change, changeNotice}
 use Rattle.model.specs.Laws.Basics.{each-append, each-select}
 use Rattle.model.specs.Laws.Sorting.{each-sort}
 use Rattle.model.specs.Laws.Tree.{each-take}
-use Rattle.promises.specs.Width.{narrow, widened, rowWith, boardWith, changeWith}
-use Rattle.promises.specs.Laws.Width.{KeepsFirst, query-rows-with}
-use Rattle.promises.specs.Laws.WidthChanges.{FitCosts, FitChange, fit-rows, fit-skyline, fit-changed, change-notice-with}
+use Rattle.width.specs.Width.{Covered, list, bandQuery, rankQuery, onKQuery, chosenQuery, hoursQuery, queryOf, narrow, widened, rowWith, boardWith, changeWith}
+use Rattle.width.specs.Laws.Width.{KeepsFirst, query-rows-with}
+use Rattle.width.specs.Laws.WidthChanges.{FitCosts, FitChange, fit-rows, fit-skyline, fit-changed, change-notice-with}
 
 -- ---- rows of n costs keep the first d
 
@@ -106,8 +106,8 @@ module _ (b : Board) (h : Each (FitCosts (b .dimension)) (b .moves)) where
   some-fit : (p : Move → Bool) → Each (FitCosts (b .dimension)) (select p (b .moves))
   some-fit p = each-select p (FitCosts (b .dimension)) (b .moves) h
 
-  query-rows-fit : (q : Query) → Each Told (queryRows b q)
-  unfolding queryRows listOf listedRows skyline band rank onK chosen openMoves
+  query-rows-fit : (q : Covered) → Each Told (queryRows b (queryOf q))
+  unfolding queryOf queryRows listOf listedRows skyline band rank onK chosen openMoves
   query-rows-fit list = fit-rows dim (λ m. listed) (skyline dim (b .moves)) (some-fit (λ m. not (hidden dim (b .moves) m)))
   query-rows-fit (bandQuery n) = fit-rows dim (λ m. listed) (band dim n (b .moves)) (some-fit (λ m. leb (dominators dim (b .moves) m) n))
   query-rows-fit (rankQuery t) =
@@ -144,9 +144,9 @@ module _ (b : Board) (h : Each (FitCosts (b .dimension)) (b .moves)) where
 
   module _ (n : ℕ) (l : b .dimension ≤ n) (m : n ≤ rowCosts) where
     -- The lists: those of the board in rows of n costs, with zeros behind.
-    pub lists-widened : (q : Query) → queryRows b q ≡ map (rowWith (widened n)) (queryRows (boardWith (narrow n) b) q)
+    pub lists-widened : (q : Covered) → queryRows b (queryOf q) ≡ map (rowWith (widened n)) (queryRows (boardWith (narrow n) b) (queryOf q))
     lists-widened q =
-        sym (rows-widened (b .dimension) n l m (queryRows b q) (query-rows-fit q))
+        sym (rows-widened (b .dimension) n l m (queryRows b (queryOf q)) (query-rows-fit q))
         ∙ ap (map (rowWith (widened n))) (sym (query-rows-with (narrow n) b (narrow-keeps (b .dimension) n l) q))
 
     -- The notices likewise.

@@ -15,8 +15,8 @@ use Rattle.model.specs.Moves.{Move, Row, rowOf, listed, zBefore, moveBefore, ro
 use Rattle.model.specs.Dominance.{better, dominates, at, dominatesAt, dominatesOn, equalCosts, lowerTwin, hides}
 use Rattle.model.specs.Lists.{hidden, skyline, dominators, band, dominated, rankBefore, rank, onK, chosen, chosenCosts, listedRows}
 use Rattle.model.specs.Hours.{blockOpen, openMoves}
-use Rattle.model.specs.Calls.{Board, Query, list, bandQuery, rankQuery, onKQuery, chosenQuery, hoursQuery, listOf, queryRows, queryRefusal, queryAnswer, Answer, orElse, rowsAnswer}
-use Rattle.promises.specs.Width.{moveWith, rowWith, boardWith}
+use Rattle.model.specs.Calls.{Board, listOf, queryRows, queryRefusal, queryAnswer, Answer, orElse, rowsAnswer}
+use Rattle.width.specs.Width.{Covered, list, bandQuery, rankQuery, onKQuery, chosenQuery, hoursQuery, queryOf, moveWith, rowWith, boardWith}
 use Rattle.model.specs.Laws.Basics.{each-mem, mem-each, each-map, each-append, each-select, any-map, any-ext, select-map, count-map, map-take}
 use Rattle.model.specs.Laws.Range.{each-place}
 use Rattle.model.specs.Laws.Sorting.{map-sort}
@@ -167,8 +167,8 @@ module _ (g : List ℕ → List ℕ) (b : Board) (G : KeepsFirst (b .dimension) 
   told-with ms e = ap (map (rowOf listed)) e ∙ rows-with g listed ms
 
   -- Lists of any kind: the same rows, with the costs that g gives.
-  pub query-rows-with : (q : Query) → queryRows (boardWith g b) q ≡ map (rowWith g) (queryRows b q)
-  unfolding queryRows listOf openMoves
+  pub query-rows-with : (q : Covered) → queryRows (boardWith g b) (queryOf q) ≡ map (rowWith g) (queryRows b (queryOf q))
+  unfolding queryOf queryRows listOf openMoves
   query-rows-with list = told-with (skyline (b .dimension) (b .moves)) (skyline-with (b .dimension) g G (b .moves))
   query-rows-with (bandQuery n) = told-with (band (b .dimension) n (b .moves)) (band-with (b .dimension) g G (b .moves) n)
   query-rows-with (rankQuery t) = rank-with (b .dimension) g G (b .moves) t
@@ -180,8 +180,8 @@ module _ (g : List ℕ → List ℕ) (b : Board) (G : KeepsFirst (b .dimension) 
       (ap (skyline (b .dimension)) (select-map (λ m. blockOpen t hours (b .blocks (m .number))) (moveWith g) (b .moves))
       ∙ skyline-with (b .dimension) g G open-moves)
 
-  query-refusal-with : (q : Query) → queryRefusal (boardWith g b) q ≡ queryRefusal b q
-  unfolding queryRefusal
+  query-refusal-with : (q : Covered) → queryRefusal (boardWith g b) (queryOf q) ≡ queryRefusal b (queryOf q)
+  unfolding queryOf queryRefusal
   query-refusal-with list = refl
   query-refusal-with (bandQuery n) = refl
   query-refusal-with (rankQuery t) = refl
@@ -189,8 +189,8 @@ module _ (g : List ℕ → List ℕ) (b : Board) (G : KeepsFirst (b .dimension) 
   query-refusal-with (chosenQuery set) = refl
   query-refusal-with (hoursQuery minute hours) = refl
 
-  pub query-answer-with : (q : Query) (lent : ℕ) → queryAnswer (boardWith g b) q lent ≡ queryAnswer b q lent
+  pub query-answer-with : (q : Covered) (lent : ℕ) → queryAnswer (boardWith g b) (queryOf q) lent ≡ queryAnswer b (queryOf q) lent
   unfolding queryAnswer
   query-answer-with q lent =
       ap₂ (λ (a : Answer) (need : ℕ). orElse a (rowsAnswer need lent)) (query-refusal-with q)
-      (ap length (query-rows-with q) ∙ length-map (queryRows b q) (rowWith g))
+      (ap length (query-rows-with q) ∙ length-map (queryRows b (queryOf q)) (rowWith g))

@@ -19,11 +19,11 @@ use Rattle.model.specs.Withdrawing.{without, Remainder, keepChild, keepChildren
 use Rattle.model.specs.Nodes.{Node, nodeOf, nodesFrom, nodesOf, nearCornerOf, farCornerOf, opens, nodesOpened}
 use Rattle.model.specs.Calls.{onBoard, Change, enter, withdraw, recost}
 use Rattle.model.specs.Opening.{opensFor, withdrawOpens, changeOpens}
-use Rattle.promises.specs.Width.{moveWith, changeWith, entryWith, treeWith}
+use Rattle.width.specs.Width.{moveWith, changeWith, entryWith, treeWith}
 use Rattle.model.specs.Laws.Bool.{cond-map}
 use Rattle.model.specs.Laws.Basics.{any-map, select-map, count-map, map-take}
 use Rattle.model.specs.Laws.Sorting.{map-insert, map-sort, map-rising}
-use Rattle.promises.specs.Laws.Width.{KeepsFirst, move-before-with, skyline-with}
+use Rattle.width.specs.Laws.Width.{KeepsFirst, move-before-with, skyline-with}
 
 -- ---- lists mapped
 

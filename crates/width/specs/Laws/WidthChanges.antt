@@ -26,9 +26,9 @@ use Rattle.model.specs.Laws.Bool.{same-test, cond-map}
 use Rattle.model.specs.Laws.Basics.{each-mem, mem-each, each-map, each-select, any-map, any-ext, select-map, select-ext, equal-refl, equal-true}
 use Rattle.model.specs.Laws.Sorting.{map-insert, each-insert}
 use Rattle.model.specs.Laws.Order.{costs-on-fit}
-use Rattle.promises.specs.Width.{moveWith, inputWith, rowWith, boardWith, changeWith, treeWith}
-use Rattle.promises.specs.Laws.Width.{KeepsFirst, move-before-with, skyline-with, rows-with}
-use Rattle.promises.specs.Laws.WidthTree.{sorted-with, load-with, enter-with, without-with, costs-on-with, on-board-with, withdraw-with, moves-of-with}
+use Rattle.width.specs.Width.{moveWith, inputWith, rowWith, boardWith, changeWith, treeWith}
+use Rattle.width.specs.Laws.Width.{KeepsFirst, move-before-with, skyline-with, rows-with}
+use Rattle.width.specs.Laws.WidthTree.{sorted-with, load-with, enter-with, without-with, costs-on-with, on-board-with, withdraw-with, moves-of-with}
 
 -- The costs of a row, "costs past d are zero".
 abbrev pub FitCosts : ℕ → Move → Type 0
