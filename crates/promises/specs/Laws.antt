@@ -9,4 +9,3 @@ pub mod Width
 pub mod WidthTree
 pub mod WidthChanges
 pub mod Widened
-pub mod Earlier

@@ -13,12 +13,13 @@ use Rattle.model.specs.Tree.{Tree, movesOf, ruled}
 use Rattle.model.specs.Calls.{Board, sizeBad, memoryNeed}
 use Rattle.model.specs.Sound.{BlocksFit}
 use Rattle.line.specs.Line.{lineOf}
-use Rattle.promises.specs.Layout.{sizeIn, dimensionIn, countIn, lineIn, boardIn, keptIn}
+use Rattle.promises.specs.Layout.{sizeIn, dimensionIn, formatIn, formatNumber, countIn, lineIn, boardIn, keptIn}
 
 -- A tree that keeps document 01's rules stands in the memory.
 pub record Stands (m : List ℕ) (t : Tree) : Type 0 where
   pub size : sizeBad (sizeIn m) ≡ false
   pub dimension : costCountBad (dimensionIn m) ≡ false
+  pub format : formatIn m ≡ formatNumber
   pub room : memoryNeed (sizeIn m) ≤ length m
   pub count : countIn m ≤ sizeIn m
   pub numbers : Each (λ r. r .move .number < sizeIn m) (lineIn m)

@@ -63,7 +63,7 @@ pub fn zero_past(d: usize, costs: [u16; COSTS]) -> bool
     true
 }
 
-pub(crate) fn count_bad(d: usize) -> bool
+pub fn count_bad(d: usize) -> bool
     ensures { λ r. ⌜ r ≡ costCountBad d ⌝ }
 {
     d < 2 || COSTS < d

@@ -14,6 +14,7 @@ pub use between::near_of;
 pub use between::side_of;
 pub use corners::region;
 pub use interleave::address;
+pub use interleave::count_bad;
 pub use interleave::zero_past;
 pub use separate::costs;
 
