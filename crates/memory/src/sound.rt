@@ -12,7 +12,7 @@ use crate::order::stands_before;
 use promises::block_bad;
 use promises::memory_need;
 use promises::size_bad;
-use zorder::count_bad;
+use zorder::cost_count_bad;
 ghost use mathlib.Core.Path.{_≡_};
 ghost use Prim.Native.Nat.{_≤_};
 ghost use lib.ListN.{length};
@@ -47,7 +47,7 @@ fn head_right(m: &[u8], h: Head) -> bool
     if size_bad(h.size) {
         return false;
     }
-    if count_bad(h.dimension) {
+    if cost_count_bad(h.dimension) {
         return false;
     }
     if !has_format(m) {

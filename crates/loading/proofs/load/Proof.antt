@@ -19,7 +19,7 @@ use Rattle.loading.proofs.load.Statement.{statement}
 use Rattle.loading.proofs.load.Tie as tie
 
 in-range : (c : tie.Else2) → InRange (c .before .before .before .before .before .args .c) (c .before .before .before .before .before .args .d)
-in-range c = (sym (c .before .before .before .size-bad .ensures) ∙ c .before .before .if1 .left, sym (c .before .count-bad .ensures) ∙ c .if2 .left)
+in-range c = (sym (c .before .before .before .size-bad .ensures) ∙ c .before .before .if1 .left, sym (c .before .cost-count-bad .ensures) ∙ c .if2 .left)
 
 room : (c : tie.Else3) → memoryNeed (c .before .before .before .before .before .before .before .args .c) ≤ length (c .before .before .before .before .before .before .before .args .m .now)
 room c = omega (arith, c .if3 .left, c .before .memory-need .ensures)

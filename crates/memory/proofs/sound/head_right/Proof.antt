@@ -20,7 +20,7 @@ returns c =
 returns-2 : tie.Need-returns-2
 returns-2 c =
     let m = c .before .before .before .before .before .args .m .now in
-    sym (head-wrong m (λ r. both-ways (sym (c .before .count-bad .ensures) ∙ c .if2 .taken) (ap costCountBad (c .before .before .before .before .before .pre .dimension) ∙ r .dimension)))
+    sym (head-wrong m (λ r. both-ways (sym (c .before .cost-count-bad .ensures) ∙ c .if2 .taken) (ap costCountBad (c .before .before .before .before .before .pre .dimension) ∙ r .dimension)))
 
 returns-3 : tie.Need-returns-3
 returns-3 c =
@@ -46,7 +46,7 @@ returns-5 c =
     (head-count m (λ l.
     record {
       size = ap sizeBad (sym (own .size)) ∙ sym (c .before .before .before .before .before .before .before .before .size-bad .ensures) ∙ c .before .before .before .before .before .before .before .if1 .left;
-      dimension = ap costCountBad (sym (own .dimension)) ∙ sym (c .before .before .before .before .before .before .count-bad .ensures) ∙ c .before .before .before .before .before .if2 .left;
+      dimension = ap costCountBad (sym (own .dimension)) ∙ sym (c .before .before .before .before .before .before .cost-count-bad .ensures) ∙ c .before .before .before .before .before .if2 .left;
       format = eqb-true (formatIn m) formatNumber (sym (format .ensures) ∙ not-false (format .result) (c .before .before .before .if3 .left));
       room = omega (arith, c .before .if4 .left, c .before .before .memory-need .ensures, ap memoryNeed (own .size));
       count = l;
