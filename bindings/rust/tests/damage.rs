@@ -2,7 +2,7 @@
 //! answers as on the board that stands there where they are sound after all, and writes nothing that it may not.
 use reference::against::{Against, Ask};
 use reference::draw::Draw;
-use reference::layout::{self, blocks};
+use reference::layout::{self, blocks, FORMAT};
 use reference::library;
 use reference::plain;
 use reference::random::{Random, Shape};
@@ -108,6 +108,21 @@ fn damaged_blocks() {
         }
     }
     assert_eq!(seen.unsound, 2 * 3 * board.moves.len());
+}
+
+/// Memory of another format: every call but load answers 3 and writes no byte.
+#[test]
+fn every_other_format() {
+    let mut random = Random::new(24);
+    let mut seen = Seen::default();
+    let mut bytes = used_board(library::ask, 16, 3, 12, 9);
+    assert_eq!(bytes[3], FORMAT, "a load writes the format");
+    for format in (0..=255).filter(|&format| format != FORMAT) {
+        bytes[3] = format;
+        try_all(library::ask, &bytes, &mut random, &mut seen);
+        try_all(plain::ask, &bytes, &mut random, &mut seen);
+    }
+    assert_eq!((seen.sound, seen.unsound), (0, 2 * 255));
 }
 
 /// Several bytes at once, and a whole field copied over another.

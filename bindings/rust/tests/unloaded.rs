@@ -1,5 +1,6 @@
 //! Memory that nobody loaded: every call returns, answers 3 exactly where the independent check of the bytes says so, answers
 //! as on the board that stands there where they are sound after all, and writes nothing that it may not.
+use reference::layout::FORMAT;
 use reference::library;
 use reference::random::Random;
 use reference::tries::{try_all, Seen};
@@ -38,6 +39,7 @@ fn nearly(random: &mut Random) -> Vec<u8> {
     let n = random.below(5);
     bytes[..2].copy_from_slice(&(c as u16).to_le_bytes());
     bytes[2] = random.one_of(&[2, 2, 2, 3, 5, COSTS as u8, COSTS as u8 + 1]);
+    bytes[3] = random.one_of(&[FORMAT, FORMAT, FORMAT, FORMAT, FORMAT, FORMAT, 0, FORMAT + 1]);
     bytes[4..6].copy_from_slice(&(n as u16).to_le_bytes());
     for (place, number) in random.numbers(c, n).into_iter().enumerate() {
         bytes[16 + 2 * place..][..2].copy_from_slice(&number.to_le_bytes());
@@ -70,7 +72,7 @@ fn more_moves_than_the_board_takes() {
     let mut seen = Seen::default();
     for n in [17u16, 100, 1015, 1017, u16::MAX] {
         let mut bytes = vec![0; 2048];
-        bytes[..3].copy_from_slice(&[16, 0, 2]);
+        bytes[..4].copy_from_slice(&[16, 0, 2, FORMAT]);
         bytes[4..6].copy_from_slice(&n.to_le_bytes());
         try_all(library::ask, &bytes, &mut random, &mut seen);
     }

@@ -1,9 +1,13 @@
-// The answers of the board's calls; in specs/ the layout of the lent memory, when it is sound, what each call promises, and
-// the theorem of demand 3 over these promises.
+// The answers of the board's calls and the limits of a board; in specs/ the layout of the lent memory, when it is sound, what
+// each call promises, and the theorem of demand 3 over these promises.
 mod answers;
+mod limits;
 
 pub use answers::detail_of;
 pub use answers::number_of;
+pub use limits::block_bad;
+pub use limits::memory_need;
+pub use limits::size_bad;
 
 // What a call says. The numbers are details: of `NumberTooLarge`, `NumberTwice`, `BadArgument` and `BlockTooLarge` the place of a
 // loaded row, else 0; of `FewRows` the rows needed; of `BadHours` the block.

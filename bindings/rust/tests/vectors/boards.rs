@@ -1,29 +1,13 @@
 //! Who answers the lines on boards, and the lines put to them.
 use crate::lines::{call_of, is_load, joined, kind, lines, words};
 use reference::against::Ask;
-use reference::layout::{self, blocks};
+use reference::layout;
 use reference::model::Model;
 use reference::node::written;
 use reference::{Answer, Call, Row};
 
 /// The words of calls that are not here yet: their lines are passed by.
 const LATER: [&str; 2] = ["SF", "WH"];
-
-/// The memory of a line `Z bytes filler = content`: the content in hexadecimal digits, and after it the filler.
-pub fn memory_of(asked: &str, content: &str) -> Vec<u8> {
-    let digits = |at| u8::from_str_radix(&content[at..at + 2], 16).expect(content);
-    let mut memory: Vec<u8> = (0..content.len()).step_by(2).map(digits).collect();
-    memory.resize(words(asked)[0] as usize, words(asked)[1] as u8);
-    memory
-}
-
-/// The same with every move in block 0: the version that left it wrote no blocks.
-pub fn in_block_0(asked: &str, content: &str) -> Vec<u8> {
-    let mut memory = memory_of(asked, content);
-    let c = layout::content(&memory).expect("fields in range").c;
-    memory[blocks(c)..][..c].fill(0);
-    memory
-}
 
 /// The answer to a line as the vectors write it. An `X` is a withdrawal that shows the nodes opened, a `W` one that does not;
 /// a preview shows them.
@@ -97,16 +81,11 @@ fn memory_bytes(lines: &[(String, String)]) -> usize {
 
 pub fn play(name: &str, count: usize, player: &mut dyn Player) {
     let lines = lines(name, count);
-    let mut bytes = memory_bytes(&lines);
+    let bytes = memory_bytes(&lines);
     player.take(vec![0; bytes]);
     for (at, (asked, answer)) in lines.iter().enumerate() {
         let got = match kind(asked) {
             later if LATER.contains(&later) => continue,
-            "Z" => {
-                bytes = words(asked)[0] as usize;
-                player.take(in_block_0(asked, answer));
-                continue;
-            }
             "T" => player.tree(),
             _ => {
                 let (call, lent) = call_of(asked);

@@ -67,7 +67,7 @@ module _ {m : List ℕ} {t : Tree} (s : Stands m t) (i : ℕ) where
       or-cases (headUse i || rowsUse (sizeIn m) (countIn m) i) (any (moveUse (sizeIn m) (dimensionIn m) i) (tab (numberIn (sizeIn m) m) (countIn m))) h
       (λ k.
       or-cases (headUse i) (rowsUse (sizeIn m) (countIn m) i) k
-      (λ r. or-cases (inArea 0 3 i) (inArea 4 6 i) r (λ e. omega (arith, area-ends 0 3 i e)) (λ e. omega (arith, area-ends 4 6 i e)))
+      (λ r. or-cases (inArea 0 4 i) (inArea 4 6 i) r (λ e. omega (arith, area-ends 0 4 i e)) (λ e. omega (arith, area-ends 4 6 i e)))
       rows-front)
       moves-front
 
