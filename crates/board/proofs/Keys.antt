@@ -6,14 +6,14 @@ use mathlib.Core.Path.{_≡_, refl}
 use native.Mathlib.Omega.{arith}
 use denote.Enum.Declared.{tagOf}
 use types.Run.{OneOf, miss}
-use Rattle.promises.specs.Answers.{numberOf}
+use Rattle.promises.specs.Answers.{numberOf, outcomeNumber}
 use Rattle.promises.specs.declared.Verdict.{Verdict}
 use Rattle.promises.specs.declared.Verdict.the-variants.{Accepted, ShortMemory, OutOfRange, Unsound, NumberTooLarge, NumberTwice, NumberAbsent, BadArgument, FewRows, BlockTooLarge, BadHours}
 use Rattle.promises.proofs.Verdict.{the-type}
 
 -- A verdict that is not the first refuses, and the first does not.
 refuses : (v : Verdict) → 0 < tagOf the-type v → 0 < numberOf v
-unfolding numberOf
+unfolding outcomeNumber
 refuses Accepted h = h
 refuses ShortMemory h = omega arith
 refuses OutOfRange h = omega arith
@@ -27,7 +27,7 @@ refuses (BlockTooLarge place) h = omega arith
 refuses (BadHours block) h = omega arith
 
 accepts : (v : Verdict) → tagOf the-type v ≡ 0 → numberOf v ≡ 0
-unfolding numberOf
+unfolding outcomeNumber
 accepts Accepted e = refl
 accepts ShortMemory e = absurd (omega arith)
 accepts OutOfRange e = absurd (omega arith)

@@ -11,7 +11,7 @@ use Rattle.model.specs.Calls.{changeRefusal}
 use Rattle.model.specs.Laws.Bool.{both-ways}
 use Rattle.model.specs.Laws.Changes.{accepted-passes}
 use Rattle.promises.specs.Layout.{sizeIn, boardIn}
-use Rattle.promises.specs.Answers.{answerOf, numberOf}
+use Rattle.promises.specs.Answers.{numberOf}
 use Rattle.promises.specs.Run.{Bytes}
 use Rattle.promises.specs.declared.Verdict.{Verdict}
 use Rattle.dominance.specs.declared.Move.{Move}
@@ -59,7 +59,6 @@ module _ {c d n p : ℕ} {m : List ℕ} (s : SoundAt c d n m) (b : Bytes m) (x :
 
   -- An accepted plan passed every check.
   planned-passes : {lent : ℕ} {q : Plan} → MovesPlanned block call m lent q → numberOf (q .verdict) ≡ 0 → changeRefusal (boardIn m) call ≡ 0
-  unfolding answerOf
   planned-passes {lent} plan z =
       accepted-passes (boardIn m) call lent (sym (ap (λ (a : calls.Answer). a .number) (plan .plans .answered .sound (s .sound))) ∙ z)
 

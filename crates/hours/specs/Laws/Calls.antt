@@ -9,7 +9,7 @@ use Rattle.zorder.specs.Refusal.{refusal}
 use Rattle.model.specs.Hours.{Hours, blockCount}
 use Rattle.model.specs.Opening.{queryOpens}
 use Rattle.model.specs.Calls.{Answer, accepted, refusedWith, orElse, Board, hoursQuery, hoursRefusal, queryRefusal}
-use Rattle.promises.specs.Answers.{answerOf, numberOf, detailOf}
+use Rattle.promises.specs.Answers.{answerOf, outcomeNumber}
 use Rattle.promises.specs.Layout.{boardIn}
 use Rattle.promises.specs.declared.Verdict.the-variants.{BadHours}
 use Rattle.memory.specs.Held.{SoundAt}
@@ -35,7 +35,7 @@ module _ (b : Board) (t : ℕ) (hours : List Hours) where
 
   module _ (l : t ≤ 10079) {k : ℕ} (f : FirstBad hours k) where
     pub hours-refused : k < 64 → queryRefusal b (hoursQuery t hours) ≡ answerOf (BadHours k)
-    unfolding answerOf numberOf detailOf
+    unfolding outcomeNumber
     hours-refused h = by-entries l ∙ f .bad h
 
     pub hours-right : 64 ≤ k → queryRefusal b (hoursQuery t hours) ≡ accepted

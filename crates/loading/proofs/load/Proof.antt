@@ -5,7 +5,7 @@ use mathlib.Core.Path.{refl}
 use native.Mathlib.Omega.{arith}
 use borrow.Author.Needs.{needs}
 use borrow.Author.Tests.{ltb-true, ltb-false}
-use Rattle.promises.specs.Answers.{inputRow, numberOf, detailOf}
+use Rattle.promises.specs.Answers.{inputRow, outcomeNumber}
 use Rattle.promises.specs.declared.Verdict.the-variants.{NumberTooLarge, BlockTooLarge, NumberTwice, BadArgument}
 use Rattle.loading.specs.File.{Acceptable}
 use Rattle.loading.proofs.Answering.{InRange, out-of-range, short-memory, row-bad, acceptable, load-accepted}
@@ -42,22 +42,22 @@ judge-requires : tie.Need-judge-requires
 judge-requires c κs = (omega (arith, in-range (c .before)), omega (arith, in-range (c .before)))
 
 returns-3 : tie.Need-returns-3
-unfolding numberOf detailOf
+unfolding outcomeNumber
 returns-3 c =
     row-bad _ _ _ _ _ (in-range (c .before .before .before .before)) (omega arith) (c .before .before .judge .ensures) (NumberTooLarge (c .before .before .judge .result .place)) 3 refl refl (c .if6 .taken) refl
 
 returns-4 : tie.Need-returns-4
-unfolding numberOf detailOf
+unfolding outcomeNumber
 returns-4 c =
     row-bad _ _ _ _ _ (in-range (c .before .before .before .before .before .before)) (omega arith) (c .before .before .before .before .judge .ensures) (BlockTooLarge (c .before .before .before .before .judge .result .place)) 10 refl refl (c .if7 .taken) refl
 
 returns-5 : tie.Need-returns-5
-unfolding numberOf detailOf
+unfolding outcomeNumber
 returns-5 c =
     row-bad _ _ _ _ _ (in-range (c .before .before .before .before .before .before .before .before)) (omega arith) (c .before .before .before .before .before .before .judge .ensures) (BadArgument (c .before .before .before .before .before .before .judge .result .place)) 6 refl refl (c .if8 .taken) refl
 
 returns-6 : tie.Need-returns-6
-unfolding numberOf detailOf
+unfolding outcomeNumber
 returns-6 c =
     row-bad _ _ _ _ _ (in-range (c .before .before .before .before .before .before .before .before .before .before)) (omega arith) (c .before .before .before .before .before .before .before .before .judge .ensures) (NumberTwice (c .before .before .before .before .before .before .before .before .judge .result .place)) 4 refl refl (c .if9 .taken) refl
 

@@ -38,7 +38,7 @@ told-rows (suc k) rows lent = ap (λ (b : Bool). cond b rows []) (sym (eqb·suc-
 
 pub said-rows : (a : calls.Answer) (rows : List Row) (nodes : ℕ) (lent : List Row) (r : Answer) (lent' : List Row) → Said a rows nodes lent r lent'
     → take (r .count) lent' ≡ cond (isAccepted (answerOf (r .verdict))) rows []
-unfolding isAccepted answerOf
+unfolding isAccepted
 said-rows a rows nodes lent r lent' s =
     ap₂ (λ (k : ℕ) (rs : List Row). take k rs) (s .counts) (s .tells) ∙ told-rows (numberOf (r .verdict)) rows lent
 
@@ -94,7 +94,7 @@ module _ (x : Change) (m m' : List ℕ) (lent lent' : List Row) (r : Answer) (p 
   change-next = ap (λ (a : calls.Answer). cond (isAccepted a) (changed b x) b) (sym (said-here x m lent lent' r (p .said) b a .answers))
 
   change-at : Bytes m' → At m' next
-  unfolding isAccepted answerOf
+  unfolding isAccepted
   change-at k = left-at (changeWrites (sizeIn m) x) m m' (changed b x) (changeTree (dimensionIn m) x (a .tree)) (numberOf (r .verdict)) change-left k a
 
   change-keeps : (k : Bytes m') → Keeps b (eventOf (changes x lent lent' r k p))

@@ -14,7 +14,7 @@ use Rattle.model.specs.Calls.{accepted, refusedWith, orElse, rowsAnswer, Query,
 use Rattle.promises.specs.Layout.{boardIn}
 use Rattle.memory.specs.declared.sound.Head.{Head}
 use Rattle.promises.specs.Sound.{Stands, Sound}
-use Rattle.promises.specs.Answers.{answerOf, numberOf, detailOf, counted, rowsAfter, resultRow}
+use Rattle.promises.specs.Answers.{answerOf, numberOf, counted, rowsAfter, resultRow, outcomeNumber}
 use Rattle.promises.specs.Promise.{Said, UnsoundSaid, QueryPromise}
 use Rattle.promises.specs.declared.Verdict.{Verdict}
 use Rattle.promises.specs.declared.Verdict.the-variants.{Accepted, Unsound, BadArgument, FewRows}
@@ -44,12 +44,11 @@ first-refuses a b h = ap (λ (t : Bool). cond t b a) (sym (ne-eqb (a .number) 0 
 
 module _ (refusal : calls.Answer) (rows : List Row) (m : List ℕ) (lent : ℕ) where
   pub answered-unsound : (Sound m → ⊥) → VerdictFor (answerBy refusal rows lent) rows m lent Unsound 0
-  unfolding numberOf counted
+  unfolding counted outcomeNumber
   answered-unsound h = record { sound = λ s. absurd (h s); unsound = λ _. refl; counts = refl; enough = omega arith }
 
   module _ (s : Sound m) where
     pub answered-refused : (v : Verdict) → answerOf v ≡ refusal → 0 < numberOf v → VerdictFor (answerBy refusal rows lent) rows m lent v 0
-    unfolding answerOf
     answered-refused v e h =
         record {
           sound = λ _. first-refuses (answerOf v) (rowsAnswer (length rows) lent) h ∙ ap (λ (a : calls.Answer). orElse a (rowsAnswer (length rows) lent)) e;
@@ -68,7 +67,7 @@ module _ (refusal : calls.Answer) (rows : List Row) (m : List ℕ) (lent : ℕ) 
       rows-answer = ap₂ (λ (a : calls.Answer) (i : ℕ). orElse a (rowsAnswer i lent)) (sym f) e
 
       pub answered-few : lent < need → VerdictFor (answerBy refusal rows lent) rows m lent (FewRows need) 0
-      unfolding answerOf numberOf detailOf counted rowsAnswer by-rows
+      unfolding counted rowsAnswer by-rows outcomeNumber
       answered-few h =
           record {
             sound = λ _. ap by-rows (sym (lt-ltb lent need h)) ∙ rows-answer;
@@ -78,7 +77,7 @@ module _ (refusal : calls.Answer) (rows : List Row) (m : List ℕ) (lent : ℕ) 
           }
 
       pub answered-all : need ≤ lent → VerdictFor (answerBy refusal rows lent) rows m lent Accepted need
-      unfolding answerOf numberOf detailOf counted rowsAnswer accepted by-rows
+      unfolding counted rowsAnswer accepted by-rows outcomeNumber
       answered-all h =
           record {
             sound = λ _. ap by-rows (sym (le-ltb lent need h)) ∙ rows-answer;
@@ -115,7 +114,7 @@ module _ {answer : calls.Answer} {rows : List Row} {m : List ℕ} {lent : ℕ} {
 
 module _ (q : Query) (m : List ℕ) (lent : ℕ) {p : Plan} where
   pub query-unsound : Nothing Unsound p → (Sound m → ⊥) → QueryPlanned q m lent p
-  unfolding queryAnswer numberOf
+  unfolding queryAnswer outcomeNumber
   query-unsound e h = refused-plans e (answered-unsound (queryRefusal (boardIn m) q) (queryRows (boardIn m) q) m lent h) (omega arith)
 
   pub query-refused : {v : Verdict} → Nothing v p → Sound m → 0 < numberOf v → queryRefusal (boardIn m) q ≡ answerOf v → QueryPlanned q m lent p
@@ -124,7 +123,7 @@ module _ (q : Query) (m : List ℕ) (lent : ℕ) {p : Plan} where
       refused-plans e (answered-refused (queryRefusal (boardIn m) q) (queryRows (boardIn m) q) m lent s v (sym f) h) h
 
   pub query-bad : Nothing (BadArgument 0) p → Sound m → queryRefusal (boardIn m) q ≡ refusedWith 7 → QueryPlanned q m lent p
-  unfolding answerOf numberOf detailOf refusedWith
+  unfolding refusedWith outcomeNumber
   query-bad e s f = query-refused e s (omega arith) f
 
 module _ (h : Head) (found : Found) (opened lent : ℕ) where
@@ -132,7 +131,7 @@ module _ (h : Head) (found : Found) (opened lent : ℕ) where
   need-of {m} {test} f e = found-count h test m found f ∙ ap length e
 
   pub found-few : {p : Plan} → Nothing (FewRows (found .count)) p → lent < found .count → PlansFound h found opened lent p
-  unfolding queryAnswer numberOf
+  unfolding queryAnswer outcomeNumber
   found-few e l =
       record {
         plans = λ {m} s f q ok rows _.
@@ -142,7 +141,7 @@ module _ (h : Head) (found : Found) (opened lent : ℕ) where
 
   pub found-all : (t : Telling) (given : Given) → TellsNumbers h (found .numbers) t → found .count ≤ lent
       → PlansFound h found opened lent (record { verdict = Accepted; count = found .count; opened = opened; makes = false; goes = 0; comes = false; given = given; telling = t })
-  unfolding queryAnswer numberOf
+  unfolding queryAnswer outcomeNumber
   found-all t given g l =
       record {
         plans = λ {m} {test} s f q ok rows nodes.
@@ -182,7 +181,7 @@ module _ {answer : calls.Answer} {rows : List Row} {m : List ℕ} {lent : ℕ} {
       }
 
   pub answered-unsaid : (Sound m → ⊥) → UnsoundSaid before (record { verdict = v; count = count; opened = opened }) after
-  unfolding answerOf numberOf detailOf refusedWith counted rowsAfter
+  unfolding refusedWith counted rowsAfter outcomeNumber
   answered-unsaid n =
       let three = a .unsound n in
       let zeros : count ≡ 0 = a .counts ∙ ap (λ (w : Verdict). counted (numberOf w) (length rows)) three in

@@ -3,7 +3,7 @@ use mathlib.Core.List.{map}
 use native.Mathlib.Omega.{arith}
 use borrow.Author.Needs.{needs}
 use Rattle.model.specs.Calls.{hoursQuery}
-use Rattle.promises.specs.Answers.{numberOf, blockHours}
+use Rattle.promises.specs.Answers.{blockHours, outcomeNumber}
 use Rattle.promises.specs.Layout.{boardIn}
 use Rattle.memory.specs.Held.{SoundAt}
 use Rattle.memory.specs.Laws.Held.{sound-held, unsound-held}
@@ -29,7 +29,7 @@ returns-2 c =
     (minute-refused (boardIn (a .m .now)) (a .minute) hours (c .before .if1 .taken))
 
 returns-3 : tie.Need-returns-3
-unfolding numberOf
+unfolding outcomeNumber
 returns-3 c =
     let a = c .before .before .before .before .before .before .before .before .before .args in
     let hours = map blockHours (a .hours .now) in
