@@ -2,7 +2,7 @@
 use Prim.Native.Nat.{ℕ, _-_}
 use mathlib.Core.Bool.{Bool, and-true}
 use mathlib.Core.List.{List, [], map, map-map}
-use mathlib.Core.Path.{_≡_, sym, ap, _∙_}
+use mathlib.Core.Path.{_≡_, refl, sym, ap, _∙_}
 use native.Mathlib.Omega.{arith}
 use lib.ListN.{length, length-map}
 use Rattle.model.specs.Basics.{select, numbersFrom}
@@ -43,11 +43,16 @@ module _ (h : Head) (test : ℕ → Bool) (m : List ℕ) (r : Found) (f : Finds 
   unfolding tellsPlace looksAt looks
   found-told i e = and-true (inSet (r .numbers) (numberIn c m i)) ∙ e
 
+  told-places : toldRows (listedBy h) (r .numbers) m ≡ rowsAt c d listed (placesIn 0 n (tellsPlace (listedBy h) (r .numbers) m)) m
+  unfolding toldRows comingRows rowsAt placesIn select numbersFrom
+  told-places = refl
+
   pub found-rows : map resultRow (toldRows (listedBy h) (r .numbers) m) ≡ listedRows (foundMoves c d n test m)
-  unfolding toldRows comingRows placesIn select numbersFrom
+  unfolding placesIn
   found-rows =
       let all : n - 0 ≡ n = omega arith in
-      row-results c d m (placesIn 0 n (tellsPlace (listedBy h) (r .numbers) m))
+      ap (map resultRow) told-places
+      ∙ row-results c d m (placesIn 0 n (tellsPlace (listedBy h) (r .numbers) m))
       ∙ ap (λ (k : ℕ). listedRows (map (moveIn c d m) (select (tellsPlace (listedBy h) (r .numbers) m) (numbersFrom 0 k)))) all
       ∙ ap (λ (is : List ℕ). listedRows (map (moveIn c d m) is))
       (select-ext (tellsPlace (listedBy h) (r .numbers) m) (λ i. test (numberIn c m i)) (numbersFrom 0 n)

@@ -1,21 +1,22 @@
 -- What is foreseen, for each answer; and what is said once it is told.
-use Prim.Native.Nat.{ℕ, zero, suc, _≤_, _<_}
+use Prim.Native.Nat.{ℕ, zero, suc, _+_, _≤_, _<_}
 use mathlib.Core.Bool.{Bool, true, false, cond}
 use mathlib.Core.List.{List, [], _∷_, _++_, map, map-append, append-assoc}
 use mathlib.Core.Path.{_≡_, refl, sym, ap, ap₂, _∙_, subst}
-use native.Mathlib.Nat.{zero-add, add-zero, add-comm}
+use native.Mathlib.Nat.{zero-add, add-zero}
 use native.Mathlib.Omega.{arith}
 use borrow.Author.Tests.{ltb-true, ltb-false, eqb-true, ne-eqb}
 use lib.Dec.{eqb, ltb}
-use lib.ListN.{length, take, drop, length-map, length-append}
-use lib.Seq.{paste, take-length, take-at, drop-at, drop-drop, take-append-drop}
+use lib.ListN.{length, take, drop, length-map, length-append, take-append-drop}
+use lib.Seq.{paste, take-length, take-at, drop-at, drop-drop}
 use Rattle.model.specs.Moves.{Row}
 use Rattle.model.specs.Lists.{listedRows}
 use Rattle.model.specs.Tree.{Tree}
 use Rattle.model.specs.Calls as calls
 use Rattle.model.specs.Calls.{accepted, refusedWith, orElse, rowsAnswer, Query, queryRefusal, queryRows, queryAnswer}
 use Rattle.model.specs.Laws.Bool.{byCases, both-ways}
-use Rattle.promises.specs.Layout.{boardIn}
+use Rattle.promises.specs.Layout.{dimensionIn, boardIn}
+use Rattle.model.specs.Opening.{queryOpens}
 use Rattle.memory.specs.declared.sound.Head.{Head}
 use Rattle.promises.specs.Sound.{Stands, Sound}
 use Rattle.promises.specs.Answers.{answerOf, numberOf, counted, rowsAfter, resultRow, refusedBy, outcomeNumber}
@@ -86,6 +87,15 @@ module _ (refusal : calls.Answer) (rows : List Row) (nodes : Tree → ℕ) (m : 
 
 -- ---- what is said
 
+pub counted-all : (k n : ℕ) → k ≡ 0 → counted k n ≡ n
+unfolding counted
+counted-all k n z = ap (λ (i : ℕ). counted i n) z
+
+pub counted-none : (k n : ℕ) → 0 < k → counted k n ≡ 0
+unfolding counted
+counted-none zero n h = absurd (omega arith)
+counted-none (suc k) n h = refl
+
 counted-same : (k a b : ℕ) → (k ≡ 0 → a ≡ b) → counted k a ≡ counted k b
 unfolding counted
 counted-same zero a b e = e refl
@@ -147,12 +157,12 @@ pub put-both : (ls es rows : List Row) → put (length ls) es (put 0 ls rows) �
 unfolding put
 put-both ls es rows =
     ap (put (length ls) es) (put-first ls rows)
-    ∙ ap₂ (λ (as bs : List Row). as ++ (es ++ bs)) (take-at ls (drop (length ls) rows) (length ls) refl)
-    (sym (drop-drop (length es) (length ls) (ls ++ drop (length ls) rows) ∙ ap (λ (k : ℕ). drop k (ls ++ drop (length ls) rows)) (add-comm (length es) (length ls)))
+    ∙ ap₂ (λ (xs ys : List Row). xs ++ (es ++ ys)) (take-at ls (drop (length ls) rows) (length ls) refl)
+    (sym (drop-drop (length es) (length ls) (ls ++ drop (length ls) rows))
     ∙ ap (drop (length es)) (drop-at ls (drop (length ls) rows) (length ls) refl)
     ∙ drop-drop (length es) (length ls) rows)
-    ∙ sym (append-assoc ls es _)
-    ∙ ap (λ (k : ℕ). (ls ++ es) ++ drop k rows) (add-comm (length es) (length ls) ∙ sym (length-append ls es))
+    ∙ sym (append-assoc ls es (drop (length ls + length es) rows))
+    ∙ ap (λ (k : ℕ). (ls ++ es) ++ drop k rows) (sym (length-append ls es))
 
 module _ {v : Verdict} {new : List Row} {m : List ℕ} {t : Telling} (tells : Tells v new m t) where
   abbrev all : List (List ℕ)
@@ -169,14 +179,105 @@ module _ {v : Verdict} {new : List Row} {m : List ℕ} {t : Telling} (tells : Te
   tells-length h = sym (length-map all resultRow) ∙ ap length (tells .rows h) ∙ sym (tells .count (some-accepts h))
 
   -- Accepted, the rows are put from a row on; refused, all are as they were.
+  filled-put : (rows : List (List ℕ)) (from : ℕ) → from + t .count ≤ length rows → 0 < t .count
+      → map resultRow (filledRows (t .told) (t .numbers) m from (t .count) rows) ≡ put from new (map resultRow rows)
+  unfolding put
+  filled-put rows from h some =
+      let count : t .count ≡ length new = tells .count (some-accepts some) in
+      ap (map resultRow)
+      (filled-all (t .told) (t .numbers) m rows from (t .count) (tells .asked) (λ l. tells-length l) h
+      ∙ ap (λ (k : ℕ). take from rows ++ take k all ++ drop (from + t .count) rows) (sym (tells-length some))
+      ∙ ap (λ (l : List (List ℕ)). take from rows ++ l ++ drop (from + t .count) rows) (take-length all))
+      ∙ map-append resultRow (take from rows ++ all) (drop (from + t .count) rows)
+      ∙ ap₂ _++_ (map-append resultRow (take from rows) all ∙ ap₂ _++_ (map-take resultRow from rows) (tells .rows some))
+      (map-drop resultRow (from + t .count) rows ∙ ap (λ (k : ℕ). drop (from + k) (map resultRow rows)) count)
+      ∙ append-assoc (take from (map resultRow rows)) new (drop (from + length new) (map resultRow rows))
+
   pub tells-put : (rows : List (List ℕ)) (from : ℕ) → from + t .count ≤ length rows → numberOf v ≡ 0
       → map resultRow (filledRows (t .told) (t .numbers) m from (t .count) rows) ≡ put from new (map resultRow rows)
+  unfolding filledRows
   tells-put rows from h z = by (t .count) refl
     where
       by : (k : ℕ) → t .count ≡ k → map resultRow (filledRows (t .told) (t .numbers) m from (t .count) rows) ≡ put from new (map resultRow rows)
-      by zero e = ?
-      by (suc k) e = ?
+      by zero e =
+          ap (λ (k : ℕ). map resultRow (filledRows (t .told) (t .numbers) m from k rows)) e
+          ∙ sym (put-none from (map resultRow rows))
+          ∙ ap (λ (l : List Row). put from l (map resultRow rows)) (sym (none-left new (sym (tells .count z) ∙ e)))
+      by (suc k) e = filled-put rows from h (omega (arith, e))
 
   pub tells-none : (rows : List (List ℕ)) (from : ℕ) → 0 < numberOf v → filledRows (t .told) (t .numbers) m from (t .count) rows ≡ rows
   unfolding filledRows
   tells-none rows from h = ap (λ (k : ℕ). filledRows (t .told) (t .numbers) m from k rows) (tells .none h)
+
+  -- What a list's rows are afterwards.
+  pub tells-after : (rows : List (List ℕ)) → t .count ≤ length rows
+      → map resultRow (filledRows (t .told) (t .numbers) m 0 (t .count) rows) ≡ rowsAfter (numberOf v) new (map resultRow rows)
+  unfolding rowsAfter
+  tells-after rows h = by (numberOf v) refl
+    where
+      by : (k : ℕ) → numberOf v ≡ k → map resultRow (filledRows (t .told) (t .numbers) m 0 (t .count) rows) ≡ rowsAfter k new (map resultRow rows)
+      by zero e = tells-put rows 0 (omega arith) e ∙ put-first new (map resultRow rows)
+      by (suc k) e = ap (map resultRow) (tells-none rows 0 (omega (arith, e)))
+
+-- ---- lists
+
+pub query-promise : {q : Query} {m : List ℕ} {p : Plan} (before : List (List ℕ)) {after : List Row} → QueryPlanned q m (length (map resultRow before)) p
+    → after ≡ map resultRow (filledRows (p .telling .told) (p .telling .numbers) m 0 (p .telling .count) before)
+    → QueryPromise q m (map resultRow before) (answered (p .verdict) (p .need) (p .opened)) after
+unfolding queryAnswer
+query-promise {p = p} before {after} plan e =
+    let rows = e ∙ tells-after (plan .tells) before (omega (arith, plan .enough, length-map before resultRow)) in
+    record {
+      sound = foreseen-said (plan .foreseen) (map resultRow before) after rows;
+      unsound = foreseen-unsaid (plan .foreseen) (map resultRow before) after rows;
+    }
+
+-- A plan that tells nothing.
+pub refuses-tells : {v : Verdict} {p : Plan} {m : List ℕ} {new : List Row} → Refuses v p → 0 < numberOf v → Tells (p .verdict) new m (p .telling)
+refuses-tells {v} e h =
+    record {
+      rows = λ l. absurd (omega (arith, e .count));
+      count = λ z. absurd (omega (arith, z, ap numberOf (e .verdict), h));
+      none = λ _. e .count;
+      asked = λ l. absurd (omega (arith, e .count));
+    }
+
+module _ (q : Query) (m : List ℕ) (lent : ℕ) {p : Plan} where
+  refuses-plans : {v : Verdict} → Refuses v p → 0 < numberOf v
+      → Foreseen (queryRefusal (boardIn m) q) (queryRows (boardIn m) q) (queryOpens (dimensionIn m) q) m lent v (p .need) (p .opened) → QueryPlanned q m lent p
+  refuses-plans {v} e h f =
+      record {
+        foreseen = subst (λ (w : Verdict). Foreseen (queryRefusal (boardIn m) q) (queryRows (boardIn m) q) (queryOpens (dimensionIn m) q) m lent w (p .need) (p .opened)) (sym (e .verdict)) f;
+        tells = refuses-tells e h;
+        enough = omega (arith, e .count);
+      }
+
+  pub query-unsound : Refuses (refusedBy Unsound 0) p → (Sound m → ⊥) → QueryPlanned q m lent p
+  unfolding outcomeNumber
+  query-unsound e h = refuses-plans e (omega arith) (foreseen-unsound _ _ _ m lent _ _ h)
+
+  pub query-refused : {o : Outcome} {detail : ℕ} → Refuses (refusedBy o detail) p → Sound m → 0 < outcomeNumber o → queryRefusal (boardIn m) q ≡ answerOf (refusedBy o detail) → QueryPlanned q m lent p
+  query-refused {o} {detail} e s h f = refuses-plans e h (foreseen-refused _ _ _ m lent _ _ s (refusedBy o detail) (sym f) h)
+
+  pub query-bad : Refuses (refusedBy BadArgument 0) p → Sound m → queryRefusal (boardIn m) q ≡ refusedWith 7 → QueryPlanned q m lent p
+  unfolding refusedWith outcomeNumber
+  query-bad e s f = query-refused e s (omega arith) f
+
+pub found-plans : (h : Head) (found : Found) (opened lent : ℕ) (v : Verdict) (k : ℕ) → answerOf v ≡ rowsAnswer (found .count) lent → k ≡ counted (numberOf v) (found .count)
+    → PlansFound h found opened lent (record { verdict = v; need = found .count; opened = opened; telling = listing h (found .numbers) k })
+found-plans h found opened lent v k e few =
+    record {
+      plans = λ {m} {test} s f refusal ok rows is nodes opens.
+          let need : found .count ≡ length rows = found-count h test m found f ∙ ap length is in
+          record {
+            foreseen = foreseen-judged refusal rows nodes m lent (found .count) opened (s .sound) v ok e need opens;
+            tells =
+                record {
+                  rows = λ _. found-rows h test m found f ∙ is;
+                  count = λ z. few ∙ counted-all (numberOf v) (found .count) z ∙ need;
+                  none = λ l. few ∙ counted-none (numberOf v) (found .count) l;
+                  asked = λ _. listed-asked s;
+                };
+            enough = omega (arith, few, few-refuses (found .count) lent (numberOf v) (ap (λ (a : calls.Answer). a .number) e));
+          };
+    }
