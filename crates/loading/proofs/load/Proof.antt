@@ -6,9 +6,9 @@ use native.Mathlib.Omega.{arith}
 use borrow.Author.Needs.{needs}
 use borrow.Author.Tests.{ltb-true, ltb-false}
 use Rattle.promises.specs.Answers.{inputRow, outcomeNumber}
-use Rattle.promises.specs.declared.Verdict.the-variants.{NumberTooLarge, BlockTooLarge, NumberTwice, BadArgument}
+use Rattle.promises.specs.declared.Outcome.the-variants.{NumberTooLarge, BlockTooLarge, NumberTwice, BadArgument}
 use Rattle.loading.specs.File.{Acceptable}
-use Rattle.loading.proofs.Answering.{InRange, out-of-range, short-memory, row-bad, acceptable, load-accepted}
+use Rattle.loading.proofs.Answering.{InRange, by-verdict, out-of-range, short-memory, row-bad, acceptable, load-accepted}
 use Rattle.loading.proofs.load.Statement.{statement}
 use Rattle.loading.proofs.load.Tie as tie
 
@@ -27,7 +27,7 @@ not-in-range c r =
     (c .if1 .came)
 
 returns : tie.Need-returns
-returns c = out-of-range _ _ _ _ _ (not-in-range c) refl
+returns c = by-verdict (c .ended .ensures) (out-of-range _ _ _ _ _ (not-in-range (c .before)) refl)
 
 mul-if5 : tie.Need-mul-if5
 mul-if5 c = omega (arith, in-range c)
@@ -36,7 +36,7 @@ add-if5 : tie.Need-add-if5
 add-if5 c = omega (arith, in-range c)
 
 returns-2 : tie.Need-returns-2
-returns-2 c = short-memory _ _ _ _ _ (in-range (c .before)) (omega arith) refl
+returns-2 c = by-verdict (c .ended2 .ensures) (short-memory _ _ _ _ _ (in-range (c .before .before)) (omega arith) refl)
 
 judge-requires : tie.Need-judge-requires
 judge-requires c κs = (omega (arith, in-range (c .before)), omega (arith, in-range (c .before)))
@@ -44,22 +44,26 @@ judge-requires c κs = (omega (arith, in-range (c .before)), omega (arith, in-ra
 returns-3 : tie.Need-returns-3
 unfolding outcomeNumber
 returns-3 c =
-    row-bad _ _ _ _ _ (in-range (c .before .before .before .before)) (omega arith) (c .before .before .judge .ensures) (NumberTooLarge (c .before .before .judge .result .place)) 3 refl refl (c .if6 .taken) refl
+    by-verdict (c .ended3 .ensures)
+    (row-bad _ _ _ _ _ (in-range (c .before .before .before .before .before)) (omega arith) (c .before .before .before .judge .ensures) NumberTooLarge 3 refl (c .before .if6 .taken) refl)
 
 returns-4 : tie.Need-returns-4
 unfolding outcomeNumber
 returns-4 c =
-    row-bad _ _ _ _ _ (in-range (c .before .before .before .before .before .before)) (omega arith) (c .before .before .before .before .judge .ensures) (BlockTooLarge (c .before .before .before .before .judge .result .place)) 10 refl refl (c .if7 .taken) refl
+    by-verdict (c .ended4 .ensures)
+    (row-bad _ _ _ _ _ (in-range (c .before .before .before .before .before .before .before)) (omega arith) (c .before .before .before .before .before .judge .ensures) BlockTooLarge 10 refl (c .before .if7 .taken) refl)
 
 returns-5 : tie.Need-returns-5
 unfolding outcomeNumber
 returns-5 c =
-    row-bad _ _ _ _ _ (in-range (c .before .before .before .before .before .before .before .before)) (omega arith) (c .before .before .before .before .before .before .judge .ensures) (BadArgument (c .before .before .before .before .before .before .judge .result .place)) 6 refl refl (c .if8 .taken) refl
+    by-verdict (c .ended5 .ensures)
+    (row-bad _ _ _ _ _ (in-range (c .before .before .before .before .before .before .before .before .before)) (omega arith) (c .before .before .before .before .before .before .before .judge .ensures) BadArgument 6 refl (c .before .if8 .taken) refl)
 
 returns-6 : tie.Need-returns-6
 unfolding outcomeNumber
 returns-6 c =
-    row-bad _ _ _ _ _ (in-range (c .before .before .before .before .before .before .before .before .before .before)) (omega arith) (c .before .before .before .before .before .before .before .before .judge .ensures) (NumberTwice (c .before .before .before .before .before .before .before .before .judge .result .place)) 4 refl refl (c .if9 .taken) refl
+    by-verdict (c .ended6 .ensures)
+    (row-bad _ _ _ _ _ (in-range (c .before .before .before .before .before .before .before .before .before .before .before)) (omega arith) (c .before .before .before .before .before .before .before .before .before .judge .ensures) NumberTwice 4 refl (c .before .if9 .taken) refl)
 
 fill-requires : tie.Need-fill-requires
 fill-requires c κs =
@@ -68,21 +72,29 @@ fill-requires c κs =
 
 returns-7 : tie.Need-returns-7
 returns-7 c =
-    load-accepted _ _ _ _ _ (in-range (c .before .before .before .before .before .before .before .before .before .before .before .before .before .before)) (omega arith) (c .before .before .before .before .before .before .before .before .before .before .before .before .judge .ensures) (accepted (c .before .before .before .before)) (c .before .before .fill .ensures)
+    by-verdict (c .ended7 .ensures)
+    (load-accepted _ _ _ _ _ (in-range (c .before .before .before .before .before .before .before .before .before .before .before .before .before .before .before)) (omega arith) (c .before .before .before .before .before .before .before .before .before .before .before .before .before .judge .ensures) (accepted (c .before .before .before .before .before)) (c .before .before .before .fill .ensures))
 
 pub load-spec : {M : Type 1} → statement M
 load-spec =
     tie.close
     (tie.spec
+    (λ c κs. search needs)
     returns
     mul-if5
     add-if5
+    (λ c κs. search needs)
     returns-2
     judge-requires
+    (λ c κs. search needs)
     returns-3
+    (λ c κs. search needs)
     returns-4
+    (λ c κs. search needs)
     returns-5
+    (λ c κs. search needs)
     returns-6
     fill-requires
+    (λ c κs. search needs)
     (λ c. search needs)
     returns-7)
