@@ -9,22 +9,16 @@ use Rattle.model.specs.Lists.{skyline}
 use Rattle.model.specs.Notice.{noticeOf}
 use Rattle.model.specs.Tree.{Tree}
 use Rattle.model.specs.Calls as calls
-use Rattle.model.specs.Calls.{changeRefusal, refusedWith, changedMoves}
+use Rattle.model.specs.Calls.{changedMoves}
 use Rattle.model.specs.Changing.{changeTree}
 use Rattle.line.specs.Line.{movesIn}
-use Rattle.promises.specs.Layout.{sizeIn, dimensionIn, numberIn, costsIn, boardIn, lineFrom, lineIn}
+use Rattle.promises.specs.Layout.{sizeIn, dimensionIn, numberIn, costsIn, lineFrom, lineIn}
 use Rattle.promises.specs.Sound.{Stands}
-use Rattle.promises.specs.Answers.{answerOf}
-use Rattle.promises.specs.declared.Verdict.{Verdict}
 use Rattle.memory.specs.Frame.{MovesOnly}
 use Rattle.dominance.specs.declared.Move.{Move}
 use Rattle.upkeep.specs.Change.{ChangeAsked, Upkept, movesAfter}
-use Rattle.upkeep.specs.declared.change.Change.{Change}
-use Rattle.upkeep.specs.declared.change.Upkeep.{Upkeep}
-
--- The refusal of a change, 3 and 8 apart.
-pub record Judges (x : calls.Change) (m : List ℕ) (r : Verdict) : Type 0 where
-  pub is : answerOf r ≡ refusedWith (changeRefusal (boardIn m) x)
+use Rattle.upkeep.specs.declared.exchange.Exchange.{Exchange}
+use Rattle.upkeep.specs.declared.exchange.Upkeep.{Upkeep}
 
 unfoldable pub neededRows : Upkeep → ℕ
 neededRows u = u .left + u .entered + cond (u .listed) 1 0
@@ -35,11 +29,11 @@ pub record Counted (u : Upkeep) : Type 0 where
   pub entered : u .entered ≤ 4096
 
 -- A move that comes for one that goes has other costs.
-pub record Other (c d n : ℕ) (k : Change) (m : List ℕ) : Type 0 where
+pub record Other (c d n : ℕ) (k : Exchange) (m : List ℕ) : Type 0 where
   pub costs : k .comes ≡ true → k .goes < n → costsIn c d m (numberIn c m (k .goes)) ≡ k .coming .costs → ⊥
 
 -- The notice of the change, by the lists before and after it.
-unfoldable pub noticeBy : ℕ → ℕ → ℕ → Change → List ℕ → List Row
+unfoldable pub noticeBy : ℕ → ℕ → ℕ → Exchange → List ℕ → List Row
 noticeBy c d n k m =
     let ms = movesIn (lineFrom c d n m) in
     noticeOf (skyline d ms) (skyline d (movesAfter d k ms))
@@ -64,7 +58,7 @@ abbrev pub RecostMade : model.Move → List ℕ → List ℕ → Type 0
 RecostMade x m m' = (block : ℕ) → Made (calls.recost (x .number) block (x .costs)) m m'
 
 -- A move comes and none goes; one goes and none comes; one comes for the one that goes, with other costs.
-abbrev pub entering : ℕ → Move → Change
+abbrev pub entering : ℕ → Move → Exchange
 entering n x = record { goes = n; comes = true; coming = x }
 
 pub record ToEnter (c d n : ℕ) (x : Move) (u : Upkeep) (m : List ℕ) : Type 0 where

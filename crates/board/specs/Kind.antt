@@ -4,18 +4,24 @@ use mathlib.Core.Bool.{Bool, true, false}
 use mathlib.Core.List.{List}
 use mathlib.Core.Path.{_≡_}
 use Rattle.model.specs.Calls as calls
-use Rattle.model.specs.Calls.{Board, onBoard, changeRefusal, refusedWith}
-use Rattle.promises.specs.Answers.{answerOf}
-use Rattle.promises.specs.declared.Verdict.{Verdict}
+use Rattle.model.specs.Calls.{Board, onBoard, changeRefusal}
+use Rattle.promises.specs.Answers.{outcomeNumber}
+use Rattle.promises.specs.declared.Outcome.{Outcome}
 use Rattle.dominance.specs.declared.Move.{Move}
 use Rattle.memory.specs.declared.sound.Head.{Head}
-use Rattle.board.specs.declared.judge.Kind.{Kind}
-use Rattle.board.specs.declared.judge.Kind.the-variants.{Enter, Withdraw, Recost}
+use Rattle.upkeep.specs.declared.exchange.Exchange.{Exchange}
+use Rattle.board.specs.declared.change.Change.{Change}
+use Rattle.board.specs.declared.change.Kind.{Kind}
+use Rattle.board.specs.declared.change.Kind.the-variants.{Enter, Withdraw, Recost}
 
 unfoldable pub changeOf : Kind → ℕ → ℕ → List ℕ → calls.Change
 changeOf Enter number block costs = calls.enter number block costs
 changeOf Withdraw number block costs = calls.withdraw number
 changeOf Recost number block costs = calls.recost number block costs
+
+-- The change that is asked for.
+abbrev pub callOf : Change → calls.Change
+callOf x = changeOf (x .kind) (x .number) (x .block) (x .costs)
 
 unfoldable pub comes : Kind → Bool
 comes Enter = true
@@ -27,11 +33,18 @@ isNew Enter = true
 isNew Withdraw = false
 isNew Recost = false
 
+-- The move that comes, and the exchange of moves where that at a place goes.
+abbrev pub comingOf : Change → Move
+comingOf x = record { number = x .number; costs = x .costs }
+
+abbrev pub exchangeOf : Change → ℕ → Exchange
+exchangeOf x goes = record { goes = goes; comes = comes (x .kind); coming = comingOf x }
+
 -- The refusal, 3 and 8 apart, on each board with this head where the number is or is not on the board.
-pub record JudgesBy (kind : Kind) (h : Head) (x : Move) (block : ℕ) (on : Bool) (r : Verdict) : Type 0 where
+pub record JudgesBy (h : Head) (x : Change) (on : Bool) (r : Outcome) : Type 0 where
   pub is :
       (b : Board)
       → b .size ≡ h .size
       → b .dimension ≡ h .dimension
       → onBoard (x .number) (b .moves) ≡ on
-      → answerOf r ≡ refusedWith (changeRefusal b (changeOf kind (x .number) block (x .costs)))
+      → outcomeNumber r ≡ changeRefusal b (callOf x)

@@ -1,14 +1,18 @@
 // The change itself, made on sound memory: no rows and no 8.
+use crate::change::Kind;
+use crate::change::comes;
+use crate::change::coming_of;
+use crate::plan::ChangePlan;
 use dominance::Move;
 use memory::Head;
 use memory::set_block;
 use memory::set_costs;
 use memory::set_count;
 use memory::set_listed;
+use promises::accepts;
 use tree::enter_line;
 use tree::with_rows;
 use tree::withdraw_line;
-use upkeep::Plan;
 use upkeep::Upkeep;
 use upkeep::set_marks;
 ghost use Rattle.dominance.specs.Move.{asMove};
@@ -53,36 +57,38 @@ fn make_recost(m: &mut [u8], h: Head, p: usize, x: Move, u: Upkeep)
 }
 
 // The change of moves that the plan makes, if any.
-fn make_moves(m: &mut [u8], p: Plan)
-    requires { ⌜ plan.Able p (now m) ⌝ }
+fn make_moves(m: &mut [u8], p: ChangePlan)
+    requires { ⌜ plan.Ready p (now m) ⌝ }
     ensures { λ _. ⌜ plan.MovesMade p (now (m .entry)) (now (m .exit)) ⌝ }
 {
     if !p.makes {
         return;
     }
-    let t = p.telling;
-    let h = t.head;
-    let x = t.coming;
-    let u = t.upkeep;
-    if !p.comes {
-        make_withdraw(m, h, p.goes, u);
-        return;
+    let h = p.head;
+    let change = p.change;
+    let u = p.upkeep;
+    let x = coming_of(change);
+    let kind = change.kind;
+    match kind {
+        Kind::Enter => make_enter(m, h, x, u),
+        Kind::Withdraw => make_withdraw(m, h, p.goes, u),
+        Kind::Recost => make_recost(m, h, p.goes, x, u),
     }
-    if p.goes < h.count {
-        make_recost(m, h, p.goes, x, u);
-        return;
-    }
-    make_enter(m, h, x, u);
 }
 
-// What the plan makes, if anything: the moves, then the block.
-pub fn carry_out(m: &mut [u8], p: Plan)
+// What an accepted plan makes: the moves, then the block. A refused one makes nothing.
+pub fn carry_out(m: &mut [u8], p: ChangePlan)
     requires { ⌜ plan.Able p (now m) ⌝ }
     ensures { λ _. ⌜ plan.CarriedOut p (now (m .entry)) (now (m .exit)) ⌝ }
 {
+    let verdict = p.verdict;
+    if !accepts(verdict) {
+        return;
+    }
     make_moves(m, p);
-    let g = p.given;
-    if g.gives {
-        set_block(m, g.size, g.number, g.block);
+    let change = p.change;
+    let kind = change.kind;
+    if comes(kind) {
+        set_block(m, p.head.size, change.number, change.block);
     }
 }

@@ -1,39 +1,45 @@
 -- The exported calls keep the promises of `promises`, with rows as structs and the verdict by number and detail.
-use Prim.Native.Nat.{ℕ, _<_, _≤_}
+use Prim.Native.Nat.{ℕ, _+_, _<_, _≤_}
 use mathlib.Core.List.{List, map}
 use mathlib.Core.Path.{_≡_}
-use lib.ListN.{length}
+use lib.ListN.{length, replicate}
 use Rattle.model.specs.Moves as model
 use Rattle.model.specs.Calls as calls
-use Rattle.promises.specs.Answers.{numberOf, detailOf, resultRow}
+use Rattle.promises.specs.Answers.{numberOf, counted, resultRow}
 use Rattle.promises.specs.Promise.{LoadPromise, ChangePromise, PreviewPromise, QueryPromise}
 use Rattle.promises.specs.declared.Answer as said
 use Rattle.promises.specs.declared.Verdict.{Verdict}
-use Rattle.upkeep.specs.Telling.{TellingAsked, filledRows}
+use Rattle.zorder.specs.Address.{rowCosts}
+use Rattle.rows.specs.Telling.{TellingAsked, filledRows}
 use Rattle.rows.specs.Rows.{rowNumbers}
-use Rattle.rows.specs.declared.Row.{Row}
-use Rattle.board.specs.Plan.{Able, CarriedOut}
-use Rattle.upkeep.specs.declared.plan.Plan.{Plan}
+use Rattle.rows.specs.declared.row.Row.{Row}
+use Rattle.board.specs.Plan.{leftOf, enteredOf}
+use Rattle.board.specs.declared.change.Change.{Change}
+use Rattle.board.specs.declared.change.Kind.the-variants.{Enter, Withdraw, Recost}
+use Rattle.board.specs.declared.plan.ChangePlan.{ChangePlan}
 use Rattle.dolzhev.specs.declared.answer.Answer.{Answer}
 use Rattle.dolzhev.specs.declared.answer.Move.{Move}
 
--- A verdict handed on: its number and detail, and what is told.
-pub record Handed (v : Verdict) (told nodes : ℕ) (r : Answer) : Type 0 where
+-- A verdict handed on: its number and detail, and what is told, zero of a refused call.
+pub record Handed (v : Verdict) (need nodes : ℕ) (r : Answer) : Type 0 where
   pub refusal : r .refusal ≡ numberOf v
-  pub detail : r .detail ≡ detailOf v
-  pub count : r .count ≡ told
-  pub opened : r .opened ≡ nodes
+  pub detail : r .detail ≡ v .detail
+  pub count : r .count ≡ counted (numberOf v) need
+  pub opened : r .opened ≡ counted (numberOf v) nodes
 
 -- Lent rows as the definitions speak of them.
 unfoldable pub rowsOf : List Row → List model.Row
 rowsOf rows = map resultRow (map rowNumbers rows)
 
--- The changes that are given a move.
-abbrev pub entering : Move → calls.Change
-entering given = calls.enter (given .number) (given .block) (given .costs)
+-- What the changes are asked, from what the calls are given.
+abbrev pub entering : Move → Change
+entering given = record { kind = Enter; number = given .number; block = given .block; costs = given .costs }
 
-abbrev pub recosting : Move → calls.Change
-recosting given = calls.recost (given .number) (given .block) (given .costs)
+abbrev pub withdrawing : ℕ → Change
+withdrawing number = record { kind = Withdraw; number = number; block = 0; costs = replicate rowCosts 0 }
+
+abbrev pub recosting : Move → Change
+recosting given = record { kind = Recost; number = given .number; block = given .block; costs = given .costs }
 
 -- ---- what is promised
 
@@ -57,14 +63,18 @@ PreviewExported x m lent r lent' = AnswerExported (λ a. PreviewPromise x m lent
 abbrev pub QueryExported : calls.Query → List ℕ → List model.Row → Answer → List model.Row → Type 0
 QueryExported q m lent r lent' = AnswerExported (λ a. QueryPromise q m lent a lent') r
 
--- ---- a plan told and carried out
+-- ---- the notice of a planned change
 
-pub record DoneAsked (p : Plan) (m : List ℕ) (lent : List Row) : Type 0 where
-  pub asked : 0 < p .count → TellingAsked (p .telling) m
-  pub enough : p .count ≤ length lent
-  pub able : Able p m
+-- What telling asks of a plan.
+pub record TellAsked (p : ChangePlan) (m : List ℕ) (lent : List Row) : Type 0 where
+  pub left : 0 < leftOf p .count → TellingAsked (leftOf p .told) m
+  pub entered : 0 < enteredOf p .count → TellingAsked (enteredOf p .told) m
+  pub within : p .upkeep .left ≤ p .need
+  pub enough : leftOf p .count + enteredOf p .count ≤ length lent
 
-pub record Done (p : Plan) (m : List ℕ) (lent : List Row) (r : Answer) (m' : List ℕ) (lent' : List Row) : Type 0 where
-  pub tells : map rowNumbers lent' ≡ filledRows (p .telling) m (p .count) (map rowNumbers lent)
-  pub out : CarriedOut p m m'
-  pub handed : Handed (p .verdict) (p .count) (p .opened) r
+-- First the rows that leave are put, then those that enter.
+abbrev pub Noticed : ChangePlan → List ℕ → List Row → List Row → Type 0
+Noticed p m lent lent' =
+    map rowNumbers lent'
+    ≡ filledRows (enteredOf p .told) (enteredOf p .numbers) m (leftOf p .count) (enteredOf p .count)
+    (filledRows (leftOf p .told) (leftOf p .numbers) m 0 (leftOf p .count) (map rowNumbers lent))

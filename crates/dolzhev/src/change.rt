@@ -2,46 +2,45 @@
 use crate::answer::Answer;
 use crate::answer::Move;
 use crate::answer::handed;
-use crate::plans::plan_entering;
-use crate::plans::plan_recosting;
+use crate::asked::entering;
+use crate::asked::recosting;
+use crate::asked::withdrawing;
+use crate::notice::tell;
+use board::Change;
 use board::carry_out;
-use board::plan_withdraw;
+use board::plan_change;
 use rows::Row;
-use rows::fill;
-use upkeep::Plan;
-ghost use Rattle.model.specs.Calls.{withdraw};
-ghost use Rattle.dolzhev.specs.Exported.{entering, recosting, rowsOf, ChangeExported, DoneAsked, Done};
+ghost use Rattle.board.specs.Kind.{callOf};
+ghost use Rattle.dolzhev.specs.Exported as spec;
+ghost use Rattle.dolzhev.specs.Exported.{rowsOf, ChangeExported};
 
-// A plan told and carried out.
-pub fn done(memory: &mut [u8], p: Plan, rows: &mut [Row]) -> Answer
-    requires { ⌜ DoneAsked p (now memory) (now rows) ⌝ }
-    ensures { λ r. ⌜ Done p (now (memory .entry)) (now (rows .entry)) r (now (memory .exit)) (now (rows .exit)) ⌝ }
+// A change planned, told and carried out.
+pub fn change(memory: &mut [u8], x: Change, rows: &mut [Row]) -> Answer
+    ensures { λ r. ⌜ ChangeExported (callOf x) (now (memory .entry)) (rowsOf (now (rows .entry))) r (now (memory .exit)) (rowsOf (now (rows .exit))) ⌝ }
 {
-    fill(rows, memory, p.telling, p.count);
+    let p = plan_change(memory, x, rows.len());
+    tell(rows, memory, p);
     carry_out(memory, p);
-    handed(p.verdict, p.count, p.opened)
+    handed(p.verdict, p.need, p.opened)
 }
 
 #[no_mangle]
 pub extern "C" fn dolzhev_enter(memory: &mut [u8], given: Move, rows: &mut [Row]) -> Answer
-    ensures { λ r. ⌜ ChangeExported (entering given) (now (memory .entry)) (rowsOf (now (rows .entry))) r (now (memory .exit)) (rowsOf (now (rows .exit))) ⌝ }
+    ensures { λ r. ⌜ ChangeExported (callOf (spec.entering given)) (now (memory .entry)) (rowsOf (now (rows .entry))) r (now (memory .exit)) (rowsOf (now (rows .exit))) ⌝ }
 {
-    let p = plan_entering(memory, given, rows.len());
-    done(memory, p, rows)
+    change(memory, entering(given), rows)
 }
 
 #[no_mangle]
 pub extern "C" fn dolzhev_withdraw(memory: &mut [u8], number: u16, rows: &mut [Row]) -> Answer
-    ensures { λ r. ⌜ ChangeExported (withdraw number) (now (memory .entry)) (rowsOf (now (rows .entry))) r (now (memory .exit)) (rowsOf (now (rows .exit))) ⌝ }
+    ensures { λ r. ⌜ ChangeExported (callOf (spec.withdrawing number)) (now (memory .entry)) (rowsOf (now (rows .entry))) r (now (memory .exit)) (rowsOf (now (rows .exit))) ⌝ }
 {
-    let p = plan_withdraw(memory, number, rows.len());
-    done(memory, p, rows)
+    change(memory, withdrawing(number), rows)
 }
 
 #[no_mangle]
 pub extern "C" fn dolzhev_recost(memory: &mut [u8], given: Move, rows: &mut [Row]) -> Answer
-    ensures { λ r. ⌜ ChangeExported (recosting given) (now (memory .entry)) (rowsOf (now (rows .entry))) r (now (memory .exit)) (rowsOf (now (rows .exit))) ⌝ }
+    ensures { λ r. ⌜ ChangeExported (callOf (spec.recosting given)) (now (memory .entry)) (rowsOf (now (rows .entry))) r (now (memory .exit)) (rowsOf (now (rows .exit))) ⌝ }
 {
-    let p = plan_recosting(memory, given, rows.len());
-    done(memory, p, rows)
+    change(memory, recosting(given), rows)
 }

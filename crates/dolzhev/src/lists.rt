@@ -16,8 +16,8 @@ pub extern "C" fn dolzhev_list(memory: &[u8], rows: &mut [Row]) -> Answer
     ensures { λ r. ⌜ QueryExported list (now (memory .entry)) (rowsOf (now (rows .entry))) r (rowsOf (now (rows .exit))) ⌝ }
 {
     let p = plan_list(memory, rows.len());
-    fill(rows, memory, p.telling, p.count);
-    handed(p.verdict, p.count, p.opened)
+    fill(rows, memory, p.telling, 0);
+    handed(p.verdict, p.need, p.opened)
 }
 
 // Band (Definition 3): the moves that b others or fewer dominate.
@@ -26,8 +26,8 @@ pub extern "C" fn dolzhev_band(memory: &[u8], b: usize, rows: &mut [Row]) -> Ans
     ensures { λ r. ⌜ QueryExported (bandQuery b) (now (memory .entry)) (rowsOf (now (rows .entry))) r (rowsOf (now (rows .exit))) ⌝ }
 {
     let p = plan_band(memory, b, rows.len());
-    fill(rows, memory, p.telling, p.count);
-    handed(p.verdict, p.count, p.opened)
+    fill(rows, memory, p.telling, 0);
+    handed(p.verdict, p.need, p.opened)
 }
 
 // On k (Definition 6): the moves that none dominates on k of the costs.
@@ -36,8 +36,8 @@ pub extern "C" fn dolzhev_on_k(memory: &[u8], k: usize, rows: &mut [Row]) -> Ans
     ensures { λ r. ⌜ QueryExported (onKQuery k) (now (memory .entry)) (rowsOf (now (rows .entry))) r (rowsOf (now (rows .exit))) ⌝ }
 {
     let p = plan_on_k(memory, k, rows.len());
-    fill(rows, memory, p.telling, p.count);
-    handed(p.verdict, p.count, p.opened)
+    fill(rows, memory, p.telling, 0);
+    handed(p.verdict, p.need, p.opened)
 }
 
 // Chosen costs (Definition 8): the moves that none dominates on them. Bit i of the set stands for cost i.
@@ -46,6 +46,6 @@ pub extern "C" fn dolzhev_chosen(memory: &[u8], set: usize, rows: &mut [Row]) ->
     ensures { λ r. ⌜ QueryExported (chosenQuery set) (now (memory .entry)) (rowsOf (now (rows .entry))) r (rowsOf (now (rows .exit))) ⌝ }
 {
     let p = plan_chosen(memory, set, rows.len());
-    fill(rows, memory, p.telling, p.count);
-    handed(p.verdict, p.count, p.opened)
+    fill(rows, memory, p.telling, 0);
+    handed(p.verdict, p.need, p.opened)
 }

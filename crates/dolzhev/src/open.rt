@@ -21,6 +21,6 @@ pub extern "C" fn dolzhev_hours(
     ensures { λ r. ⌜ QueryExported (hoursQuery minute (map blockHours (now (hours .entry)))) (now (memory .entry)) (rowsOf (now (rows .entry))) r (rowsOf (now (rows .exit))) ⌝ }
 {
     let p = plan_hours(memory, minute, hours, rows.len());
-    fill(rows, memory, p.telling, p.count);
-    handed(p.verdict, p.count, p.opened)
+    fill(rows, memory, p.telling, 0);
+    handed(p.verdict, p.need, p.opened)
 }

@@ -2,7 +2,7 @@
 use crate::answer::Answer;
 use crate::answer::handed;
 use query::rank;
-use upkeep::ROW;
+use rows::ROW;
 ghost use mathlib.Core.List.{map};
 ghost use Rattle.model.specs.Calls.{rankQuery};
 ghost use Rattle.promises.specs.Answers.{resultRow};

@@ -2,14 +2,17 @@
 use crate::text::put_byte;
 use crate::text::put_told;
 use crate::text::put_word;
-use promises::detail_of;
+use board::ChangePlan;
+use board::entered_of;
+use board::left_of;
+use promises::Verdict;
 use promises::number_of;
-use upkeep::Plan;
+use rows::Plan;
 ghost use mathlib.Core.Path.{_≡_};
 ghost use Prim.Native.Nat.{_+_, _%_, _≤_};
 ghost use lib.ListN.{length};
 ghost use Rattle.framing.specs.Text.{refused, answerText};
-ghost use Rattle.framing.specs.Writing.{TextPut, TextRoom, headText, openedText, planSaid};
+ghost use Rattle.framing.specs.Writing.{TextPut, headText, ListRoom, ChangeRoom, loadSaid, listSaid, changeSaid};
 
 // A number in two bytes.
 fn two_bytes(n: usize) -> u16
@@ -37,31 +40,47 @@ pub fn put_refusal(out: &mut [u8], number: u8, detail: usize) -> usize
     end + 1
 }
 
-// The nodes opened, which only a list has.
-fn put_opened(out: &mut [u8], at: usize, lists: bool, opened: usize) -> usize
-    requires { ⌜ at + 4 ≤ length (now out) ⌝ }
-    ensures { λ r. ⌜ TextPut (openedText lists opened) (now (out .entry)) at (now (out .exit)) r ⌝ }
+// What a load says: it tells no row.
+pub fn put_loaded(out: &mut [u8], verdict: Verdict) -> usize
+    requires { ⌜ 7 ≤ length (now out) ⌝ }
+    ensures { λ n. ⌜ TextPut (answerText 0 (loadSaid verdict)) (now (out .entry)) 0 (now (out .exit)) n ⌝ }
 {
-    if lists {
-        return put_word(out, at, two_bytes(opened));
-    }
-    at
+    let end = put_head(out, number_of(verdict), verdict.detail);
+    out[end] = b'\n';
+    end + 1
 }
 
-// What a call says, of a list or of a change, with the rows that it tells.
-pub fn put_plan(out: &mut [u8], m: &[u8], d: usize, lists: bool, p: Plan) -> usize
-    requires { ⌜ TextRoom d 10 (p .count) (p .telling) (now m) (now out) ⌝ }
-    ensures { λ n. ⌜ TextPut (answerText d (planSaid lists p (now (m .entry)))) (now (out .entry)) 0 (now (out .exit)) n ⌝ }
+// What a list says, with the nodes opened and its rows.
+pub fn put_list(out: &mut [u8], m: &[u8], d: usize, p: Plan) -> usize
+    requires { ⌜ ListRoom d p (now m) (now out) ⌝ }
+    ensures { λ n. ⌜ TextPut (answerText d (listSaid p (now (m .entry)))) (now (out .entry)) 0 (now (out .exit)) n ⌝ }
 {
     let verdict = p.verdict;
     let telling = p.telling;
     let number = number_of(verdict);
     if number != 0 {
-        return put_refusal(out, number, detail_of(verdict));
+        return put_refusal(out, number, verdict.detail);
     }
-    let opened_at = put_head(out, 0, p.count);
-    let rows_at = put_opened(out, opened_at, lists, p.opened);
-    let end = put_told(out, rows_at, d, m, telling, p.count);
+    let opened_at = put_head(out, 0, p.need);
+    let rows_at = put_word(out, opened_at, two_bytes(p.opened));
+    let end = put_told(out, rows_at, d, m, telling);
+    out[end] = b'\n';
+    end + 1
+}
+
+// What a change says, with its notice.
+pub fn put_change(out: &mut [u8], m: &[u8], d: usize, p: ChangePlan) -> usize
+    requires { ⌜ ChangeRoom d p (now m) (now out) ⌝ }
+    ensures { λ n. ⌜ TextPut (answerText d (changeSaid p (now (m .entry)))) (now (out .entry)) 0 (now (out .exit)) n ⌝ }
+{
+    let verdict = p.verdict;
+    let number = number_of(verdict);
+    if number != 0 {
+        return put_refusal(out, number, verdict.detail);
+    }
+    let left_at = put_head(out, 0, p.need);
+    let entered_at = put_told(out, left_at, d, m, left_of(p));
+    let end = put_told(out, entered_at, d, m, entered_of(p));
     out[end] = b'\n';
     end + 1
 }

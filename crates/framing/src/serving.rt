@@ -5,18 +5,18 @@ use crate::frame::Frame;
 use crate::frame::Kind;
 use crate::frame::frame_of;
 use crate::reading::Line;
-use crate::said::put_plan;
+use crate::said::put_change;
+use crate::said::put_list;
+use crate::said::put_loaded;
 use crate::said::put_refusal;
+use board::Change;
+use board::ChangePlan;
 use board::carry_out;
-use board::plan_enter;
-use board::plan_recost;
-use board::plan_withdraw;
+use board::plan_change;
 use listing::plan_list;
 use loading::INPUT;
 use loading::load;
 use promises::number_of;
-use upkeep::Plan;
-use upkeep::nothing;
 ghost use Rattle.framing.specs.Frames as frames;
 ghost use Rattle.framing.specs.Serving.{HoldsState, Lent, CallAsked, Served, ChangedAsked, PlanServed, ChangePlan, Answers};
 
@@ -34,7 +34,7 @@ fn loaded(m: &mut [u8], d: usize, asked: usize, out: &mut [u8]) -> Response
 {
     let none = [[0u16; INPUT]; 0];
     let verdict = load(m, SIZE, asked, &none);
-    let count = put_plan(out, m, d, false, nothing(verdict));
+    let count = put_loaded(out, verdict);
     if number_of(verdict) == 0 {
         return Response {
             count,
@@ -48,11 +48,12 @@ fn loaded(m: &mut [u8], d: usize, asked: usize, out: &mut [u8]) -> Response
 }
 
 // A change told, then made: its rows are read from the board as it was.
-fn changed(m: &mut [u8], d: usize, p: Plan, out: &mut [u8]) -> usize
-    requires { ⌜ ChangedAsked d p (now m) (now out) ⌝ }
-    ensures { λ r. ⌜ PlanServed d p (now (m .entry)) (now (out .entry)) r (now (m .exit)) (now (out .exit)) ⌝ }
+fn change(m: &mut [u8], d: usize, x: Change, out: &mut [u8]) -> usize
+    requires { ⌜ CallAsked d (now m) (now out) ⌝ }
+    ensures { λ r. ⌜ ChangeServed d x (now (m .entry)) (now (out .entry)) r (now (m .exit)) (now (out .exit)) ⌝ }
 {
-    let count = put_plan(out, m, d, false, p);
+    let p = plan_change(m, x, ROWS);
+    let count = put_change(out, m, d, p);
     carry_out(m, p);
     count
 }
@@ -61,19 +62,19 @@ fn listed(m: &[u8], d: usize, out: &mut [u8]) -> usize
     requires { ⌜ CallAsked d (now m) (now out) ⌝ }
     ensures { λ r. ⌜ Served d frames.list (now (m .entry)) (now (out .entry)) r d (now (m .entry)) (now (out .exit)) ⌝ }
 {
-    put_plan(out, m, d, true, plan_list(m, ROWS))
+    put_list(out, m, d, plan_list(m, ROWS))
 }
 
-// The plan of a frame of a change, in block 0; of any other frame a plan that is not used.
-fn change_plan(m: &[u8], f: Frame) -> Plan
-    ensures { λ r. ⌜ ChangePlan f (now (m .entry)) r ⌝ }
+// What a frame of a change asks, in block 0.
+fn asked(kind: board::Kind, f: Frame) -> Change
+    ensures { λ r. ⌜ r ≡ askedBy kind f ⌝ }
 {
-    let kind = f.kind;
     let costs = f.costs;
-    match kind {
-        Kind::Enter => plan_enter(m, f.number, 0, costs, ROWS),
-        Kind::Withdraw => plan_withdraw(m, f.number, ROWS),
-        _ => plan_recost(m, f.number, 0, costs, ROWS),
+    Change {
+        kind,
+        number: f.number,
+        block: 0,
+        costs,
     }
 }
 
@@ -90,10 +91,9 @@ pub fn answer(m: &mut [u8], d: usize, line: Line, out: &mut [u8]) -> Response
         Kind::List => listed(m, d, out),
         Kind::Early => put_refusal(out, 3, 0),
         Kind::Wrong => put_refusal(out, 9, 0),
-        Kind::Enter | Kind::Withdraw | Kind::Recost => {
-            let p = change_plan(m, f);
-            changed(m, d, p, out)
-        }
+        Kind::Enter => change(m, d, asked(board::Kind::Enter, f), out),
+        Kind::Withdraw => change(m, d, asked(board::Kind::Withdraw, f), out),
+        Kind::Recost => change(m, d, asked(board::Kind::Recost, f), out),
     };
     Response {
         count,

@@ -23,7 +23,7 @@ ghost use Rattle.promises.specs.Layout.{numberIn};
 ghost use Rattle.memory.specs.Held.{SoundAt};
 ghost use Rattle.memory.specs.Search.{Corners};
 ghost use Rattle.memory.specs.declared.search.Among.the-variants.{InBlocks};
-ghost use Rattle.upkeep.specs.Planned.{Finds};
+ghost use Rattle.upkeep.specs.Found.{Finds};
 ghost use Rattle.hours.specs.Open.{shownFor};
 
 // Of a move in an open block, a place before it with one that hides it, `last` if that does; its own place i if there is none,

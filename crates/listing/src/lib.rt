@@ -1,20 +1,21 @@
 // List: the list, read off the marks, and the nodes opened. It is planned without writing.
 use memory::Held;
 use memory::sound_head;
-use promises::Verdict;
+use promises::Outcome;
+use rows::Plan;
+use rows::plan_found;
+use rows::refused;
 use tree::nodes_opened;
-use upkeep::Plan;
 use upkeep::find_listed;
-use upkeep::nothing;
-use upkeep::plan_found;
 ghost use Rattle.model.specs.Calls.{list};
-ghost use Rattle.upkeep.specs.Planned.{QueryPlanned};
+ghost use Rattle.rows.specs.Planned.{QueryPlanned};
 
+// The plan of a list.
 pub fn plan_list(m: &[u8], lent: usize) -> Plan
     ensures { λ r. ⌜ QueryPlanned list (now (m .entry)) lent r ⌝ }
 {
     let Held::Sound(h) = sound_head(m) else {
-        return nothing(Verdict::Unsound);
+        return refused(Outcome::Unsound, 0);
     };
     let found = find_listed(m, h);
     let opened = nodes_opened(m, h);

@@ -32,6 +32,7 @@ pub use search::corners_of;
 pub use search::fits_at;
 pub use search::in_blocks;
 pub use search::kept;
+pub use search::looks;
 pub use search::next_within;
 pub use search::seen;
 pub use sound::Head;

@@ -36,7 +36,8 @@ pub fn in_blocks(m: &[u8], c: usize, number: u16, blocks: u64) -> bool
     (blocks >> (block_of(m, c, number) % 64)) & 1 == 1
 }
 
-fn looks(m: &[u8], c: usize, number: u16, among: Among) -> bool
+// Whether a search looks at the move of a number.
+pub fn looks(m: &[u8], c: usize, number: u16, among: Among) -> bool
     requires { ⌜ Room c (now m) × (number < c) ⌝ }
     ensures { λ r. ⌜ r ≡ spec.looks among c (now (m .entry)) number ⌝ }
 {

@@ -1,4 +1,4 @@
--- Document 01's number and detail for each verdict, and what lent rows hold.
+-- Document 01's number of each outcome, and what lent rows hold.
 use Prim.Native.Nat.{ℕ, zero, suc, _+_, _*_}
 use mathlib.Core.List.{List, [], _∷_, _++_}
 use lib.ListN.{length, getD, drop}
@@ -6,36 +6,34 @@ use Rattle.model.specs.Moves.{InputRow, Row}
 use Rattle.model.specs.Hours.{Window, Hours}
 use Rattle.model.specs.Calls as calls
 use Rattle.promises.specs.declared.Verdict.{Verdict}
-use Rattle.promises.specs.declared.Verdict.the-variants.{Accepted, ShortMemory, OutOfRange, Unsound, NumberTooLarge, NumberTwice, NumberAbsent, BadArgument, FewRows, BlockTooLarge, BadHours}
+use Rattle.promises.specs.declared.Outcome.{Outcome}
+use Rattle.promises.specs.declared.Outcome.the-variants.{Accepted, ShortMemory, OutOfRange, Unsound, NumberTooLarge, NumberTwice, NumberAbsent, BadArgument, FewRows, BlockTooLarge, BadHours}
 
-unfoldable pub numberOf : Verdict → ℕ
-numberOf Accepted = 0
-numberOf ShortMemory = 1
-numberOf OutOfRange = 2
-numberOf Unsound = 3
-numberOf (NumberTooLarge place) = 4
-numberOf (NumberTwice place) = 5
-numberOf NumberAbsent = 6
-numberOf (BadArgument place) = 7
-numberOf (FewRows need) = 8
-numberOf (BlockTooLarge place) = 11
-numberOf (BadHours block) = 12
+unfoldable pub outcomeNumber : Outcome → ℕ
+outcomeNumber Accepted = 0
+outcomeNumber ShortMemory = 1
+outcomeNumber OutOfRange = 2
+outcomeNumber Unsound = 3
+outcomeNumber NumberTooLarge = 4
+outcomeNumber NumberTwice = 5
+outcomeNumber NumberAbsent = 6
+outcomeNumber BadArgument = 7
+outcomeNumber FewRows = 8
+outcomeNumber BlockTooLarge = 11
+outcomeNumber BadHours = 12
 
-unfoldable pub detailOf : Verdict → ℕ
-detailOf Accepted = 0
-detailOf ShortMemory = 0
-detailOf OutOfRange = 0
-detailOf Unsound = 0
-detailOf (NumberTooLarge place) = place
-detailOf (NumberTwice place) = place
-detailOf NumberAbsent = 0
-detailOf (BadArgument place) = place
-detailOf (FewRows need) = need
-detailOf (BlockTooLarge place) = place
-detailOf (BadHours block) = block
+abbrev pub numberOf : Verdict → ℕ
+numberOf v = outcomeNumber (v .outcome)
 
-unfoldable pub answerOf : Verdict → calls.Answer
-answerOf v = record { number = numberOf v; detail = detailOf v }
+abbrev pub answerOf : Verdict → calls.Answer
+answerOf v = record { number = numberOf v; detail = v .detail }
+
+-- The verdicts by their outcome and detail.
+abbrev pub acceptedVerdict : Verdict
+acceptedVerdict = record { outcome = Accepted; detail = 0 }
+
+abbrev pub refusedBy : Outcome → ℕ → Verdict
+refusedBy o detail = record { outcome = o; detail = detail }
 
 -- A row in memory as numbers: for load the number, the block and the costs, for a result a mark, the number and the costs.
 unfoldable pub inputRow : List ℕ → InputRow

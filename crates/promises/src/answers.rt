@@ -1,40 +1,57 @@
-// Document 01's number and detail of a verdict, for those who print or hand on an answer.
+// What is read off a verdict, and the verdict on the rows lent.
+use crate::Outcome;
 use crate::Verdict;
 ghost use mathlib.Core.Path.{_≡_};
-ghost use Rattle.promises.specs.Answers.{numberOf, detailOf};
+ghost use lib.Dec.{eqb};
+ghost use Rattle.model.specs.Calls.{rowsAnswer};
+ghost use Rattle.promises.specs.Answers as spec;
 
+// Document 01's number of a verdict.
 pub fn number_of(verdict: Verdict) -> u8
-    ensures { λ r. ⌜ r ≡ numberOf verdict ⌝ }
+    ensures { λ r. ⌜ r ≡ spec.numberOf verdict ⌝ }
 {
-    match verdict {
-        Verdict::Accepted => 0,
-        Verdict::ShortMemory => 1,
-        Verdict::OutOfRange => 2,
-        Verdict::Unsound => 3,
-        Verdict::NumberTooLarge(_) => 4,
-        Verdict::NumberTwice(_) => 5,
-        Verdict::NumberAbsent => 6,
-        Verdict::BadArgument(_) => 7,
-        Verdict::FewRows(_) => 8,
-        Verdict::BlockTooLarge(_) => 11,
-        Verdict::BadHours(_) => 12,
+    let outcome = verdict.outcome;
+    match outcome {
+        Outcome::Accepted => 0,
+        Outcome::ShortMemory => 1,
+        Outcome::OutOfRange => 2,
+        Outcome::Unsound => 3,
+        Outcome::NumberTooLarge => 4,
+        Outcome::NumberTwice => 5,
+        Outcome::NumberAbsent => 6,
+        Outcome::BadArgument => 7,
+        Outcome::FewRows => 8,
+        Outcome::BlockTooLarge => 11,
+        Outcome::BadHours => 12,
     }
 }
 
-pub fn detail_of(verdict: Verdict) -> usize
-    ensures { λ r. ⌜ r ≡ detailOf verdict ⌝ }
+// Whether a verdict accepts the call.
+pub fn accepts(verdict: Verdict) -> bool
+    ensures { λ r. ⌜ r ≡ eqb (spec.numberOf verdict) 0 ⌝ }
 {
-    match verdict {
-        Verdict::Accepted => 0,
-        Verdict::ShortMemory => 0,
-        Verdict::OutOfRange => 0,
-        Verdict::Unsound => 0,
-        Verdict::NumberTooLarge(place) => place,
-        Verdict::NumberTwice(place) => place,
-        Verdict::NumberAbsent => 0,
-        Verdict::BadArgument(place) => place,
-        Verdict::FewRows(need) => need,
-        Verdict::BlockTooLarge(place) => place,
-        Verdict::BadHours(block) => block,
+    number_of(verdict) == 0
+}
+
+// What a call with this verdict tells of a count: a refused one tells zero.
+pub fn counted(verdict: Verdict, n: usize) -> usize
+    ensures { λ r. ⌜ r ≡ spec.counted (spec.numberOf verdict) n ⌝ }
+{
+    if accepts(verdict) { n } else { 0 }
+}
+
+// Refusal 8, if more rows are needed than lent.
+pub fn enough(need: usize, lent: usize) -> Verdict
+    ensures { λ r. ⌜ spec.answerOf r ≡ rowsAnswer need lent ⌝ }
+{
+    if lent < need {
+        return Verdict {
+            outcome: Outcome::FewRows,
+            detail: need,
+        };
+    }
+    Verdict {
+        outcome: Outcome::Accepted,
+        detail: 0,
     }
 }

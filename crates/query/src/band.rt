@@ -20,7 +20,7 @@ ghost use Rattle.memory.specs.Held.{SoundAt};
 ghost use Rattle.memory.specs.Room.{Readable};
 ghost use Rattle.memory.specs.Search.{Corners};
 ghost use Rattle.memory.specs.declared.search.Among.the-variants as among;
-ghost use Rattle.upkeep.specs.Planned.{Finds};
+ghost use Rattle.upkeep.specs.Found.{Finds};
 ghost use Rattle.query.specs.Kept as spec;
 ghost use Rattle.query.specs.declared.rule.Rule.the-variants.{All};
 

@@ -4,22 +4,22 @@ use crate::rule::Rule;
 use crate::unbeaten::find_unbeaten;
 use memory::Held;
 use memory::sound_head;
-use promises::Verdict;
-use upkeep::Plan;
-use upkeep::nothing;
-use upkeep::plan_found;
+use promises::Outcome;
+use rows::Plan;
+use rows::plan_found;
+use rows::refused;
 ghost use Rattle.model.specs.Calls.{bandQuery, onKQuery, chosenQuery};
-ghost use Rattle.upkeep.specs.Planned.{QueryPlanned};
+ghost use Rattle.rows.specs.Planned.{QueryPlanned};
 
 // Band (Definition 3): the moves that b others or fewer dominate.
 pub fn plan_band(m: &[u8], b: usize, lent: usize) -> Plan
     ensures { λ r. ⌜ QueryPlanned (bandQuery b) (now (m .entry)) lent r ⌝ }
 {
     let Held::Sound(h) = sound_head(m) else {
-        return nothing(Verdict::Unsound);
+        return refused(Outcome::Unsound, 0);
     };
     if 4095 < b {
-        return nothing(Verdict::BadArgument(0));
+        return refused(Outcome::BadArgument, 0);
     }
     plan_found(h, find_band(m, h, b), 0, lent)
 }
@@ -29,10 +29,10 @@ pub fn plan_on_k(m: &[u8], k: usize, lent: usize) -> Plan
     ensures { λ r. ⌜ QueryPlanned (onKQuery k) (now (m .entry)) lent r ⌝ }
 {
     let Held::Sound(h) = sound_head(m) else {
-        return nothing(Verdict::Unsound);
+        return refused(Outcome::Unsound, 0);
     };
     if k < 1 || h.dimension < k {
-        return nothing(Verdict::BadArgument(0));
+        return refused(Outcome::BadArgument, 0);
     }
     plan_found(h, find_unbeaten(m, h, Rule::OnK(k)), 0, lent)
 }
@@ -42,10 +42,10 @@ pub fn plan_chosen(m: &[u8], set: usize, lent: usize) -> Plan
     ensures { λ r. ⌜ QueryPlanned (chosenQuery set) (now (m .entry)) lent r ⌝ }
 {
     let Held::Sound(h) = sound_head(m) else {
-        return nothing(Verdict::Unsound);
+        return refused(Outcome::Unsound, 0);
     };
     if set == 0 || (1usize << h.dimension) <= set {
-        return nothing(Verdict::BadArgument(0));
+        return refused(Outcome::BadArgument, 0);
     }
     plan_found(h, find_unbeaten(m, h, Rule::Chosen(set)), 0, lent)
 }

@@ -23,7 +23,7 @@ ghost use Rattle.memory.specs.Held.{SoundAt};
 ghost use Rattle.memory.specs.Room.{Readable};
 ghost use Rattle.memory.specs.Search.{First, Some, ListedCorners};
 ghost use Rattle.memory.specs.Tests.{isListed};
-ghost use Rattle.upkeep.specs.Planned.{Finds};
+ghost use Rattle.upkeep.specs.Found.{Finds};
 ghost use Rattle.query.specs.Kept as spec;
 ghost use Rattle.query.specs.Rule.{Fair};
 

@@ -1,3 +1,5 @@
--- A row as numbers; then what is set and read of rows as numbers.
+-- A row as numbers, what is told, and what is planned; then the laws.
 pub mod Rows
+pub mod Telling
+pub mod Planned
 pub mod Laws

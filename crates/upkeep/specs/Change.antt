@@ -26,40 +26,40 @@ use Rattle.memory.specs.declared.search.Among.the-variants.{All}
 use Rattle.memory.specs.declared.sound.Head.{Head}
 use Rattle.dominance.specs.Move.{asMove}
 use Rattle.numbers.specs.Set.{inSet}
-use Rattle.upkeep.specs.declared.change.Change.{Change}
+use Rattle.upkeep.specs.declared.exchange.Exchange.{Exchange}
 use Rattle.upkeep.specs.declared.entering.Entered.{Entered}
-use Rattle.upkeep.specs.declared.change.Upkeep.{Upkeep}
+use Rattle.upkeep.specs.declared.exchange.Upkeep.{Upkeep}
 
 -- The moves after the change: one gone, one come.
 unfoldable pub dropAt : ℕ → List Move → List Move
 dropAt i ms = take i ms ++ drop (suc i) ms
 
-unfoldable pub movesAfter : ℕ → Change → List Move → List Move
+unfoldable pub movesAfter : ℕ → Exchange → List Move → List Move
 movesAfter d k ms = cond (k .comes) (insert d (asMove (k .coming)) (dropAt (k .goes) ms)) (dropAt (k .goes) ms)
 
 -- Whether the move at place i is in the list afterwards.
-unfoldable pub stays : ℕ → ℕ → ℕ → Change → List ℕ → ℕ → Bool
+unfoldable pub stays : ℕ → ℕ → ℕ → Exchange → List ℕ → ℕ → Bool
 stays c d n k m i =
     not (eqb i (k .goes)) && not (hidden d (movesAfter d k (movesIn (lineFrom c d n m))) (moveIn c d m i))
 
 -- Whether a coming move is in the list afterwards.
-abbrev pub comingListed : ℕ → ℕ → ℕ → Change → List ℕ → Bool
+abbrev pub comingListed : ℕ → ℕ → ℕ → Exchange → List ℕ → Bool
 comingListed c d n k m = k .comes && not (hidden d (movesAfter d k (movesIn (lineFrom c d n m))) (asMove (k .coming)))
 
-pub record ChangeAsked (c d n : ℕ) (k : Change) (m : List ℕ) : Type 0 where
+pub record ChangeAsked (c d n : ℕ) (k : Exchange) (m : List ℕ) : Type 0 where
   pub sound : SoundAt c d n m
   pub goes : k .goes ≤ n
   pub fit : k .comes ≡ true → Fit c d (asMove (k .coming))
   pub new : k .comes ≡ true → onBoard (k .coming .number) (dropAt (k .goes) (movesIn (lineFrom c d n m))) ≡ false
 
 -- The place that a coming move gets among the moves before the change; any where none comes.
-pub record ComingPlace (c d n : ℕ) (k : Change) (m : List ℕ) (r : ℕ) : Type 0 where
+pub record ComingPlace (c d n : ℕ) (k : Exchange) (m : List ℕ) (r : ℕ) : Type 0 where
   pub within : r ≤ n
   pub is : k .comes ≡ true → r ≡ placeFor d (asMove (k .coming)) (lineFrom c d n m)
 
 -- Whose mark changes, and how many leave the list and enter it, by the list of the moves afterwards; and the nodes opened where
 -- a move goes, as of its withdrawal (Card 1).
-pub record Upkept (c d n : ℕ) (k : Change) (m : List ℕ) (u : Upkeep) : Type 0 where
+pub record Upkept (c d n : ℕ) (k : Exchange) (m : List ℕ) (u : Upkeep) : Type 0 where
   pub changed : (i : ℕ) → i < n → inSet (u .changed) (numberIn c m i) ≡ not (Bool·beq (isListed c m i) (stays c d n k m i))
   pub left : u .left ≡ count (λ i. isListed c m i && not (stays c d n k m i)) (numbersFrom 0 n)
   pub entered : u .entered ≡ count (λ i. not (isListed c m i) && stays c d n k m i) (numbersFrom 0 n)
@@ -73,23 +73,23 @@ goesListed c n goes m = ltb goes n && isListed c m goes
 unfoldable pub hiddenByOthers : ℕ → ℕ → ℕ → ℕ → Move → List ℕ → Bool
 hiddenByOthers c d n goes x m = anyTo (λ j. not (eqb j goes) && hides d (moveIn c d m j) x) n
 
-unfoldable pub hiddenByComing : ℕ → Change → Move → Bool
+unfoldable pub hiddenByComing : ℕ → Exchange → Move → Bool
 hiddenByComing d k x = k .comes && hides d (asMove (k .coming)) x
 
-unfoldable pub comesUp : ℕ → ℕ → ℕ → Change → Move → List ℕ → Bool
+unfoldable pub comesUp : ℕ → ℕ → ℕ → Exchange → Move → List ℕ → Bool
 comesUp c d n k x m =
     goesListed c n (k .goes) m
     && hides d (moveIn c d m (k .goes)) x
     && not (hiddenByComing d k x)
     && not (hiddenByOthers c d n (k .goes) x m)
 
-unfoldable pub leaves : ℕ → Change → ℕ → Move → Bool
+unfoldable pub leaves : ℕ → Exchange → ℕ → Move → Bool
 leaves d k i x = eqb i (k .goes) || hiddenByComing d k x
 
-unfoldable pub leavesAt : ℕ → ℕ → Change → List ℕ → ℕ → Bool
+unfoldable pub leavesAt : ℕ → ℕ → Exchange → List ℕ → ℕ → Bool
 leavesAt c d k m i = isListed c m i && leaves d k i (moveIn c d m i)
 
-unfoldable pub entersAt : ℕ → ℕ → ℕ → Change → List ℕ → ℕ → Bool
+unfoldable pub entersAt : ℕ → ℕ → ℕ → Exchange → List ℕ → ℕ → Bool
 entersAt c d n k m i = not (isListed c m i) && (not (eqb i (k .goes)) && comesUp c d n k (moveIn c d m i) m)
 
 -- The places from one up to another that pass a test.
@@ -103,12 +103,12 @@ pub record Passing (c : ℕ) (m : List ℕ) (test : ℕ → Bool) (ws : List ℕ
 
 -- The moves that enter are added to a set. The nodes opened on the way are those that document 02 counts of the tree before: the
 -- list is that before the change, and none where the going move is not listed.
-pub record Entering (c d n : ℕ) (k : Change) (m ws ws' : List ℕ) (r : Entered) : Type 0 where
+pub record Entering (c d n : ℕ) (k : Exchange) (m ws ws' : List ℕ) (r : Entered) : Type 0 where
   pub moves : Passing c m (entersAt c d n k m) ws 0 n ws' (r .count)
   pub opened : k .goes < n → (t : Tree) → Stands m t → r .opened ≡ withdrawOpens d (numberIn c m (k .goes)) t
 
 -- What the steps ask: a move goes, and it is listed.
-pub record GoesListed (h : Head) (k : Change) (m : List ℕ) : Type 0 where
+pub record GoesListed (h : Head) (k : Exchange) (m : List ℕ) : Type 0 where
   pub sound : SoundAt (h .size) (h .dimension) (h .count) m
   pub goes : goesListed (h .size) (h .count) (k .goes) m ≡ true
 

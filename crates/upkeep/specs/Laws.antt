@@ -7,7 +7,4 @@ pub mod Marks
 pub mod Place
 pub mod Others
 pub mod Notified
-pub mod Told
-pub mod Telling
 pub mod Found
-pub mod Planned

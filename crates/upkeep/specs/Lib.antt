@@ -1,7 +1,5 @@
--- What the marks are after a load, what a change does to the list, and what calls tell; then the laws.
+-- What the marks are after a load and after a change, what a change does to the list, and who is found; then the laws.
 pub mod Mark
 pub mod Change
-pub mod Notice
-pub mod Telling
-pub mod Planned
+pub mod Found
 pub mod Laws

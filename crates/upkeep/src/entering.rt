@@ -1,7 +1,7 @@
 // Who enters the list by a change, looked for through the nodes.
-use crate::change::Change;
-use crate::change::hidden_by_coming;
-use crate::change::hidden_by_others;
+use crate::exchange::Exchange;
+use crate::exchange::hidden_by_coming;
+use crate::exchange::hidden_by_others;
 use dominance::hides;
 use memory::Among;
 use memory::Head;
@@ -28,7 +28,7 @@ pub struct Entered {
 }
 
 // Whether the move at place i, which is not listed, comes up: that can be only where the going one, which is listed, hides it.
-fn comes_up(m: &[u8], h: Head, k: Change, corners: &[[u16; COSTS]; RUNS], i: usize) -> bool
+fn comes_up(m: &[u8], h: Head, k: Exchange, corners: &[[u16; COSTS]; RUNS], i: usize) -> bool
     requires { ⌜ spec.GoesListed h k (now m) × spec.AllCorners h (now m) (now corners) × (i < h .count) ⌝ }
     ensures { λ r. ⌜ r ≡ spec.comesUp (h .size) (h .dimension) (h .count) k (moveIn (h .size) (h .dimension) (now (m .entry)) i) (now (m .entry)) ⌝ }
 {
@@ -45,7 +45,7 @@ fn comes_up(m: &[u8], h: Head, k: Change, corners: &[[u16; COSTS]; RUNS], i: usi
 }
 
 // Whether the move at place i enters the list, where a listed one goes.
-fn enters(m: &[u8], h: Head, k: Change, corners: &[[u16; COSTS]; RUNS], i: usize) -> bool
+fn enters(m: &[u8], h: Head, k: Exchange, corners: &[[u16; COSTS]; RUNS], i: usize) -> bool
     requires { ⌜ spec.GoesListed h k (now m) × spec.AllCorners h (now m) (now corners) × (i < h .count) ⌝ }
     ensures { λ r. ⌜ r ≡ spec.entersAt (h .size) (h .dimension) (h .count) k (now (m .entry)) i ⌝ }
 {
@@ -73,7 +73,7 @@ fn goes_listed(m: &[u8], h: Head, goes: usize) -> bool
 fn find_in_leaf(
     m: &[u8],
     h: Head,
-    k: Change,
+    k: Exchange,
     corners: &[[u16; COSTS]; RUNS],
     start: usize,
     end: usize,
@@ -98,7 +98,7 @@ fn find_in_leaf(
 fn find_in_leaves(
     m: &[u8],
     h: Head,
-    k: Change,
+    k: Exchange,
     corners: &[[u16; COSTS]; RUNS],
     changed: &mut [u64; WORDS],
 ) -> Entered
@@ -123,7 +123,7 @@ fn find_in_leaves(
 pub fn find_entering(
     m: &[u8],
     h: Head,
-    k: Change,
+    k: Exchange,
     corners: &[[u16; COSTS]; RUNS],
     changed: &mut [u64; WORDS],
 ) -> Entered

@@ -1,8 +1,8 @@
 // What a change does to the kept list, found without writing.
-use crate::change::Change;
-use crate::change::Upkeep;
-use crate::change::hidden_by_coming;
-use crate::change::hidden_by_others;
+use crate::exchange::Exchange;
+use crate::exchange::Upkeep;
+use crate::exchange::hidden_by_coming;
+use crate::exchange::hidden_by_others;
 use crate::entering::find_entering;
 use memory::Among;
 use memory::Head;
@@ -21,7 +21,7 @@ ghost use Rattle.memory.specs.Room.{Readable};
 ghost use Rattle.upkeep.specs.Change as spec;
 
 // Whether the move at place i leaves the list.
-fn leaves(m: &[u8], h: Head, k: Change, i: usize) -> bool
+fn leaves(m: &[u8], h: Head, k: Exchange, i: usize) -> bool
     requires { ⌜ Readable h (now m) × (i < h .count) ⌝ }
     ensures { λ r. ⌜ r ≡ spec.leavesAt (h .size) (h .dimension) k (now (m .entry)) i ⌝ }
 {
@@ -35,7 +35,7 @@ fn leaves(m: &[u8], h: Head, k: Change, i: usize) -> bool
 }
 
 // The moves that leave the list.
-fn find_leaving(m: &[u8], h: Head, k: Change, changed: &mut [u64; WORDS]) -> usize
+fn find_leaving(m: &[u8], h: Head, k: Exchange, changed: &mut [u64; WORDS]) -> usize
     requires { ⌜ Readable h (now m) ⌝ }
     ensures { λ r. ⌜ spec.Passing (h .size) (now (m .entry)) (spec.leavesAt (h .size) (h .dimension) k (now (m .entry))) (now (changed .entry)) 0 (h .count) (now (changed .exit)) r ⌝ }
 {
@@ -53,7 +53,7 @@ fn find_leaving(m: &[u8], h: Head, k: Change, changed: &mut [u64; WORDS]) -> usi
 }
 
 // Whether a move comes and is listed afterwards; its place is that among the moves before the change.
-fn coming_listed(m: &[u8], h: Head, k: Change, corners: &[[u16; COSTS]; RUNS], place: usize) -> bool
+fn coming_listed(m: &[u8], h: Head, k: Exchange, corners: &[[u16; COSTS]; RUNS], place: usize) -> bool
     requires { ⌜ spec.ChangeAsked (h .size) (h .dimension) (h .count) k (now m) × spec.AllCorners h (now m) (now corners) ⌝ }
     requires { ⌜ spec.ComingPlace (h .size) (h .dimension) (h .count) k (now m) place ⌝ }
     ensures { λ r. ⌜ r ≡ spec.comingListed (h .size) (h .dimension) (h .count) k (now (m .entry)) ⌝ }
@@ -65,7 +65,7 @@ fn coming_listed(m: &[u8], h: Head, k: Change, corners: &[[u16; COSTS]; RUNS], p
     !hidden_by_others(m, h, k.goes, place, corners, x)
 }
 
-pub fn upkeep_of(m: &[u8], h: Head, k: Change, place: usize) -> Upkeep
+pub fn upkeep_of(m: &[u8], h: Head, k: Exchange, place: usize) -> Upkeep
     requires { ⌜ spec.ChangeAsked (h .size) (h .dimension) (h .count) k (now m) ⌝ }
     requires { ⌜ spec.ComingPlace (h .size) (h .dimension) (h .count) k (now m) place ⌝ }
     ensures { λ r. ⌜ spec.Upkept (h .size) (h .dimension) (h .count) k (now (m .entry)) r ⌝ }

@@ -15,7 +15,7 @@ use Rattle.model.specs.Calls as calls
 use Rattle.model.specs.Calls.{accepted, refusedWith, listOf, changeRefusal, changeNotice, changed}
 use Rattle.line.specs.Line.{movesIn}
 use Rattle.promises.specs.Layout.{numberIn, boardIn, lineFrom}
-use Rattle.promises.specs.Answers.{answerOf, numberOf}
+use Rattle.promises.specs.Answers.{numberOf}
 use Rattle.promises.specs.Run.{Bytes}
 use Rattle.promises.specs.declared.Verdict.{Verdict}
 use Rattle.dominance.specs.Move.{asMove}
@@ -28,7 +28,7 @@ use Rattle.board.specs.Laws.Judge.{board-moves}
 use Rattle.board.specs.Laws.Marks.{entering-moves}
 
 pub judged-passes : {x : calls.Change} {m : List ℕ} {v : Verdict} → Judges x m v → numberOf v ≡ 0 → changeRefusal (boardIn m) x ≡ 0
-unfolding answerOf refusedWith
+unfolding refusedWith
 judged-passes j e = sym (ap (λ (a : calls.Answer). a .number) (j .is)) ∙ e
 
 -- No check turns it down.

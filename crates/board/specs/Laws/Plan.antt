@@ -17,7 +17,7 @@ use Rattle.model.specs.Laws.Bool.{both-ways, byCases, and-left, and-right}
 use Rattle.model.specs.Laws.Basics.{equal-refl}
 use Rattle.promises.specs.Layout.{dimensionIn, numberIn, costsIn, boardIn}
 use Rattle.promises.specs.Sound.{Stands, Sound}
-use Rattle.promises.specs.Answers.{numberOf}
+use Rattle.promises.specs.Answers.{numberOf, outcomeNumber}
 use Rattle.promises.specs.Run.{Bytes}
 use Rattle.promises.specs.declared.Verdict.{Verdict}
 use Rattle.promises.specs.declared.Verdict.the-variants.{Accepted, Unsound, FewRows}
@@ -60,7 +60,7 @@ module _ {block : ℕ} {x : calls.Change} {m : List ℕ} {lent : ℕ} {v : Verdi
   refused-planned h = nothing-planned (λ z. absurd (omega arith)) (λ z. absurd (omega arith)) (λ z. absurd (omega arith))
 
 pub plan-unsound : {x : calls.Change} {m : List ℕ} {lent : ℕ} {p : Plan} → (Sound m → ⊥) → Nothing Unsound p → Planned x m lent p
-unfolding numberOf changeAnswer
+unfolding changeAnswer outcomeNumber
 plan-unsound {x} {m} {lent} bad e =
     let v-is = ap numberOf (e .verdict) in
     record {
@@ -164,7 +164,7 @@ module _ {c d n : ℕ} {v : Verdict} {k : Change} {m : List ℕ} (a : PlanAsked 
         need-of block x stands = plan-need block ∙ ap (λ (x : calls.Change). length (changeNotice (boardIn m) x)) (stands h)
 
         pub plan-few : {lent : ℕ} {p : Plan} → lent < need → Nothing (FewRows need) p → PlanOf c n v k m lent p
-        unfolding numberOf changeAnswer
+        unfolding changeAnswer outcomeNumber
         plan-few {lent} l g =
             record {
               plans = λ block x j stands.
@@ -203,7 +203,7 @@ module _ {c d n : ℕ} {v : Verdict} {k : Change} {m : List ℕ} (a : PlanAsked 
 
           full-plans : (block : ℕ) (x : calls.Change) → changeRefusal (boardIn m) x ≡ 0 → (numberOf v ≡ 0 → callOf c n k block m ≡ x)
               → Plans (changeAnswer (boardIn m) x lent) (changeNotice (boardIn m) x) (changeOpens (dimensionIn m) x) m lent full
-          unfolding numberOf changeAnswer toldRows noticeRows
+          unfolding changeAnswer toldRows noticeRows outcomeNumber
           full-plans block x ok stands =
               record {
                 answered = answered-all _ _ m lent sound (not-refused ok) need (need-of block x stands) l;
@@ -215,7 +215,7 @@ module _ {c d n : ℕ} {v : Verdict} {k : Change} {m : List ℕ} (a : PlanAsked 
               }
 
           full-planned : (block : ℕ) (x : calls.Change) → changeRefusal (boardIn m) x ≡ 0 → (numberOf v ≡ 0 → callOf c n k block m ≡ x) → MovesPlanned block x m lent full
-          unfolding numberOf
+          unfolding outcomeNumber
           full-planned block x ok stands =
               record {
                 plans = full-plans block x ok stands;

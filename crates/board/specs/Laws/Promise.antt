@@ -13,7 +13,7 @@ use Rattle.model.specs.Changing.{changeTree}
 use Rattle.model.specs.Laws.Changes.{accepted-passes, nothing-keeps}
 use Rattle.promises.specs.Layout.{sizeIn, dimensionIn, boardIn}
 use Rattle.promises.specs.Sound.{Sound}
-use Rattle.promises.specs.Answers.{answerOf, numberOf, resultRow}
+use Rattle.promises.specs.Answers.{numberOf, resultRow, outcomeNumber}
 use Rattle.promises.specs.Written.{blockWrites, changeWrites}
 use Rattle.promises.specs.Promise.{MemoryAfter, ChangeSaid, ChangePromise}
 use Rattle.upkeep.specs.Telling.{toldRows}
@@ -44,7 +44,6 @@ module _ {x : calls.Change} {m m' : List ℕ} {lent : ℕ} {p : Plan} (plan : Pl
   accepted-made e false f = subst (Made x m) (sym (out .moves .idle f)) (plan .moves .idle f e)
 
   accepted-passed : Sound m → numberOf (p .verdict) ≡ 0 → changeRefusal (boardIn m) x ≡ 0
-  unfolding answerOf
   accepted-passed s z =
       accepted-passes (boardIn m) x lent (sym (ap (λ (a : calls.Answer). a .number) (plan .moves .plans .answered .sound s)) ∙ z)
 
@@ -80,7 +79,7 @@ module _ {x : calls.Change} {m m' : List ℕ} {lent : ℕ} {p : Plan} (plan : Pl
 
   pub plan-promise : (rows rows' : List Row) → lent ≡ length rows → rows' ≡ map resultRow (toldRows (p .telling) m) ++ drop (p .count) rows
       → ChangePromise x m rows (answerIn p) m' rows'
-  unfolding numberOf
+  unfolding outcomeNumber
   plan-promise rows rows' enough tells =
       record {
         said = plan-said rows rows' (subst (λ (n : ℕ). Planned x m n p) enough plan) tells;

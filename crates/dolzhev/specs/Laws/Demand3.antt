@@ -30,7 +30,7 @@ historyOf (load c d rows r p accepted bytes h) =
     run.load c d rows (p .verdict) (p .promise) (sym (p .handed .refusal) ∙ accepted) bytes (historyOf h)
 
 handed-answer : {v : Verdict} {count nodes : ℕ} {r : Answer} → Handed v count nodes r → answered r ≡ answerOf v
-unfolding answered answerOf
+unfolding answered
 handed-answer h = λ i. record { number = h .refusal i; detail = h .detail i }
 
 event-same : {m m' : List ℕ} (s : ExportedStep m m') → exportedEvent s ≡ eventOf (stepOf s)

@@ -14,14 +14,14 @@ use Rattle.framing.specs.Session.{saidBy}
 use Rattle.framing.specs.Writing.{headText, openedText}
 
 pub refused-text : (d : ℕ) (v : Verdict) (s : Reply) {n k : ℕ} → n ≡ numberOf v → k ≡ detailOf v → (n ≡ 0 → ⊥) → answerText 0 (refused n k) ≡ answerText d (saidBy (answerOf v) s)
-unfolding answerText saidText saidBy answerOf
+unfolding answerText saidText saidBy
 refused-text d v s {n} {k} number detail refuses =
     ap₂ (λ (x y : ℕ). answerText d (refused x y)) number detail
     ∙ ap (λ (b : Bool). answerText d (cond b s (refused (numberOf v) (detailOf v))))
     (sym (ne-eqb (numberOf v) 0 (λ z. refuses (number ∙ z))))
 
 pub accepted-text : (d : ℕ) (v : Verdict) (s : Reply) → numberOf v ≡ 0 → answerText d s ≡ answerText d (saidBy (answerOf v) s)
-unfolding saidBy answerOf
+unfolding saidBy
 accepted-text d v s accepts =
     ap (λ (b : Bool). answerText d (cond b s (refused (numberOf v) (detailOf v)))) (sym (eq-eqb (numberOf v) 0 accepts))
 

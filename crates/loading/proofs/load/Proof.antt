@@ -11,10 +11,10 @@ use Rattle.model.specs.Calls.{sizeBad, memoryNeed}
 use Rattle.model.specs.Laws.Bool.{or-left, or-right}
 use Rattle.model.specs.Laws.Loading.{size-most}
 use Rattle.model.specs.Laws.Order.{dimension-most}
-use Rattle.promises.specs.Answers.{inputRow, numberOf, detailOf}
-use Rattle.promises.specs.declared.Verdict.the-variants.{NumberTooLarge, BlockTooLarge, NumberTwice, BadArgument}
+use Rattle.promises.specs.Answers.{inputRow, outcomeNumber}
+use Rattle.promises.specs.declared.Outcome.the-variants.{NumberTooLarge, BlockTooLarge, NumberTwice, BadArgument}
 use Rattle.loading.specs.File.{Acceptable}
-use Rattle.loading.proofs.Answering.{InRange, out-of-range, short-memory, row-bad, acceptable, load-accepted}
+use Rattle.loading.proofs.Answering.{InRange, by-verdict, out-of-range, short-memory, row-bad, acceptable, load-accepted}
 use Rattle.loading.proofs.load.Statement.{statement}
 use Rattle.loading.proofs.load.Tie as tie
 
@@ -29,16 +29,19 @@ accepted c = acceptable (c .before .before .before .before .before .before .befo
 
 returns : tie.Need-returns
 returns c =
-    let a = c .before .before .before .args in
-    out-of-range _ _ _ _ _
+    let a = c .before .before .before .before .args in
+    by-verdict (c .ended .ensures)
+    (out-of-range _ _ _ _ _
     (⊎-elim
-    (λ w. or-left (sizeBad (a .c)) (costCountBad (a .d)) (sym (c .before .size-bad .ensures) ∙ w .taken))
+    (λ w. or-left (sizeBad (a .c)) (costCountBad (a .d)) (sym (c .before .before .size-bad .ensures) ∙ w .taken))
     (λ w. or-right (sizeBad (a .c)) (costCountBad (a .d)) (sym (w .1 .ensures) ∙ w .2 .taken))
-    (c .if1 .came))
-    refl
+    (c .before .if1 .came))
+    refl)
 
 returns-2 : tie.Need-returns-2
-returns-2 c = short-memory _ _ _ _ _ (in-range (c .before .before)) (omega (arith, c .if3 .taken, c .before .memory-need .ensures)) refl
+returns-2 c =
+    by-verdict (c .ended2 .ensures)
+    (short-memory _ _ _ _ _ (in-range (c .before .before .before)) (omega (arith, c .before .if3 .taken, c .before .before .memory-need .ensures)) refl)
 
 judge-requires : tie.Need-judge-requires
 judge-requires c κs =
@@ -47,24 +50,28 @@ judge-requires c κs =
     (size-most (a .c) (range .0), dimension-most (a .d) (range .1))
 
 returns-3 : tie.Need-returns-3
-unfolding numberOf detailOf
+unfolding outcomeNumber
 returns-3 c =
-    row-bad _ _ _ _ _ (in-range (c .before .before .before .before .before)) (room (c .before .before .before)) (c .before .before .judge .ensures) (NumberTooLarge (c .before .before .judge .result .place)) 3 refl refl (c .if4 .taken) refl
+    by-verdict (c .ended3 .ensures)
+    (row-bad _ _ _ _ _ (in-range (c .before .before .before .before .before .before)) (room (c .before .before .before .before)) (c .before .before .before .judge .ensures) NumberTooLarge 3 refl (c .before .if4 .taken) refl)
 
 returns-4 : tie.Need-returns-4
-unfolding numberOf detailOf
+unfolding outcomeNumber
 returns-4 c =
-    row-bad _ _ _ _ _ (in-range (c .before .before .before .before .before .before .before)) (room (c .before .before .before .before .before)) (c .before .before .before .before .judge .ensures) (BlockTooLarge (c .before .before .before .before .judge .result .place)) 10 refl refl (c .if5 .taken) refl
+    by-verdict (c .ended4 .ensures)
+    (row-bad _ _ _ _ _ (in-range (c .before .before .before .before .before .before .before .before)) (room (c .before .before .before .before .before .before)) (c .before .before .before .before .before .judge .ensures) BlockTooLarge 10 refl (c .before .if5 .taken) refl)
 
 returns-5 : tie.Need-returns-5
-unfolding numberOf detailOf
+unfolding outcomeNumber
 returns-5 c =
-    row-bad _ _ _ _ _ (in-range (c .before .before .before .before .before .before .before .before .before)) (room (c .before .before .before .before .before .before .before)) (c .before .before .before .before .before .before .judge .ensures) (BadArgument (c .before .before .before .before .before .before .judge .result .place)) 6 refl refl (c .if6 .taken) refl
+    by-verdict (c .ended5 .ensures)
+    (row-bad _ _ _ _ _ (in-range (c .before .before .before .before .before .before .before .before .before .before)) (room (c .before .before .before .before .before .before .before .before)) (c .before .before .before .before .before .before .before .judge .ensures) BadArgument 6 refl (c .before .if6 .taken) refl)
 
 returns-6 : tie.Need-returns-6
-unfolding numberOf detailOf
+unfolding outcomeNumber
 returns-6 c =
-    row-bad _ _ _ _ _ (in-range (c .before .before .before .before .before .before .before .before .before .before .before)) (room (c .before .before .before .before .before .before .before .before .before)) (c .before .before .before .before .before .before .before .before .judge .ensures) (NumberTwice (c .before .before .before .before .before .before .before .before .judge .result .place)) 4 refl refl (c .if7 .taken) refl
+    by-verdict (c .ended6 .ensures)
+    (row-bad _ _ _ _ _ (in-range (c .before .before .before .before .before .before .before .before .before .before .before .before)) (room (c .before .before .before .before .before .before .before .before .before .before)) (c .before .before .before .before .before .before .before .before .before .judge .ensures) NumberTwice 4 refl (c .before .if7 .taken) refl)
 
 fill-requires : tie.Need-fill-requires
 unfolding memoryNeed
@@ -74,7 +81,8 @@ fill-requires c κs =
 
 returns-7 : tie.Need-returns-7
 returns-7 c =
-    load-accepted _ _ _ _ _ (in-range (c .before .before .before .before .before .before .before .before .before .before .before .before .before .before .before)) (room (c .before .before .before .before .before .before .before .before .before .before .before .before .before)) (c .before .before .before .before .before .before .before .before .before .before .before .before .judge .ensures) (accepted (c .before .before .before .before)) (c .before .before .fill .ensures)
+    by-verdict (c .ended7 .ensures)
+    (load-accepted _ _ _ _ _ (in-range (c .before .before .before .before .before .before .before .before .before .before .before .before .before .before .before .before)) (room (c .before .before .before .before .before .before .before .before .before .before .before .before .before .before)) (c .before .before .before .before .before .before .before .before .before .before .before .before .before .judge .ensures) (accepted (c .before .before .before .before .before)) (c .before .before .before .fill .ensures))
 
 pub load-spec : {M : Type 1} → statement M
 load-spec =
@@ -82,14 +90,21 @@ load-spec =
     (tie.spec
     (λ c κs. search needs)
     (λ c κs. search needs)
+    (λ c κs. search needs)
     returns
     (λ c κs. in-range c .0)
+    (λ c κs. search needs)
     returns-2
     judge-requires
+    (λ c κs. search needs)
     returns-3
+    (λ c κs. search needs)
     returns-4
+    (λ c κs. search needs)
     returns-5
+    (λ c κs. search needs)
     returns-6
     fill-requires
+    (λ c κs. search needs)
     (λ c. search needs)
     returns-7)

@@ -15,42 +15,44 @@ use Rattle.model.specs.Opening.{queryOpens, changeOpens}
 use Rattle.promises.specs.Layout.{sizeIn, dimensionIn, boardIn}
 use Rattle.promises.specs.Written.{changeWrites, loadWrites}
 use Rattle.promises.specs.Used.{SameInUse}
-use Rattle.promises.specs.Answers.{answerOf, numberOf, detailOf, counted, rowsAfter}
+use Rattle.promises.specs.Answers.{answerOf, numberOf, counted, rowsAfter, outcomeNumber}
 use Rattle.promises.specs.Promise.{MemoryAfter, LoadPromise, Said, QuerySaidOn, QueryPromise, ChangeSaidOn, ChangeSaid, ChangePromise, PreviewPromise}
 use Rattle.promises.specs.Run.{Bytes}
 use Rattle.promises.specs.declared.Verdict.{Verdict}
-use Rattle.promises.specs.declared.Verdict.the-variants.{Accepted, ShortMemory, OutOfRange, Unsound, NumberTooLarge, NumberTwice, NumberAbsent, BadArgument, FewRows, BlockTooLarge, BadHours}
+use Rattle.promises.specs.declared.Outcome.{Outcome}
+use Rattle.promises.specs.declared.Outcome.the-variants.{Accepted, ShortMemory, OutOfRange, Unsound, NumberTooLarge, NumberTwice, NumberAbsent, BadArgument, FewRows, BlockTooLarge, BadHours}
 use Rattle.promises.specs.declared.Answer.{Answer}
 use Rattle.memory.specs.Laws.Alike.{Alike, same-alike, used-alike, holding-alike, alike-dimension, alike-sound, by-soundness}
 
 -- ---- what is said
 
--- The verdict with this number and detail.
-verdictOf : ℕ → ℕ → Verdict
-verdictOf k p =
+-- The outcome with this number.
+outcomeOf : ℕ → Outcome
+outcomeOf k =
     cond (eqb k 0) Accepted
     (cond (eqb k 1) ShortMemory
     (cond (eqb k 2) OutOfRange
     (cond (eqb k 3) Unsound
-    (cond (eqb k 4) (NumberTooLarge p) (cond (eqb k 5) (NumberTwice p) (cond (eqb k 6) NumberAbsent (cond (eqb k 7) (BadArgument p) (cond (eqb k 8) (FewRows p) (cond (eqb k 11) (BlockTooLarge p) (BadHours p))))))))))
+    (cond (eqb k 4) NumberTooLarge (cond (eqb k 5) NumberTwice (cond (eqb k 6) NumberAbsent (cond (eqb k 7) BadArgument (cond (eqb k 8) FewRows (cond (eqb k 11) BlockTooLarge BadHours)))))))))
 
-verdict-of : (v : Verdict) → verdictOf (numberOf v) (detailOf v) ≡ v
-unfolding verdictOf numberOf detailOf
-verdict-of Accepted = refl
-verdict-of ShortMemory = refl
-verdict-of OutOfRange = refl
-verdict-of Unsound = refl
-verdict-of (NumberTooLarge p) = refl
-verdict-of (NumberTwice p) = refl
-verdict-of NumberAbsent = refl
-verdict-of (BadArgument p) = refl
-verdict-of (FewRows p) = refl
-verdict-of (BlockTooLarge p) = refl
-verdict-of (BadHours p) = refl
+outcome-of : (o : Outcome) → outcomeOf (outcomeNumber o) ≡ o
+unfolding outcomeOf outcomeNumber
+outcome-of Accepted = refl
+outcome-of ShortMemory = refl
+outcome-of OutOfRange = refl
+outcome-of Unsound = refl
+outcome-of NumberTooLarge = refl
+outcome-of NumberTwice = refl
+outcome-of NumberAbsent = refl
+outcome-of BadArgument = refl
+outcome-of FewRows = refl
+outcome-of BlockTooLarge = refl
+outcome-of BadHours = refl
 
 verdict-same : (v w : Verdict) → answerOf v ≡ answerOf w → v ≡ w
-unfolding answerOf
-verdict-same v w e = sym (verdict-of v) ∙ ap (λ (a : calls.Answer). verdictOf (a .number) (a .detail)) e ∙ verdict-of w
+verdict-same v w e =
+    let outcome = sym (outcome-of (v .outcome)) ∙ ap (λ (a : calls.Answer). outcomeOf (a .number)) e ∙ outcome-of (w .outcome) in
+    (λ i. record { outcome = outcome i; detail = e i .detail })
 
 said-same : {a : calls.Answer} {rows : List Row} {nodes : ℕ} {lent lent' lent'' : List Row} {r s : Answer}
     → Said a rows nodes lent r lent' → Said a rows nodes lent s lent'' → (s ≡ r) × (lent'' ≡ lent')

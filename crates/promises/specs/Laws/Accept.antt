@@ -19,7 +19,6 @@ use Rattle.promises.specs.declared.Answer.{Answer}
 
 module _ {m : List ℕ} {lent lent' : List Row} {r : Answer} (s : Sound m) where
   change-number : (x : Change) → ChangeSaid x m lent r lent' → numberOf (r .verdict) ≡ changeAnswer (boardIn m) x (length lent) .number
-  unfolding answerOf
   change-number x p = ap (λ (a : calls.Answer). a .number) (p .sound s .answers)
 
   -- "A board with a free number always takes one more move, given costs past d of zero and rows enough for its notice", and a block

@@ -39,7 +39,7 @@ told-rows (suc k) rows lent = ap (λ (b : Bool). cond b rows []) (sym (eqb·suc-
 
 pub said-rows : (a : calls.Answer) (rows : List Row) (nodes : ℕ) (lent : List Row) (r : Answer) (lent' : List Row) → Said a rows nodes lent r lent'
     → take (r .count) lent' ≡ cond (isAccepted (answerOf (r .verdict))) rows []
-unfolding isAccepted answerOf
+unfolding isAccepted
 said-rows a rows nodes lent r lent' s =
     ap₂ (λ (k : ℕ) (rs : List Row). take k rs) (s .counts) (s .tells) ∙ told-rows (numberOf (r .verdict)) rows lent
 

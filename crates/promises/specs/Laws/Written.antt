@@ -135,7 +135,7 @@ module _ {m m' : List ℕ} where
       past-left c (loadWrites c) m m' (loaded c d rows) (loadTree d (map moveOf rows)) (numberOf v) (λ _. load-ends c) (p .left)
 
   pub change-past : {x : Change} {lent lent' : List Row} {r : Answer} → Sound m → ChangePromise x m lent r m' lent' → drop (memoryNeed (sizeIn m)) m' ≡ drop (memoryNeed (sizeIn m)) m
-  unfolding answerOf boardIn
+  unfolding boardIn
   change-past {x} {lent} {r = r} s p =
       past-left (sizeIn m) (changeWrites (sizeIn m) x) m m' (changed (boardIn m) x) (changeTree (dimensionIn m) x (s .tree)) (numberOf (r .verdict))
       (λ e i. change-ends (sizeIn m) i x (number e)) (p .left s)

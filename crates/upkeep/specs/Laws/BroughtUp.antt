@@ -42,7 +42,7 @@ use Rattle.upkeep.specs.Change.{goesListed, hiddenByOthers, hiddenByComi
 use Rattle.upkeep.specs.Laws.Places.{place-below, below-place, anyTo-places}
 use Rattle.upkeep.specs.Laws.Change.{line-places, others-hide, same-place, rest-without, goes-on-board, goes-marked, goes-unmarked, enters-none}
 use Rattle.upkeep.specs.Laws.Passing.{none-passes, passing-join, passing-skip}
-use Rattle.upkeep.specs.declared.change.Change.{Change}
+use Rattle.upkeep.specs.declared.exchange.Exchange.{Exchange}
 use Rattle.upkeep.specs.declared.entering.Entered.{Entered}
 
 module _ (c d n : ℕ) (m : List ℕ) (s : SoundAt c d n m) (b : Bytes m) where
@@ -119,7 +119,7 @@ module _ (c d n : ℕ) (m : List ℕ) (s : SoundAt c d n m) (b : Bytes m) where
         sym (ap (λ (u : Bool). cond u (count (opensFor d (skyline d (movesOf t)) number) (nodesOf t)) 0)
         (ap (λ (ms : List Move). onBoard number (skyline d ms)) (sym (held-moves c d n m s t x)) ∙ number-listed ∙ e))
 
-  module _ (k : Change) (j : ℕ) (h : j < n) (e : entersAt c d n k m j ≡ true) where
+  module _ (k : Exchange) (j : ℕ) (h : j < n) (e : entersAt c d n k m j ≡ true) where
     abbrev g : ℕ
     g = k .goes
 
@@ -176,7 +176,7 @@ module _ (c d n : ℕ) (m : List ℕ) (s : SoundAt c d n m) (b : Bytes m) where
         (node-near d c l before fits order i under) (node-far d c l before fits order i under)
 
   -- So where a node is passed by, none enters.
-  pub passed-enters-not : (k : Change) (j : ℕ) → j < n → Passed (opensAt c d (k .goes) n m) (lineFrom c d n m) j → entersAt c d n k m j ≡ false
+  pub passed-enters-not : (k : Exchange) (j : ℕ) → j < n → Passed (opensAt c d (k .goes) n m) (lineFrom c d n m) j → entersAt c d n k m j ≡ false
   passed-enters-not k j h p =
       byCases (entersAt c d n k m j)
       (λ e. both-ways (enters-opened k j h e (p .node) (p .within) (subst (λ (x : Move). List·Memᴰ x (p .node .under)) (moveAt-line c d n m j h) (p .under))) (p .unopened))
@@ -185,7 +185,7 @@ module _ (c d n : ℕ) (m : List ℕ) (s : SoundAt c d n m) (b : Bytes m) where
   -- ---- leaf after leaf
 
   -- The places up to the next leaf add nothing.
-  pub leaf-enters : (k : Change) {ws ws' ws'' : List ℕ} {i entered entered' : ℕ} (r : Leaf)
+  pub leaf-enters : (k : Exchange) {ws ws' ws'' : List ℕ} {i entered entered' : ℕ} (r : Leaf)
       → Passing c m (entersAt c d n k m) ws 0 i ws' entered
       → LeafFrom c d (k .goes) n m i r
       → Passing c m (entersAt c d n k m) ws' (r .start) (r .end) ws'' entered'
@@ -196,7 +196,7 @@ module _ (c d n : ℕ) (m : List ℕ) (s : SoundAt c d n m) (b : Bytes m) where
       (λ j a l. passed-enters-not k j (omega (arith, leaf .next .order, leaf .after .within)) (leaf .next .passed j a l)))
       more (omega arith) (leaf .next .order) (entered + entered') refl
 
-  pub entering-all : (k : Change) {ws ws' : List ℕ} {i : ℕ} (r : Entered) → goesListed c n (k .goes) m ≡ true → i ≡ n
+  pub entering-all : (k : Exchange) {ws ws' : List ℕ} {i : ℕ} (r : Entered) → goesListed c n (k .goes) m ≡ true → i ≡ n
       → Passing c m (entersAt c d n k m) ws 0 i ws' (r .count)
       → Counting c d (k .goes) n m (r .opened) i
       → Entering c d n k m ws ws' r
@@ -207,7 +207,7 @@ module _ (c d n : ℕ) (m : List ℕ) (s : SoundAt c d n m) (b : Bytes m) where
       }
 
   -- No listed move goes.
-  pub entering-none : (k : Change) (ws : List ℕ) → goesListed c n (k .goes) m ≡ false → Entering c d n k m ws ws (record { count = 0; opened = 0 })
+  pub entering-none : (k : Exchange) (ws : List ℕ) → goesListed c n (k .goes) m ≡ false → Entering c d n k m ws ws (record { count = 0; opened = 0 })
   entering-none k ws e =
       record {
         moves = none-passes c m (entersAt c d n k m) ws 0 n (λ i _ _. enters-none c d n k m i e);

@@ -33,8 +33,8 @@ use Rattle.numbers.specs.Set.{inSet}
 use Rattle.upkeep.specs.Change.{dropAt, movesAfter, stays, comingListed, goesListed, hiddenByOthers, hiddenByComing, comesUp, leaves, leavesAt, entersAt, Passing, Upkept}
 use Rattle.upkeep.specs.Laws.Places.{place-below, places-all, tab-places, anyTo-places, drop-places}
 use Rattle.upkeep.specs.Laws.Passing.{passing-adds, passing-at}
-use Rattle.upkeep.specs.declared.change.Change.{Change}
-use Rattle.upkeep.specs.declared.change.Upkeep.{Upkeep}
+use Rattle.upkeep.specs.declared.exchange.Exchange.{Exchange}
+use Rattle.upkeep.specs.declared.exchange.Upkeep.{Upkeep}
 
 -- ---- tests
 
@@ -114,7 +114,7 @@ rest-without c d n g m s b l =
     ∙ sym (select-map (λ x. not (eqb (x .number) (numberIn c m g))) (moveIn c d m) (numbersFrom 0 n))
     ∙ sym (ap (without (numberIn c m g)) (line-places c d n m))
 
-changed-hidden : (d : ℕ) (k : Change) (ms : List Move) (x : Move) → hidden d (movesAfter d k ms) x ≡ (hidden d (dropAt (k .goes) ms) x || hiddenByComing d k x)
+changed-hidden : (d : ℕ) (k : Exchange) (ms : List Move) (x : Move) → hidden d (movesAfter d k ms) x ≡ (hidden d (dropAt (k .goes) ms) x || hiddenByComing d k x)
 unfolding movesAfter hiddenByComing
 changed-hidden d k ms x =
     let rest = dropAt (k .goes) ms in
@@ -138,7 +138,7 @@ pub goes-unmarked : (c n g : ℕ) (m : List ℕ) → goesListed c n g m ≡ fals
 unfolding goesListed
 goes-unmarked c n g m e l = and-drop-left (ltb g n) (isListed c m g) (lt-ltb g n l) e
 
-pub enters-none : (c d n : ℕ) (k : Change) (m : List ℕ) (i : ℕ) → goesListed c n (k .goes) m ≡ false → entersAt c d n k m i ≡ false
+pub enters-none : (c d n : ℕ) (k : Exchange) (m : List ℕ) (i : ℕ) → goesListed c n (k .goes) m ≡ false → entersAt c d n k m i ≡ false
 unfolding entersAt comesUp
 enters-none c d n k m i e =
     ap (λ (t : Bool). not (isListed c m i) && (not (eqb i (k .goes)) && (t && hides d (moveIn c d m (k .goes)) x && not (hiddenByComing d k x) && not (hiddenByOthers c d n (k .goes) x m)))) e
@@ -147,7 +147,7 @@ enters-none c d n k m i e =
     x : Move
     x = moveIn c d m i
 
-module _ (c d n : ℕ) (k : Change) (m : List ℕ) (s : SoundAt c d n m) (b : Bytes m) where
+module _ (c d n : ℕ) (k : Exchange) (m : List ℕ) (s : SoundAt c d n m) (b : Bytes m) where
   abbrev before : List Move
   before = movesIn (lineFrom c d n m)
 

@@ -17,7 +17,7 @@ use Rattle.memory.specs.Laws.Stored.{setListed-marks, listed-setListed, mark-se
 use Rattle.memory.specs.Laws.Turns.{listed-at}
 use Rattle.numbers.specs.Set.{inSet}
 use Rattle.upkeep.specs.Mark.{Once}
-use Rattle.upkeep.specs.Notice.{listedThen, SetMark, SetMarks}
+use Rattle.upkeep.specs.Mark.{listedThen, SetMark, SetMarks}
 
 -- ---- one mark
 

@@ -10,20 +10,20 @@ use borrow.Author.Tests.{ltb-true, ltb-false, le-leb, lt-leb}
 use Rattle.zorder.specs.Refusal.{refusal, costPastBad}
 use Rattle.model.specs.Calls.{refusedWith, blockBad}
 use Rattle.model.specs.Laws.Blocks.{block-low, block-high}
-use Rattle.promises.specs.Answers.{answerOf, numberOf, detailOf}
+use Rattle.promises.specs.Answers.{outcomeNumber}
 use Rattle.board.specs.Kind.{comes}
 use Rattle.board.specs.Laws.Judge.{judges-by}
 use Rattle.board.proofs.judge.judge.Statement.{statement}
 use Rattle.board.proofs.judge.judge.Tie as tie
 
 returns : tie.Need-returns
-unfolding refusal refusedWith answerOf numberOf detailOf
+unfolding refusal refusedWith outcomeNumber
 returns c =
     let a = c .before .before .before .args in
     judges-by (a .kind) (a .h) (a .x) (a .block) (a .on) true _ _ _ (le-leb (a .h .size) (a .x .number) (c .if1 .taken)) refl refl refl refl
 
 returns-2 : tie.Need-returns-2
-unfolding refusal refusedWith answerOf numberOf detailOf
+unfolding refusal refusedWith outcomeNumber
 returns-2 c =
     let a = c .before .before .before .before .before .before .args in
     judges-by (a .kind) (a .h) (a .x) (a .block) (a .on) false true _ _ (lt-leb (a .h .size) (a .x .number) (omega arith))
@@ -39,7 +39,7 @@ low c =
     (c .if2 .came)
 
 returns-3 : tie.Need-returns-3
-unfolding refusal refusedWith answerOf numberOf detailOf costPastBad
+unfolding refusal refusedWith costPastBad outcomeNumber
 returns-3 c =
     let a = c .before .before .before .before .before .before .before .before .before .before .args in
     judges-by (a .kind) (a .h) (a .x) (a .block) (a .on) false false true _ (lt-leb (a .h .size) (a .x .number) (omega arith))
@@ -61,28 +61,28 @@ last : (k : ℕ) {b b' : Bool} → b ≡ b' → refusedWith (refusal ((false, 4)
 last k e = ap (λ (o : Bool). refusedWith (refusal ((false, 4) ∷ (false, 11) ∷ (false, 7) ∷ (o, k) ∷ []))) (sym e)
 
 returns-4 : tie.Need-returns-4
-unfolding refusal refusedWith answerOf numberOf detailOf
+unfolding refusal refusedWith outcomeNumber
 returns-4 c =
     let a = c .before .before .before .before .before .before .before .before .before .before .before .args in
     judges-by (a .kind) (a .h) (a .x) (a .block) (a .on) false false false true (lt-leb (a .h .size) (a .x .number) (omega arith)) (low (c .before .before .before .before .before .before)) (passed (c .before .before .before)) (sym (c .before .before .is-new .ensures) ∙ c .before .if6 .taken)
     (last 5 (c .if7 .taken))
 
 returns-5 : tie.Need-returns-5
-unfolding refusal refusedWith answerOf numberOf detailOf
+unfolding refusal refusedWith outcomeNumber
 returns-5 c =
     let a = c .before .before .before .before .before .before .before .before .before .before .before .args in
     judges-by (a .kind) (a .h) (a .x) (a .block) (a .on) false false false false (lt-leb (a .h .size) (a .x .number) (omega arith)) (low (c .before .before .before .before .before .before)) (passed (c .before .before .before)) (sym (c .before .before .is-new .ensures) ∙ c .before .if6 .left)
     (last 6 (c .if8 .taken))
 
 returns-6 : tie.Need-returns-6
-unfolding refusal refusedWith answerOf numberOf detailOf
+unfolding refusal refusedWith outcomeNumber
 returns-6 c =
     let a = c .before .before .before .before .before .before .before .before .before .before .before .args in
     judges-by (a .kind) (a .h) (a .x) (a .block) (a .on) false false false true (lt-leb (a .h .size) (a .x .number) (omega arith)) (low (c .before .before .before .before .before .before)) (passed (c .before .before .before)) (sym (c .before .before .is-new .ensures) ∙ c .before .if6 .taken)
     (last 5 (c .if7 .left))
 
 returns-7 : tie.Need-returns-7
-unfolding refusal refusedWith answerOf numberOf detailOf
+unfolding refusal refusedWith outcomeNumber
 returns-7 c =
     let a = c .before .before .before .before .before .before .before .before .before .before .before .args in
     judges-by (a .kind) (a .h) (a .x) (a .block) (a .on) false false false false (lt-leb (a .h .size) (a .x .number) (omega arith)) (low (c .before .before .before .before .before .before)) (passed (c .before .before .before)) (sym (c .before .before .is-new .ensures) ∙ c .before .if6 .left)

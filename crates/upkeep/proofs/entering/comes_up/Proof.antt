@@ -13,11 +13,11 @@ use Rattle.memory.specs.Laws.Held.{held-readable}
 use Rattle.upkeep.specs.Change.{goesListed, hiddenByOthers, hiddenByComing, comesUp, Parted}
 use Rattle.upkeep.specs.Laws.Change.{goes-on-board}
 use Rattle.upkeep.specs.Laws.Others.{own-place}
-use Rattle.upkeep.specs.declared.change.Change.{Change}
+use Rattle.upkeep.specs.declared.exchange.Exchange.{Exchange}
 use Rattle.upkeep.proofs.entering.comes_up.Statement.{statement}
 use Rattle.upkeep.proofs.entering.comes_up.Tie as tie
 
-by-tests : (c d n : ℕ) (k : Change) (x : Move) (m : List ℕ) {gone hid coming others : Bool}
+by-tests : (c d n : ℕ) (k : Exchange) (x : Move) (m : List ℕ) {gone hid coming others : Bool}
     → goesListed c n (k .goes) m ≡ gone
     → hides d (moveIn c d m (k .goes)) x ≡ hid
     → hiddenByComing d k x ≡ coming

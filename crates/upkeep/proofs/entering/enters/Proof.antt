@@ -11,11 +11,11 @@ use Rattle.memory.specs.Tests.{isListed}
 use Rattle.memory.specs.Laws.Held.{held-readable}
 use Rattle.memory.specs.Laws.Turns.{listed-at}
 use Rattle.upkeep.specs.Change.{comesUp, entersAt}
-use Rattle.upkeep.specs.declared.change.Change.{Change}
+use Rattle.upkeep.specs.declared.exchange.Exchange.{Exchange}
 use Rattle.upkeep.proofs.entering.enters.Statement.{statement}
 use Rattle.upkeep.proofs.entering.enters.Tie as tie
 
-by-tests : (c d n : ℕ) (k : Change) (m : List ℕ) (i : ℕ) {listed gone up : Bool}
+by-tests : (c d n : ℕ) (k : Exchange) (m : List ℕ) (i : ℕ) {listed gone up : Bool}
     → isListed c m i ≡ listed
     → eqb i (k .goes) ≡ gone
     → comesUp c d n k (moveIn c d m i) m ≡ up

@@ -11,11 +11,11 @@ use Rattle.promises.specs.Layout.{moveIn}
 use Rattle.memory.specs.Tests.{isListed}
 use Rattle.memory.specs.Laws.Turns.{listed-at}
 use Rattle.upkeep.specs.Change.{hiddenByComing, leaves, leavesAt}
-use Rattle.upkeep.specs.declared.change.Change.{Change}
+use Rattle.upkeep.specs.declared.exchange.Exchange.{Exchange}
 use Rattle.upkeep.proofs.kept.leaves.Statement.{statement}
 use Rattle.upkeep.proofs.kept.leaves.Tie as tie
 
-by-tests : (c d : ℕ) (k : Change) (m : List ℕ) (i : ℕ) {listed gone hidden : Bool}
+by-tests : (c d : ℕ) (k : Exchange) (m : List ℕ) (i : ℕ) {listed gone hidden : Bool}
     → isListed c m i ≡ listed
     → eqb i (k .goes) ≡ gone
     → hiddenByComing d k (moveIn c d m i) ≡ hidden

@@ -1,0 +1,64 @@
+-- `marks::set_marks` meets its contract. The loop's invariant: the marks of the places passed are set, the others as they
+-- were. Assumes nothing.
+use Prim.Native.Nat.{ℕ, _-_, _≤_}
+use mathlib.Core.Path.{_≡_, subst}
+use native.Mathlib.Omega.{arith}
+use Rattle.memory.specs.Laws.Frames.{room-over}
+use Rattle.memory.specs.Laws.Fields.{number-over-marks}
+use Rattle.upkeep.specs.Laws.Marks.{Marking, marking-none, marking-more, marking-all}
+use Rattle.upkeep.proofs.marks.set_marks.Statement.{statement}
+use Rattle.upkeep.proofs.marks.set_marks.Tie as tie
+
+abbrev Inv-loop : tie.InvT-loop
+Inv-loop m₀ h u n i₀ m i = (i ≤ n) × Marking (h .size) n i (u .changed) m₀ m
+
+abbrev μ-loop : tie.MeasureT-loop
+μ-loop m₀ h u n i₀ m i = n - i
+
+loop-holds : tie.Need-loop-holds Inv-loop μ-loop
+loop-holds c =
+    let a = c .before .args in
+    (omega arith, marking-none (a .h .size) (a .h .count) (a .t3 .changed) (a .m .now))
+
+set-mark-requires : tie.Need-set-mark-requires Inv-loop μ-loop
+set-mark-requires c κs =
+    let a = c .before .before .before .before .before .before .args in
+    let pre = c .before .before .before .before .before .before .pre .0 in
+    let own = c .before .before .before .before .loop in
+    let small = pre .numbers (own .i) (omega arith) in
+    (room-over (a .h .size) (own .inv .1 .frame) (pre .room), omega (arith, pre .rows), omega (arith, number-over-marks (a .h .size) (own .inv .1 .frame) (own .i) (omega (arith, pre .rows))))
+
+loop-again : tie.Need-loop-again Inv-loop μ-loop
+loop-again c =
+    let a = c .before .before .before .before .before .before .before .before .before .args in
+    let pre = c .before .before .before .before .before .before .before .before .before .pre in
+    let own = c .before .before .before .before .before .before .before .loop in
+    let set = c .before .before .set-mark in (
+      omega arith,
+      marking-more (a .h .size) (a .h .count) (a .t3 .changed) (a .m .now) (pre .0 .rows) (pre .0 .numbers) (pre .1) (own .i) (omega arith) (own .m) (set .last .0) (own .inv .1) (set .ensures),
+    )
+
+same-length : tie.Need-same-length Inv-loop μ-loop
+same-length c = c .before .loop .inv .1 .frame .length
+
+returns : tie.Need-returns Inv-loop μ-loop
+returns c =
+    let a = c .before .before .before .args in
+    let own = c .before .loop in
+    let all : own .i ≡ a .h .count = omega arith in
+    marking-all (a .h .size) (a .h .count) (a .t3 .changed) (a .m .now) (own .m)
+    (subst (λ (e : ℕ). Marking (a .h .size) (a .h .count) e (a .t3 .changed) (a .m .now) (own .m)) all (own .inv .1))
+
+pub set-marks-spec : {M : Type 1} → statement M
+set-marks-spec =
+    tie.close
+    (tie.spec
+    Inv-loop
+    μ-loop
+    loop-holds
+    set-mark-requires
+    (λ c. omega arith)
+    (λ c. omega arith)
+    loop-again
+    same-length
+    returns)

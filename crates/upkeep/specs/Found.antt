@@ -1,0 +1,20 @@
+-- Moves found by number.
+use Prim.Native.Nat.{ℕ, _<_}
+use mathlib.Core.Bool.{Bool}
+use mathlib.Core.Path.{_≡_}
+use mathlib.Core.List.{List}
+use Rattle.model.specs.Basics.{select, count, numbersFrom}
+use Rattle.model.specs.Moves.{Move}
+use Rattle.line.specs.Line.{movesIn}
+use Rattle.promises.specs.Layout.{numberIn, lineFrom}
+use Rattle.numbers.specs.Set.{inSet}
+use Rattle.upkeep.specs.declared.found.Found.{Found}
+
+-- Of the first n moves, those whose number passes a test.
+pub record Finds (c n : ℕ) (test : ℕ → Bool) (m : List ℕ) (r : Found) : Type 0 where
+  pub numbers : (i : ℕ) → i < n → inSet (r .numbers) (numberIn c m i) ≡ test (numberIn c m i)
+  pub counts : r .count ≡ count (λ i. test (numberIn c m i)) (numbersFrom 0 n)
+
+-- Of the moves of a line those whose number passes a test.
+abbrev pub foundMoves : ℕ → ℕ → ℕ → (ℕ → Bool) → List ℕ → List Move
+foundMoves c d n test m = select (λ x. test (x .number)) (movesIn (lineFrom c d n m))
