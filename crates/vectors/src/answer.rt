@@ -12,17 +12,8 @@ use crate::said::Said;
 use crate::week::hours_at;
 use crate::word;
 
-// The calls on no board; a word that asks none of them has no answer.
-fn plain(values: &[u64], s: Said) -> Said {
-    let word = s.word;
-    match word {
-        word::ADDRESS | word::COSTS_OF | word::REGION => address::answer(values, s),
-        word::LESS | word::DOMINATES | word::DRAWN => pairs::answer(values, s),
-        _ => s,
-    }
-}
-
-// The calls that leave the memory as it was.
+// The calls that leave the memory as it was, and those on no board; a word that asks none of them
+// has no answer.
 fn read(memory: &[u8], values: &[u64], s: Said) -> Said {
     match word::call_of(s.word) {
         word::LIST | word::BAND | word::ON_K | word::CHOSEN => list(memory, values, s),
@@ -31,7 +22,9 @@ fn read(memory: &[u8], values: &[u64], s: Said) -> Said {
         word::PREVIEW_ENTER | word::PREVIEW_WITHDRAW | word::PREVIEW_RECOST => {
             preview(memory, values, s)
         }
-        _ => plain(values, s),
+        word::ADDRESS | word::COSTS_OF | word::REGION => address::answer(values, s),
+        word::LESS | word::DOMINATES | word::DRAWN => pairs::answer(values, s),
+        _ => s,
     }
 }
 

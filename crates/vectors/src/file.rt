@@ -26,23 +26,17 @@ fn lent(r: Reading, values: &[u64]) -> usize {
     }
 }
 
-// How many bytes are in use after a line whose call was lent so many: those of the last load that was accepted.
-fn in_use(r: Reading, values: &[u64], lent: usize) -> usize {
-    if word::is_load(r.word) && value(values, r.asked) == 0 {
-        lent
-    } else {
-        r.bytes
-    }
-}
-
+// After a load the memory is at least as long as the load's.
 fn answered(r: Reading, memory: &mut [u8], values: &[u64]) -> Reading {
-    let n = at_most(lent(r, values), memory.len());
     let mut next = next_line(r);
     if is_passed(r.word) {
         next.passed = r.passed % 1000000000 + 1;
         return next;
     }
-    next.bytes = in_use(r, values, n);
+    let n = at_most(lent(r, values), memory.len());
+    if r.bytes < n {
+        next.bytes = n;
+    }
     if agrees(r, &mut memory[..n], values) {
         next.agree = r.agree % 1000000000 + 1;
     }
@@ -84,7 +78,7 @@ fn begun() -> Reading {
         count: 0,
         asked: 0,
         open: false,
-        bytes: MEMORY,
+        bytes: 0,
         agree: 0,
         passed: 0,
         more: true,

@@ -1,5 +1,5 @@
-// The comparison of two costs and dominance, of what a line has and of pairs of rows drawn, whose answers are held against a
-// test by the signs of the language.
+// The comparison of two costs and dominance, of what a line has and of pairs of rows drawn, whose
+// answers are held against a test by the signs of the language.
 use crate::said::Said;
 use crate::said::put;
 use crate::values::at_most;
@@ -14,7 +14,8 @@ use zorder::COSTS;
 ghost use Prim.Native.Nat.{_≤_};
 ghost use Rattle.zorder.specs.Address.{rowCosts};
 
-// Pairs in which the first cost is less, pairs in which the first row dominates, and answers that are not the plain ones.
+// Pairs in which the first cost is less, pairs in which the first row dominates, and answers that
+// are not the plain ones.
 struct Tally {
     lesser: u64,
     dominating: u64,
@@ -70,20 +71,24 @@ fn row(seed: usize, other: [u16; COSTS]) -> [u16; COSTS] {
     r
 }
 
+fn with_answer(t: Tally, lesser: bool, dominating: bool, right: bool) -> Tally {
+    Tally {
+        lesser: t.lesser % 4294967296 + number(lesser) % 2,
+        dominating: t.dominating % 4294967296 + number(dominating) % 2,
+        wrong: t.wrong % 4294967296 + number(!right) % 2,
+    }
+}
+
 // The tally with one pair more.
 fn with_pair(t: Tally, d: usize, p: [u16; COSTS], q: [u16; COSTS]) -> Tally
     requires { ⌜ d ≤ rowCosts ⌝ }
 {
     let a = p[0];
     let b = q[0];
-    let lesser = less(a, b) as u64;
-    let dominating = number(dominates(d, p, q));
-    let right = (lesser == number(a < b)) & (dominating == number(plain_dominates(d, p, q)));
-    Tally {
-        lesser: t.lesser % 4294967296 + lesser % 2,
-        dominating: t.dominating % 4294967296 + dominating % 2,
-        wrong: t.wrong % 4294967296 + number(!right) % 2,
-    }
+    let lesser = less(a, b) == 1;
+    let dominating = dominates(d, p, q);
+    let right = (lesser == (a < b)) & (dominating == plain_dominates(d, p, q));
+    with_answer(t, lesser, dominating, right)
 }
 
 fn drawn(n: u64) -> Tally {

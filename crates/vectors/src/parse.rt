@@ -1,8 +1,9 @@
 // A file's lines, byte by byte.
 
-// The line as far as it was read: its word, which is whole once a blank came, how many of its numbers are whole, how many of
-// them stand before the sign `=`, and whether the last byte was a digit; then how many bytes of the memory are in use, how
-// many lines before it agree, how many were passed by, and whether there may be more. The numbers go into lent space.
+// The line as far as it was read: its word, which is whole once a blank came, how many of its
+// numbers are whole, how many of them stand before the sign `=`, and whether the last byte was a
+// digit; then how long the longest load was so far, how many lines before it agree, how many were
+// passed by, and whether there may be more. The numbers go into lent space.
 pub struct Reading {
     pub word: u32,
     pub named: bool,

@@ -1,11 +1,12 @@
-// What is answered to a line, number by number, held against what the line says. From the first number that differs on the
-// line is written, with what is answered.
+// What is answered to a line, number by number, held against what the line says. From the first
+// number that differs on the line is written, with what is answered.
 use crate::parse::Reading;
 use crate::values::value;
 use crate::values::wide;
 use libc::STDOUT_FILENO;
 
-// A line's word, how many of its numbers are asked and how many there are, the place of the next one answered.
+// A line's word, how many of its numbers are asked and how many there are, the place of the next
+// one answered.
 pub struct Said {
     pub word: u32,
     pub asked: usize,

@@ -1,5 +1,6 @@
-// The hours call. An entry of the line is a block, a count and so many windows, at most four. As many entries are lent as the
-// last block named asks for: of those not named the count is 0. What stands past a count nobody looks at.
+// The hours call. An entry of the line is a block, a count and so many windows, at most four. As
+// many entries are lent as the last block named asks for: of those not named the count is 0. What
+// stands past a count nobody looks at.
 use crate::rows::put_plan;
 use crate::said::Said;
 use crate::values::VALUES;
