@@ -92,24 +92,6 @@ fn every_value_of_a_block() {
     }
 }
 
-/// Every call on boards of which one block is wrong or just right.
-#[test]
-fn damaged_blocks() {
-    let mut random = Random::new(23);
-    let mut seen = Seen::default();
-    let bytes = used_board(library::ask, 16, 3, 12, 8);
-    let (board, _) = layout::sound(&bytes).unwrap();
-    for at in blocks(16)..blocks(16) + 16 {
-        for value in [63, 64, 128, 255] {
-            let mut damaged = bytes.clone();
-            damaged[at] = value;
-            try_all(library::ask, &damaged, &mut random, &mut seen);
-            try_all(plain::ask, &damaged, &mut random, &mut seen);
-        }
-    }
-    assert_eq!(seen.unsound, 2 * 3 * board.moves.len());
-}
-
 /// Memory of another format: every call but load answers 3 and writes no byte.
 #[test]
 fn every_other_format() {

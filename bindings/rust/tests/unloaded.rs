@@ -6,29 +6,21 @@ use reference::random::Random;
 use reference::tries::{try_all, Seen};
 use reference::COSTS;
 
-/// Nothing but random bytes, of any length.
+/// Nothing but zeros, then nothing but random bytes, of any length.
 #[test]
-fn random_bytes() {
+fn zeros_and_random_bytes() {
     let mut random = Random::new(11);
     let mut seen = Seen::default();
-    let lengths = [0, 1, 2, 3, 5, 6, 15, 16, 17, 100, 2047, 2048, 2049, 2112, 4000];
+    let lengths = [0, 1, 2, 3, 5, 6, 15, 16, 17, 100, 2047, 2048, 2049, 2112, 4096];
     for round in 0..600 {
         let mut bytes = vec![0; lengths[round % lengths.len()]];
-        random.fill(&mut bytes);
+        if round >= lengths.len() {
+            random.fill(&mut bytes);
+        }
         try_all(library::ask, &bytes, &mut random, &mut seen);
+        assert!(round >= lengths.len() || seen.sound == 0, "zeros are no board");
     }
     assert!(seen.unsound > 500);
-}
-
-/// Nothing but zeros.
-#[test]
-fn zero_bytes() {
-    let mut random = Random::new(10);
-    let mut seen = Seen::default();
-    for length in [0, 1, 2, 16, 2047, 2048, 4096] {
-        try_all(library::ask, &vec![0; length], &mut random, &mut seen);
-    }
-    assert_eq!((seen.sound, seen.unsound), (0, 7));
 }
 
 /// Random bytes with fields that are nearly right, so that every step of the decision is reached.
