@@ -152,7 +152,7 @@ module _ {c d n p : ℕ} {m : List ℕ} (s : SoundAt c d n m) (b : Bytes m) (x :
     unfolding changeRefusal
     recost-checks = all-pass (boardIn m) (x .number) block (x .costs) (not (onBoard (x .number) (boardIn m .moves))) 5 ok
 
-    recost-place : p < n
+    pub recost-place : p < n
     recost-place = found-place s (x .number) p e (recost-checks .2)
 
     recost-rest : dropAt p (ms s) ≡ without (x .number) (ms s)
@@ -177,7 +177,7 @@ module _ {c d n p : ℕ} {m : List ℕ} (s : SoundAt c d n m) (b : Bytes m) (x :
 
 module _ {c d n p : ℕ} {m : List ℕ} (s : SoundAt c d n m) (b : Bytes m) (x : Move) (block : ℕ) (w : Costs rowCosts (x .costs)) (e : PlaceOf c n (x .number) m p) where
   -- A number that is not on the board has the place past the last.
-  enter-last : changeRefusal (boardIn m) (calls.enter (x .number) block (x .costs)) ≡ 0 → p ≡ n
+  pub enter-last : changeRefusal (boardIn m) (calls.enter (x .number) block (x .costs)) ≡ 0 → p ≡ n
   enter-last ok =
       omega (arith, e .within, ltb-false p n (sym (on-board c d n m s (x .number) p e) ∙ enter-checks s b x block w ok .2))
 
