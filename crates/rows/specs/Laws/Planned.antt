@@ -28,7 +28,7 @@ use Rattle.promises.specs.declared.Outcome.the-variants.{Unsound, BadArgument}
 use Rattle.upkeep.specs.declared.found.Found.{Found}
 use Rattle.rows.specs.Telling.{TellingAsked, toldRows, filledRows, listing}
 use Rattle.rows.specs.Planned.{answerBy, Foreseen, Tells, Plans, QueryPlanned, Refuses, PlansFound, put, answered}
-use Rattle.rows.specs.Laws.Telling.{filled-all}
+use Rattle.rows.specs.Laws.Telling.{filled-all, length-none}
 use Rattle.rows.specs.Laws.Listed.{found-rows, found-count, listed-asked}
 use Rattle.rows.specs.declared.plan.Plan.{Plan}
 use Rattle.rows.specs.declared.telling.Telling.{Telling}
@@ -135,10 +135,6 @@ map-drop f zero xs = refl
 map-drop f (suc k) [] = refl
 map-drop f (suc k) (x ∷ xs) = map-drop f k xs
 
-none-left : {A : Type 0} (l : List A) → length l ≡ 0 → l ≡ []
-none-left [] e = refl
-none-left (x ∷ l) e = absurd (omega arith)
-
 -- Nothing put changes nothing.
 put-none : (from : ℕ) (rows : List Row) → put from [] rows ≡ rows
 unfolding put
@@ -198,7 +194,7 @@ module _ {v : Verdict} {new : List Row} {m : List ℕ} {t : Telling} (tells : Te
       by zero e =
           ap (λ (k : ℕ). map resultRow (filledRows (t .told) (t .numbers) m from k rows)) e
           ∙ sym (put-none from (map resultRow rows))
-          ∙ ap (λ (l : List Row). put from l (map resultRow rows)) (sym (none-left new (sym (tells .count z) ∙ e)))
+          ∙ ap (λ (l : List Row). put from l (map resultRow rows)) (sym (length-none new (sym (tells .count z) ∙ e)))
       by (suc k) e = filled-put rows from h (omega (arith, e))
 
   pub tells-none : (rows : List (List ℕ)) (from : ℕ) → 0 < numberOf v → filledRows (t .told) (t .numbers) m from (t .count) rows ≡ rows

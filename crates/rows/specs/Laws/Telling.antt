@@ -201,6 +201,10 @@ module _ (t : Told) (numbers m : List ℕ) where
       ap (λ (js : List ℕ). firstOr (replicate (2 + rowCosts) 0) (map (rowAt t m) js)) (position-from t numbers m k)
       ∙ first-drop (rowAt t m) (replicate (2 + rowCosts) 0) k (toldFrom t numbers m 0)
 
+  pub told-row : TellingAsked t m → (k : ℕ) → nextRow t numbers m (position t numbers m k) ≡ getD (toldRows t numbers m) k (replicate (2 + rowCosts) 0)
+  told-row asked k =
+      next-row k ∙ ap (λ (rows : List (List ℕ)). getD rows k (replicate (2 + rowCosts) 0)) (told-all (asked .place))
+
   filled-some : (rows : List (List ℕ)) (from k : ℕ) → k ≤ length told → from + k ≤ length rows → filledRows t numbers m from k rows ≡ paste rows from told k
   unfolding filledRows
   filled-some rows from zero h l = paste-zero rows from told
