@@ -7,7 +7,6 @@ use borrow.Author.Tests.{eq-eqb, ne-eqb, eqb-true}
 use native.Mathlib.Omega.{arith}
 use lib.Dec.{eqb}
 use lib.ListN.{length, set, length-append}
-use Rattle.model.specs.Moves.{Row}
 use Rattle.model.specs.Calls as calls
 use Rattle.model.specs.Laws.Bool.{testCases}
 use Rattle.promises.specs.Answers.{numberOf, answerOf}

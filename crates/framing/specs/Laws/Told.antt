@@ -9,7 +9,7 @@ use lib.ListN.{length, getD, take, replicate, length-map, length-take, List·get
 use lib.Seq.{take-length}
 use Rattle.model.specs.Moves.{Row}
 use Rattle.promises.specs.Answers.{resultRow}
-use Rattle.rows.specs.Telling.{TellingAsked, toldRows, nextRow, nextAt, position}
+use Rattle.rows.specs.Telling.{toldRows, nextRow, nextAt, position}
 use Rattle.rows.specs.Laws.Telling.{told-row}
 use Rattle.rows.specs.declared.telling.Telling.{Telling}
 use Rattle.framing.specs.Text.{rowText, rowsText}

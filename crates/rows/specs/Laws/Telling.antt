@@ -8,7 +8,7 @@ use native.Mathlib.Nat.{add-suc, zero-add}
 use native.Mathlib.Numerals.{add-one}
 use native.Mathlib.Omega.{arith}
 use borrow.Author.Tests.{ltb-true, ltb-false, lt-ltb, le-ltb, eq-eqb, ne-eqb}
-use lib.Dec.{eqb, ltb}
+use lib.Dec.{ltb}
 use lib.ListN.{length, getD, set, drop, replicate, length-set}
 use lib.Seq.{paste, paste-zero, paste-suc, drop-drop}
 use Rattle.model.specs.Basics.{consIf, select, numbersFrom, firstOr}
