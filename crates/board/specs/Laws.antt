@@ -7,12 +7,12 @@ pub mod Steps
 pub mod Enter
 pub mod Withdraw
 pub mod Recost
+pub mod Told
 pub mod Notice
 pub mod Calls
 pub mod Accepted
 pub mod Unchanged
 pub mod Plan
-pub mod WithBlock
 pub mod Give
 pub mod Promise
 pub mod CarryOut

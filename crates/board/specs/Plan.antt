@@ -22,6 +22,8 @@ use Rattle.upkeep.specs.declared.exchange.Upkeep.{Upkeep}
 use Rattle.upkeep.specs.declared.exchange.Exchange.{Exchange}
 use Rattle.rows.specs.Telling.{nobody}
 use Rattle.rows.specs.Planned.{Foreseen, Tells}
+use Rattle.rows.specs.declared.telling.Coming.{Coming}
+use Rattle.rows.specs.declared.telling.Told.{Told}
 use Rattle.rows.specs.declared.telling.Telling.{Telling}
 use Rattle.board.specs.Kind.{callOf, comes, comingOf}
 use Rattle.board.specs.Change.{Made, ToEnter, ToWithdraw, ToRecost}
@@ -82,10 +84,16 @@ pub record CarriedOut (p : ChangePlan) (m m' : List ℕ) : Type 0 where
 -- ---- what a plan tells
 
 -- The listed moves whose mark changes leave; the hidden ones enter, and the coming one.
+abbrev pub leavingBy : Head → Told
+leavingBy h = record { head = h; mark = left; among = Listed; coming = nobody }
+
+abbrev pub enteringBy : Head → Coming → Told
+enteringBy h x = record { head = h; mark = entered; among = Hidden; coming = x }
+
 abbrev pub leftOf : ChangePlan → Telling
 leftOf p =
     record {
-      told = record { head = p .head; mark = left; among = Listed; coming = nobody };
+      told = leavingBy (p .head);
       numbers = p .upkeep .changed;
       count = counted (numberOf (p .verdict)) (p .upkeep .left);
     }
@@ -93,13 +101,7 @@ leftOf p =
 abbrev pub enteredOf : ChangePlan → Telling
 enteredOf p =
     record {
-      told =
-          record {
-            head = p .head;
-            mark = entered;
-            among = Hidden;
-            coming = record { told = p .upkeep .listed; place = p .place; entrant = comingOf (p .change) };
-          };
+      told = enteringBy (p .head) (record { told = p .upkeep .listed; place = p .place; entrant = comingOf (p .change) });
       numbers = p .upkeep .changed;
       count = counted (numberOf (p .verdict)) (p .need - p .upkeep .left);
     }

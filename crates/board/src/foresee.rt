@@ -2,10 +2,10 @@
 use memory::Head;
 use memory::costs_of;
 use memory::number_at;
+use numbers::empty;
 use tree::place_for;
 use upkeep::Exchange;
 use upkeep::Upkeep;
-use numbers::empty;
 use zorder::COSTS;
 ghost use mathlib.Core.Bool.{cond};
 ghost use mathlib.Core.Path.{_≡_};

@@ -28,5 +28,9 @@ pub fn judge(h: Head, x: Change, on: bool) -> Outcome
     if is_new(kind) != on {
         return Outcome::Accepted;
     }
-    if on { Outcome::NumberTwice } else { Outcome::NumberAbsent }
+    if on {
+        Outcome::NumberTwice
+    } else {
+        Outcome::NumberAbsent
+    }
 }

@@ -58,7 +58,7 @@ fn make_recost(m: &mut [u8], h: Head, p: usize, x: Move, u: Upkeep)
 
 // The change of moves that the plan makes, if any.
 fn make_moves(m: &mut [u8], p: ChangePlan)
-    requires { ⌜ plan.Ready p (now m) ⌝ }
+    requires { ⌜ plan.MovesReady p (now m) ⌝ }
     ensures { λ _. ⌜ plan.MovesMade p (now (m .entry)) (now (m .exit)) ⌝ }
 {
     if !p.makes {

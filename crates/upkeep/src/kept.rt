@@ -1,9 +1,9 @@
 // What a change does to the kept list, found without writing.
+use crate::entering::find_entering;
 use crate::exchange::Exchange;
 use crate::exchange::Upkeep;
 use crate::exchange::hidden_by_coming;
 use crate::exchange::hidden_by_others;
-use crate::entering::find_entering;
 use memory::Among;
 use memory::Head;
 use memory::RUNS;
@@ -53,7 +53,13 @@ fn find_leaving(m: &[u8], h: Head, k: Exchange, changed: &mut [u64; WORDS]) -> u
 }
 
 // Whether a move comes and is listed afterwards; its place is that among the moves before the change.
-fn coming_listed(m: &[u8], h: Head, k: Exchange, corners: &[[u16; COSTS]; RUNS], place: usize) -> bool
+fn coming_listed(
+    m: &[u8],
+    h: Head,
+    k: Exchange,
+    corners: &[[u16; COSTS]; RUNS],
+    place: usize,
+) -> bool
     requires { ⌜ spec.ChangeAsked (h .size) (h .dimension) (h .count) k (now m) × spec.AllCorners h (now m) (now corners) ⌝ }
     requires { ⌜ spec.ComingPlace (h .size) (h .dimension) (h .count) k (now m) place ⌝ }
     ensures { λ r. ⌜ r ≡ spec.comingListed (h .size) (h .dimension) (h .count) k (now (m .entry)) ⌝ }

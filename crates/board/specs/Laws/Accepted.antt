@@ -1,4 +1,4 @@
--- A change that no check turns down is ready to be told and made, and stands for its call.
+-- A change that no check turns down is ready to be told and made.
 use Prim.Native.Nat.{ℕ, suc, _<_, _≤_}
 use mathlib.Core.Bool.{Bool, true, false, not, _&&_}
 use mathlib.Core.List.{List, [], _∷_}
@@ -12,9 +12,10 @@ use Rattle.zorder.specs.Laws.Address.{Costs}
 use Rattle.zorder.specs.Refusal.{refusal, costPastBad}
 use Rattle.model.specs.Basics.{distinct}
 use Rattle.model.specs.Moves as model
+use Rattle.model.specs.Moves.{insert}
 use Rattle.model.specs.Withdrawing.{without}
 use Rattle.model.specs.Calls as calls
-use Rattle.model.specs.Calls.{blockBad, onBoard, changeRefusal}
+use Rattle.model.specs.Calls.{blockBad, onBoard, changeRefusal, changedMoves}
 use Rattle.model.specs.Sound.{Fit}
 use Rattle.model.specs.Laws.Bool.{both-ways}
 use Rattle.model.specs.Laws.Basics.{each-mono}
@@ -24,7 +25,7 @@ use Rattle.zorder.specs.Laws.Refusal.{first-passes, rest-passes}
 use Rattle.model.specs.Laws.Changes.{off-without}
 use Rattle.model.specs.Laws.Blocks.{block-most}
 use Rattle.line.specs.Line.{movesIn}
-use Rattle.promises.specs.Layout.{lineFrom, boardIn}
+use Rattle.promises.specs.Layout.{numberIn, costsIn, lineFrom, boardIn}
 use Rattle.promises.specs.Run.{Bytes}
 use Rattle.dominance.specs.Move.{asMove}
 use Rattle.dominance.specs.declared.Move.{Move}
@@ -32,16 +33,16 @@ use Rattle.memory.specs.Held.{SoundAt}
 use Rattle.memory.specs.Laws.Lines.{length-line}
 use Rattle.memory.specs.Laws.Held.{held-fit, held-distinct}
 use Rattle.tree.specs.Withdraw.{PlaceOf}
-use Rattle.upkeep.specs.Change.{dropAt}
+use Rattle.upkeep.specs.Change.{dropAt, movesAfter, Upkept}
 use Rattle.upkeep.specs.Laws.Change.{rest-without}
-use Rattle.upkeep.specs.declared.change.Change.{Change}
+use Rattle.upkeep.specs.declared.exchange.Exchange.{Exchange}
+use Rattle.upkeep.specs.declared.exchange.Upkeep.{Upkeep}
 use Rattle.board.specs.Kind.{changeOf, comes}
-use Rattle.board.specs.Plan.{callOf, Ready}
-use Rattle.board.specs.declared.judge.Kind.{Kind}
-use Rattle.board.specs.declared.judge.Kind.the-variants.{Enter, Withdraw, Recost}
+use Rattle.board.specs.Plan.{ReadyRows, PreparedFor}
+use Rattle.board.specs.declared.change.Kind.{Kind}
+use Rattle.board.specs.declared.change.Kind.the-variants.{Enter, Withdraw, Recost}
 use Rattle.board.specs.Laws.Judge.{board-moves, judge-size, judge-past, on-board}
 use Rattle.board.specs.Laws.Marks.{entering-moves}
-use Rattle.board.specs.Laws.Calls.{call-enter, call-withdraw, call-recost}
 
 -- The four checks, none of which turns the change down.
 all-pass : (b : calls.Board) (number block : ℕ) (costs : List ℕ) (t : Bool) (k : ℕ)
@@ -71,7 +72,7 @@ module _ {c d n : ℕ} {m : List ℕ} (s : SoundAt c d n m) where
 -- ---- enter
 
 module _ {c d n : ℕ} {m : List ℕ} (s : SoundAt c d n m) (b : Bytes m) (x : Move) (block : ℕ) (w : Costs rowCosts (x .costs)) where
-  abbrev coming : Change
+  abbrev coming : Exchange
   coming = record { goes = n; comes = true; coming = x }
 
   module _ (ok : changeRefusal (boardIn m) (calls.enter (x .number) block (x .costs)) ≡ 0) where
@@ -98,7 +99,7 @@ module _ {c d n : ℕ} {m : List ℕ} (s : SoundAt c d n m) (b : Bytes m) (x : M
           length-line c d n m,
         )
 
-    enter-ready : Ready c d n coming m
+    enter-ready : ReadyRows c d n coming m
     enter-ready =
         record {
           asked =
@@ -116,7 +117,7 @@ module _ {c d n : ℕ} {m : List ℕ} (s : SoundAt c d n m) (b : Bytes m) (x : M
 -- ---- withdraw
 
 module _ {c d n number p : ℕ} {m : List ℕ} (s : SoundAt c d n m) (b : Bytes m) (none : Move) (e : PlaceOf c n number m p) where
-  abbrev leaving : Change
+  abbrev leaving : Exchange
   leaving = record { goes = p; comes = false; coming = none }
 
   module _ (ok : changeRefusal (boardIn m) (calls.withdraw number) ≡ 0) where
@@ -126,7 +127,7 @@ module _ {c d n number p : ℕ} {m : List ℕ} (s : SoundAt c d n m) (b : Bytes 
         let large = leb (boardIn m .size) number in
         found-place s number p e (first-passes (not (onBoard number (boardIn m .moves))) 5 [] (rest-passes large 3 _ ok))
 
-    withdraw-ready : Ready c d n leaving m
+    withdraw-ready : ReadyRows c d n leaving m
     withdraw-ready =
         record {
           asked = record { sound = s; goes = e .within; fit = λ f. both-ways f refl; new = λ f. both-ways f refl };
@@ -134,9 +135,6 @@ module _ {c d n number p : ℕ} {m : List ℕ} (s : SoundAt c d n m) (b : Bytes 
           number = λ f. both-ways f refl;
           place = λ _. withdraw-place;
         }
-
-    withdraw-call : (block : ℕ) → callOf c n leaving block m ≡ calls.withdraw number
-    withdraw-call block = call-withdraw c n leaving block m refl ∙ ap calls.withdraw (e .found withdraw-place)
 
 -- ---- re-cost
 
@@ -146,7 +144,7 @@ recost-on b number block costs ok =
     not-false (onBoard number (b .moves)) (all-pass b number block costs (not (onBoard number (b .moves))) 5 ok .2)
 
 module _ {c d n p : ℕ} {m : List ℕ} (s : SoundAt c d n m) (b : Bytes m) (x : Move) (block : ℕ) (w : Costs rowCosts (x .costs)) (e : PlaceOf c n (x .number) m p) where
-  abbrev moving : Change
+  abbrev moving : Exchange
   moving = record { goes = p; comes = true; coming = x }
 
   module _ (ok : changeRefusal (boardIn m) (calls.recost (x .number) block (x .costs)) ≡ 0) where
@@ -154,13 +152,13 @@ module _ {c d n p : ℕ} {m : List ℕ} (s : SoundAt c d n m) (b : Bytes m) (x :
     unfolding changeRefusal
     recost-checks = all-pass (boardIn m) (x .number) block (x .costs) (not (onBoard (x .number) (boardIn m .moves))) 5 ok
 
-    recost-place : p < n
+    pub recost-place : p < n
     recost-place = found-place s (x .number) p e (recost-checks .2)
 
     recost-rest : dropAt p (ms s) ≡ without (x .number) (ms s)
     recost-rest = rest-without c d n p m s b recost-place ∙ ap (λ (k : ℕ). without k (ms s)) (e .found recost-place)
 
-    recost-ready : Ready c d n moving m
+    recost-ready : ReadyRows c d n moving m
     recost-ready =
         record {
           asked =
@@ -175,32 +173,55 @@ module _ {c d n p : ℕ} {m : List ℕ} (s : SoundAt c d n m) (b : Bytes m) (x :
           place = λ f. both-ways refl f;
         }
 
-    recost-call : callOf c n moving block m ≡ calls.recost (x .number) block (x .costs)
-    recost-call = call-recost c n moving block m refl recost-place
-
 -- ---- each kind of change
 
 module _ {c d n p : ℕ} {m : List ℕ} (s : SoundAt c d n m) (b : Bytes m) (x : Move) (block : ℕ) (w : Costs rowCosts (x .costs)) (e : PlaceOf c n (x .number) m p) where
   -- A number that is not on the board has the place past the last.
-  enter-last : changeRefusal (boardIn m) (calls.enter (x .number) block (x .costs)) ≡ 0 → p ≡ n
+  pub enter-last : changeRefusal (boardIn m) (calls.enter (x .number) block (x .costs)) ≡ 0 → p ≡ n
   enter-last ok =
       omega (arith, e .within, ltb-false p n (sym (on-board c d n m s (x .number) p e) ∙ enter-checks s b x block w ok .2))
 
-  abbrev change : Kind → Change
+  abbrev change : Kind → Exchange
   change kind = record { goes = p; comes = comes kind; coming = x }
 
-  pub kind-ready : (kind : Kind) → changeRefusal (boardIn m) (changeOf kind (x .number) block (x .costs)) ≡ 0 → Ready c d n (change kind) m
+  pub kind-ready : (kind : Kind) → changeRefusal (boardIn m) (changeOf kind (x .number) block (x .costs)) ≡ 0 → ReadyRows c d n (change kind) m
   unfolding changeOf comes
   kind-ready Enter ok =
-      subst (λ (g : ℕ). Ready c d n (record { goes = g; comes = true; coming = x }) m) (sym (enter-last ok)) (enter-ready s b x block w ok)
+      subst (λ (g : ℕ). ReadyRows c d n (record { goes = g; comes = true; coming = x }) m) (sym (enter-last ok)) (enter-ready s b x block w ok)
   kind-ready Withdraw ok = withdraw-ready s b x e ok
   kind-ready Recost ok = recost-ready s b x block w e ok
 
-  pub kind-call : (kind : Kind) → changeRefusal (boardIn m) (changeOf kind (x .number) block (x .costs)) ≡ 0 → callOf c n (change kind) block m ≡ changeOf kind (x .number) block (x .costs)
-  unfolding changeOf comes
-  kind-call Enter ok = call-enter c n (change Enter) block m refl (omega (arith, enter-last ok))
-  kind-call Withdraw ok = withdraw-call s b x e ok block
-  kind-call Recost ok = recost-call s b x block w e ok
+  -- The moves that it leaves.
+  pub kind-moves : (kind : Kind) → changeRefusal (boardIn m) (changeOf kind (x .number) block (x .costs)) ≡ 0
+      → movesAfter d (change kind) (movesIn (lineFrom c d n m)) ≡ changedMoves d (changeOf kind (x .number) block (x .costs)) (movesIn (lineFrom c d n m))
+  unfolding changeOf comes movesAfter changedMoves
+  kind-moves Enter ok = ap (insert d (asMove x)) (ap (λ (g : ℕ). dropAt g (ms s)) (enter-last ok) ∙ entering-moves c d n m)
+  kind-moves Withdraw ok =
+      let l = withdraw-place s b x e ok in
+      rest-without c d n p m s b l ∙ ap (λ (k : ℕ). without k (ms s)) (e .found l)
+  kind-moves Recost ok = ap (insert d (asMove x)) (recost-rest s b x block w e ok)
+
+  -- What making its moves asks.
+  pub kind-prepared : (kind : Kind) {u : Upkeep} → changeRefusal (boardIn m) (changeOf kind (x .number) block (x .costs)) ≡ 0
+      → (comes kind ≡ true → p < n → costsIn c d m (numberIn c m p) ≡ x .costs → ⊥)
+      → Upkept c d n (change kind) m u
+      → PreparedFor kind (record { size = c; dimension = d; count = n }) (record { kind = kind; number = x .number; block = block; costs = x .costs }) p u m
+  unfolding changeOf comes PreparedFor
+  kind-prepared Enter {u} ok other up =
+      let ready = enter-ready s b x block w ok in
+      record {
+        asked = ready .asked;
+        space = enter-space s b x block w ok;
+        upkept = subst (λ (g : ℕ). Upkept c d n (record { goes = g; comes = true; coming = x }) m u) (enter-last ok) up;
+      }
+  kind-prepared Withdraw ok other up =
+      let ready = withdraw-ready s b x e ok in
+      let l = withdraw-place s b x e ok in
+      (record { coming = x; asked = ready .asked; place = l; upkept = up }, e .found l)
+  kind-prepared Recost ok other up =
+      let ready = recost-ready s b x block w e ok in
+      let l = recost-place s b x block w e ok in
+      record { asked = ready .asked; place = l; number = e .found l; other = other refl l; upkept = up }
 
   -- The block that an accepted change gives.
   pub kind-block : (kind : Kind) → comes kind ≡ true → changeRefusal (boardIn m) (changeOf kind (x .number) block (x .costs)) ≡ 0 → (x .number < c) × (block ≤ 63)

@@ -1,72 +1,60 @@
--- Carrying a plan out: what each of the three changes asks, and what they leave.
-use Prim.Native.Nat.{ℕ, _≤_, _<_}
-use mathlib.Core.Bool.{Bool, true, false}
+-- Carrying out a plan, by its kind.
+use Prim.Native.Nat.{ℕ}
+use mathlib.Core.Bool.{true, false}
 use mathlib.Core.List.{List}
-use mathlib.Core.Path.{_≡_, refl, sym, subst}
+use mathlib.Core.Path.{_≡_, sym, subst}
 use native.Mathlib.Omega.{arith}
-use Rattle.model.specs.Calls as calls
 use Rattle.model.specs.Laws.Bool.{both-ways}
+use Rattle.promises.specs.Sound.{Sound}
+use Rattle.model.specs.Calls as calls
 use Rattle.dominance.specs.Move.{asMove}
-use Rattle.upkeep.specs.Change.{ChangeAsked, Upkept}
-use Rattle.upkeep.specs.declared.change.Change.{Change}
-use Rattle.upkeep.specs.declared.telling.Telling.{Telling}
-use Rattle.board.specs.Change.{Made, EnterMade, WithdrawMade, RecostMade, ToEnter, ToWithdraw, ToRecost}
-use Rattle.board.specs.Plan.{changeIn, callIn, Prepared, Able, MovesMade}
-use Rattle.board.specs.Laws.Calls.{call-withdraw, call-recost, call-enter}
-use Rattle.upkeep.specs.declared.plan.Plan.{Plan}
+use Rattle.dominance.specs.declared.Move.{Move}
+use Rattle.promises.specs.Layout.{numberIn}
+use Rattle.promises.specs.Answers.{numberOf}
+use Rattle.memory.specs.Stores.{setBlock}
+use Rattle.board.specs.Kind.{changeOf, comes, comingOf}
+use Rattle.board.specs.Change.{Made, EnterMade, WithdrawMade, RecostMade}
+use Rattle.board.specs.Plan.{MovesReady, MovesMade, CarriedOut, PreparedFor}
+use Rattle.board.specs.declared.change.Change.{Change}
+use Rattle.board.specs.declared.change.Kind.{Kind}
+use Rattle.board.specs.declared.change.Kind.the-variants.{Enter, Withdraw, Recost}
+use Rattle.board.specs.declared.plan.ChangePlan.{ChangePlan}
 
-module _ {t : Telling} {k : Change} {m : List ℕ} (a : Prepared t k m) where
-  change-is : (goes : ℕ) (comes : Bool) → k .goes ≡ goes → k .comes ≡ comes → k ≡ record { goes = goes; comes = comes; coming = k .coming }
-  change-is goes comes e f = λ i. record { goes = e i; comes = f i; coming = k .coming }
+module _ (p : ChangePlan) (m : List ℕ) (ready : MovesReady p m) (h : p .makes ≡ true) where
+  -- What the plan's kind asks.
+  pub prepared-for : {kind : Kind} → p .change .kind ≡ kind → PreparedFor kind (p .head) (p .change) (p .goes) (p .upkeep) m
+  prepared-for e = subst (λ (kind : Kind). PreparedFor kind (p .head) (p .change) (p .goes) (p .upkeep) m) e (ready h)
 
-  pub enter-prepared : k .comes ≡ true → t .head .count ≤ k .goes → ToEnter (t .head .size) (t .head .dimension) (t .head .count) (k .coming) (t .upkeep) m
-  enter-prepared e l =
-      let is = change-is (t .head .count) true (omega (arith, a .ready .asked .goes)) e in
+  sound-for : (kind : Kind) → PreparedFor kind (p .head) (p .change) (p .goes) (p .upkeep) m → Sound m
+  unfolding PreparedFor
+  sound-for Enter a = a .asked .sound .sound
+  sound-for Withdraw a = a .0 .asked .sound .sound
+  sound-for Recost a = a .asked .sound .sound
+
+  pub moves-made : {m' : List ℕ} {kind : Kind} → p .change .kind ≡ kind → Made (changeOf kind (p .change .number) (p .change .block) (p .change .costs)) m m' → MovesMade p m m'
+  moves-made {m'} {kind} e made =
+      let sound = sound-for kind (prepared-for e) in
       record {
-        asked = subst (λ (k : Change). ChangeAsked (t .head .size) (t .head .dimension) (t .head .count) k m) is (a .ready .asked);
-        space = a .ready .space e l;
-        upkept = subst (λ (k : Change). Upkept (t .head .size) (t .head .dimension) (t .head .count) k m (t .upkeep)) is (a .upkept);
-      }
-
-  pub withdraw-prepared : k .comes ≡ false → ToWithdraw (t .head .size) (t .head .dimension) (t .head .count) (k .goes) (t .upkeep) m
-  withdraw-prepared e =
-      let is = change-is (k .goes) false refl e in
-      record {
-        coming = k .coming;
-        asked = subst (λ (k : Change). ChangeAsked (t .head .size) (t .head .dimension) (t .head .count) k m) is (a .ready .asked);
-        place = a .ready .place e;
-        upkept = subst (λ (k : Change). Upkept (t .head .size) (t .head .dimension) (t .head .count) k m (t .upkeep)) is (a .upkept);
-      }
-
-  pub recost-prepared : k .comes ≡ true → k .goes < t .head .count → ToRecost (t .head .size) (t .head .dimension) (t .head .count) (k .goes) (k .coming) (t .upkeep) m
-  recost-prepared e l =
-      let is = change-is (k .goes) true refl e in
-      record {
-        asked = subst (λ (k : Change). ChangeAsked (t .head .size) (t .head .dimension) (t .head .count) k m) is (a .ready .asked);
-        place = l;
-        number = a .ready .number e l;
-        other = a .other .costs e l;
-        upkept = subst (λ (k : Change). Upkept (t .head .size) (t .head .dimension) (t .head .count) k m (t .upkeep)) is (a .upkept);
-      }
-
-module _ {p : Plan} {m m' : List ℕ} (able : Able p m) (h : p .makes ≡ true) where
-  carried : ((block : ℕ) → Made (callIn p block m) m m') → MovesMade p m m'
-  carried made =
-      let sound = able .prepared h .ready .asked .sound .sound in
-      record {
-        made = λ _. made;
+        made = λ _. subst (λ (kind : Kind). Made (changeOf kind (p .change .number) (p .change .block) (p .change .costs)) m m') (sym e) made;
         idle = λ f. both-ways h f;
-        length = made 0 .kept (sound .tree) (sound .stands) .only .length;
+        length = made .kept (sound .tree) (sound .stands) .only .length;
       }
 
-  made-as : {x : calls.Change} → (block : ℕ) → callIn p block m ≡ x → Made x m m' → Made (callIn p block m) m m'
-  made-as block is made = subst (λ (x : calls.Change). Made x m m') (sym is) made
+-- The change of moves as its kind makes it: of the move that comes.
+pub enter-as : {m m' : List ℕ} (y : Move) (x : Change) → y ≡ comingOf x → EnterMade (asMove y) m m' → Made (changeOf Enter (x .number) (x .block) (x .costs)) m m'
+unfolding changeOf
+enter-as {m} {m'} y x e made = subst (λ (z : Move). Made (calls.enter (z .number) (x .block) (z .costs)) m m') e (made (x .block))
 
-  pub enter-carried : p .comes ≡ true → p .telling .head .count ≤ p .goes → EnterMade (asMove (p .telling .coming)) m m' → MovesMade p m m'
-  enter-carried e l made = carried (λ block. made-as block (call-enter (p .telling .head .size) (p .telling .head .count) (changeIn p) block m e l) (made block))
+pub recost-as : {m m' : List ℕ} (y : Move) (x : Change) → y ≡ comingOf x → RecostMade (asMove y) m m' → Made (changeOf Recost (x .number) (x .block) (x .costs)) m m'
+unfolding changeOf
+recost-as {m} {m'} y x e made = subst (λ (z : Move). Made (calls.recost (z .number) (x .block) (z .costs)) m m') e (made (x .block))
 
-  pub withdraw-carried : p .comes ≡ false → WithdrawMade (p .telling .head .size) (p .goes) m m' → MovesMade p m m'
-  withdraw-carried e made = carried (λ block. made-as block (call-withdraw (p .telling .head .size) (p .telling .head .count) (changeIn p) block m e) made)
+pub withdraw-as : {m m' : List ℕ} (c p : ℕ) (x : Change) → numberIn c m p ≡ x .number → WithdrawMade c p m m' → Made (changeOf Withdraw (x .number) (x .block) (x .costs)) m m'
+unfolding changeOf
+withdraw-as {m} {m'} c p x e made = subst (λ (n : ℕ). Made (calls.withdraw n) m m') e made
 
-  pub recost-carried : p .comes ≡ true → p .goes < p .telling .head .count → RecostMade (asMove (p .telling .coming)) m m' → MovesMade p m m'
-  recost-carried e l made = carried (λ block. made-as block (call-recost (p .telling .head .size) (p .telling .head .count) (changeIn p) block m e l) (made block))
+-- An accepted plan carried out.
+pub carried-out : (p : ChangePlan) {m b m' : List ℕ} → numberOf (p .verdict) ≡ 0 → MovesMade p m b
+    → (comes (p .change .kind) ≡ true → m' ≡ setBlock (p .head .size) (p .change .number) (p .change .block) b) → (comes (p .change .kind) ≡ false → m' ≡ b) → CarriedOut p m m'
+carried-out p {b = b} z made given kept =
+    record { between = b; refused = λ h. absurd (omega (arith, z, h)); moves = λ _. made; given = λ _. given; kept = λ _. kept }

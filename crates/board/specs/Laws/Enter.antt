@@ -27,8 +27,8 @@ use Rattle.memory.specs.Laws.Fields.{mark-over-rows, mark-over-costs}
 use Rattle.tree.specs.Hold.{RowsHold}
 use Rattle.tree.specs.Enter as tree
 use Rattle.upkeep.specs.Change.{movesAfter}
-use Rattle.upkeep.specs.Notice.{SetMarks}
-use Rattle.upkeep.specs.declared.change.Upkeep.{Upkeep}
+use Rattle.upkeep.specs.Mark.{SetMarks}
+use Rattle.upkeep.specs.declared.exchange.Upkeep.{Upkeep}
 use Rattle.board.specs.Change.{ToEnter, Moved, EnterMade}
 use Rattle.board.specs.Laws.Rows.{holds-sound, holds-moves, holds-over-marks, holds-counted}
 use Rattle.board.specs.Laws.Kept.{MarksRight, made}

@@ -29,9 +29,10 @@ use Rattle.memory.specs.Laws.Lines.{each-numbers}
 use Rattle.memory.specs.Laws.Blocks.{same-blocks, setBlock-blocks, block-setBlock, size-over-blocks, dimension-over-blocks, moves-over-blocks, stands-over-blocks}
 use Rattle.memory.specs.Laws.Held.{held-room}
 use Rattle.board.specs.Change.{Moved}
-use Rattle.board.specs.Plan.{Gives}
+use Rattle.board.specs.Kind.{changeOf, comes}
 use Rattle.board.specs.Laws.Accepted.{recost-on}
-use Rattle.upkeep.specs.declared.plan.Given.{Given}
+use Rattle.board.specs.declared.change.Kind.{Kind}
+use Rattle.board.specs.declared.change.Kind.the-variants.{Enter, Withdraw, Recost}
 
 module _ {m : List ℕ} (s : Sound m) (x : Change) {b : List ℕ} (moved : Moved x m b (s .tree)) (ok : changeRefusal (boardIn m) x ≡ 0) where
   abbrev c : ℕ
@@ -118,49 +119,46 @@ number-below : {m : List ℕ} (s : Sound m) (x : Change) → changeRefusal (boar
 unfolding boardIn
 number-below {m} s x ok = change-number (boardIn m) x ok
 
--- What a call leaves: its moves, and the block that it gives.
-pub kept-given : {m : List ℕ} (s : Sound m) (x : Change) {b : List ℕ} → Moved x m b (s .tree) → changeRefusal (boardIn m) x ≡ 0
-    → (g : Given) → Gives (sizeIn m) x g → {m' : List ℕ} → (g .gives ≡ true → m' ≡ setBlock (g .size) (g .number) (g .block) b) → (g .gives ≡ false → m' ≡ b)
-    → Kept (changeWrites (sizeIn m) x) m m' (changed (boardIn m) x) (changeTree (dimensionIn m) x (s .tree))
-unfolding Gives blockWrites changeNumber
-kept-given {m} s (calls.enter n block costs) {b} moved ok g gives given kept =
+-- What a change leaves: its moves, and the block that it gives.
+pub kept-given : {m : List ℕ} (s : Sound m) (kind : Kind) (n block : ℕ) (costs : List ℕ) {b : List ℕ} → Moved (changeOf kind n block costs) m b (s .tree) → changeRefusal (boardIn m) (changeOf kind n block costs) ≡ 0
+    → {m' : List ℕ} → (comes kind ≡ true → m' ≡ setBlock (sizeIn m) n block b) → (comes kind ≡ false → m' ≡ b)
+    → Kept (changeWrites (sizeIn m) (changeOf kind n block costs)) m m' (changed (boardIn m) (changeOf kind n block costs)) (changeTree (dimensionIn m) (changeOf kind n block costs) (s .tree))
+unfolding changeOf comes blockWrites changeNumber
+kept-given {m} s Enter n block costs {b} moved ok given kept =
     let x = calls.enter n block costs in
-    let is = given (ap (λ (g : Given). g .gives) gives) ∙ (λ i. setBlock (gives i .size) (gives i .number) (gives i .block) b) in
-    subst (λ (w : List ℕ). Kept (changeWrites (sizeIn m) x) m w (changed (boardIn m) x) (changeTree (dimensionIn m) x (s .tree))) (sym is)
+    subst (λ (w : List ℕ). Kept (changeWrites (sizeIn m) x) m w (changed (boardIn m) x) (changeTree (dimensionIn m) x (s .tree))) (sym (given refl))
     (kept-with s x moved ok n block (number-below s x ok) (λ i e. e) (entered-blocks (dimensionIn m) n block costs (movesIn (lineIn m)) (blockIn (sizeIn m) m)))
-kept-given {m} s (calls.withdraw n) {b} moved ok g gives given kept =
+kept-given {m} s Withdraw n block costs {b} moved ok given kept =
     let x = calls.withdraw n in
-    subst (λ (w : List ℕ). Kept (changeWrites (sizeIn m) x) m w (changed (boardIn m) x) (changeTree (dimensionIn m) x (s .tree))) (sym (kept gives))
+    subst (λ (w : List ℕ). Kept (changeWrites (sizeIn m) x) m w (changed (boardIn m) x) (changeTree (dimensionIn m) x (s .tree))) (sym (kept refl))
     (kept-alone s x moved ok (withdrawn-blocks (dimensionIn m) n (movesIn (lineIn m)) (blockIn (sizeIn m) m)))
-kept-given {m} s (calls.recost n block costs) {b} moved ok g gives given kept =
+kept-given {m} s Recost n block costs {b} moved ok given kept =
     let x = calls.recost n block costs in
-    let is = given (ap (λ (g : Given). g .gives) gives) ∙ (λ i. setBlock (gives i .size) (gives i .number) (gives i .block) b) in
-    subst (λ (w : List ℕ). Kept (changeWrites (sizeIn m) x) m w (changed (boardIn m) x) (changeTree (dimensionIn m) x (s .tree))) (sym is)
+    subst (λ (w : List ℕ). Kept (changeWrites (sizeIn m) x) m w (changed (boardIn m) x) (changeTree (dimensionIn m) x (s .tree))) (sym (given refl))
     (kept-with s x moved ok n block (number-below s x ok) (λ i e. e) (recosted-blocks (dimensionIn m) n block costs (movesIn (lineIn m)) (blockIn (sizeIn m) m)))
 
 -- A change that keeps the moves writes its block alone.
-pub given-alone : {m : List ℕ} (x : Change) → keepsMoves (boardIn m) x ≡ true → (g : Given) → Gives (sizeIn m) x g → {b m' : List ℕ} → b ≡ m
-    → (g .gives ≡ true → m' ≡ setBlock (g .size) (g .number) (g .block) b) → (i : ℕ) → blockWrites (sizeIn m) x i ≡ false → getD m' i 0 ≡ getD m i 0
-unfolding Gives keepsMoves setBlock blockWrites
-given-alone (calls.enter n block costs) e g gives same given i free = both-ways e refl
-given-alone (calls.withdraw n) e g gives same given i free = both-ways e refl
-given-alone {m} (calls.recost n block costs) e g gives same given i free =
-    ap (λ (w : List ℕ). getD w i 0)
-    (given (ap (λ (g : Given). g .gives) gives) ∙ (λ j. setBlock (gives j .size) (gives j .number) (gives j .block) (same j)))
+pub given-alone : {m : List ℕ} (kind : Kind) (n block : ℕ) (costs : List ℕ) → keepsMoves (boardIn m) (changeOf kind n block costs) ≡ true → {b m' : List ℕ} → b ≡ m
+    → (comes kind ≡ true → m' ≡ setBlock (sizeIn m) n block b) → (i : ℕ) → blockWrites (sizeIn m) (changeOf kind n block costs) i ≡ false → getD m' i 0 ≡ getD m i 0
+unfolding changeOf comes keepsMoves setBlock blockWrites
+given-alone Enter n block costs e same given i free = both-ways e refl
+given-alone Withdraw n block costs e same given i free = both-ways e refl
+given-alone {m} Recost n block costs e same given i free =
+    ap (λ (w : List ℕ). getD w i 0) (given refl ∙ ap (setBlock (sizeIn m) n block) same)
     ∙ getD-set-other m (blockPlace (sizeIn m) n) i block 0 (eqb-false i (blockPlace (sizeIn m) n) free)
 
 -- A change that changes nothing gives a block that is there already.
-pub given-again : {m : List ℕ} → Sound m → (x : Change) → changeRefusal (boardIn m) x ≡ 0 → changesNothing (boardIn m) x ≡ true
-    → (g : Given) → Gives (sizeIn m) x g → {b m' : List ℕ} → b ≡ m → (g .gives ≡ true → m' ≡ setBlock (g .size) (g .number) (g .block) b) → m' ≡ m
-unfolding Gives changesNothing boardIn blocksOn setBlock blockIn
-given-again s (calls.enter n block costs) ok e g gives same given = both-ways e refl
-given-again s (calls.withdraw n) ok e g gives same given = both-ways e refl
-given-again {m} s (calls.recost n block costs) ok e g gives {b} same given =
+pub given-again : {m : List ℕ} → Sound m → (kind : Kind) (n block : ℕ) (costs : List ℕ) → changeRefusal (boardIn m) (changeOf kind n block costs) ≡ 0 → changesNothing (boardIn m) (changeOf kind n block costs) ≡ true
+    → {b m' : List ℕ} → b ≡ m → (comes kind ≡ true → m' ≡ setBlock (sizeIn m) n block b) → m' ≡ m
+unfolding changeOf comes changesNothing boardIn blocksOn setBlock blockIn
+given-again s Enter n block costs ok e same given = both-ways e refl
+given-again s Withdraw n block costs ok e same given = both-ways e refl
+given-again {m} s Recost n block costs ok e {b} same given =
     let on = recost-on (boardIn m) n block costs ok in
     let there : block ≡ blockIn (sizeIn m) m n =
     eqb-true block (boardIn m .blocks n) (and-right (unchanged n costs (boardIn m .moves)) (eqb block (boardIn m .blocks n)) e)
     ∙ ap (λ (t : Bool). cond t (blockIn (sizeIn m) m n) 0) on in
-    given (ap (λ (g : Given). g .gives) gives)
-    ∙ (λ i. setBlock (gives i .size) (gives i .number) (gives i .block) (same i))
+    given refl
+    ∙ ap (setBlock (sizeIn m) n block) same
     ∙ ap (set m (blockPlace (sizeIn m) n)) there
     ∙ set-getD m (blockPlace (sizeIn m) n) 0

@@ -9,21 +9,20 @@ use lib.ListN.{length}
 use Rattle.zorder.specs.Refusal.{refusal, costPastBad}
 use Rattle.model.specs.Basics.{any}
 use Rattle.model.specs.Calls as calls
-use Rattle.model.specs.Calls.{blockBad, onBoard, changeRefusal, refusedWith}
+use Rattle.model.specs.Calls.{blockBad, onBoard, changeRefusal}
 use Rattle.line.specs.Line.{Placed, movesIn}
 use Rattle.line.specs.Withdraw.{placeOf}
 use Rattle.promises.specs.Layout.{boardIn, lineFrom}
-use Rattle.promises.specs.Answers.{answerOf}
-use Rattle.promises.specs.declared.Verdict.{Verdict}
+use Rattle.promises.specs.Answers.{outcomeNumber}
+use Rattle.promises.specs.declared.Outcome.{Outcome}
 use Rattle.memory.specs.Held.{SoundAt}
 use Rattle.memory.specs.Laws.Lines.{length-line, lineIn-line}
 use Rattle.tree.specs.Withdraw.{PlaceOf}
-use Rattle.dominance.specs.declared.Move.{Move}
 use Rattle.memory.specs.declared.sound.Head.{Head}
-use Rattle.board.specs.Kind.{changeOf, comes, isNew, JudgesBy}
-use Rattle.board.specs.Change.{Judges}
-use Rattle.board.specs.declared.judge.Kind.{Kind}
-use Rattle.board.specs.declared.judge.Kind.the-variants.{Enter, Withdraw, Recost}
+use Rattle.board.specs.Kind.{changeOf, callOf, comes, isNew, JudgesBy}
+use Rattle.board.specs.declared.change.Change.{Change}
+use Rattle.board.specs.declared.change.Kind.{Kind}
+use Rattle.board.specs.declared.change.Kind.the-variants.{Enter, Withdraw, Recost}
 
 found-step : (b : Bool) (p l : ℕ) → b || ltb p l ≡ ltb (cond b 0 (suc p)) (suc l)
 found-step true p l = sym (lt-ltb 0 (suc l) (suc-le-suc zero-le))
@@ -58,44 +57,43 @@ module _ (c d n : ℕ) (m : List ℕ) (s : SoundAt c d n m) where
 
 -- ---- the checks of each kind of change
 
-refusal-of : (kind : Kind) (b : calls.Board) (x : Move) (block : ℕ)
-    → changeRefusal b (changeOf kind (x .number) block (x .costs))
+refusal-of : (kind : Kind) (b : calls.Board) (number block : ℕ) (costs : List ℕ)
+    → changeRefusal b (changeOf kind number block costs)
     ≡ refusal
-    ((leb (b .size) (x .number), 4)
+    ((leb (b .size) number, 4)
     ∷ (comes kind && blockBad block, 11)
-    ∷ (comes kind && costPastBad (b .dimension) (x .costs), 7)
-    ∷ (cond (isNew kind) (onBoard (x .number) (b .moves)) (not (onBoard (x .number) (b .moves))), cond (isNew kind) 5 6)
+    ∷ (comes kind && costPastBad (b .dimension) costs, 7)
+    ∷ (cond (isNew kind) (onBoard number (b .moves)) (not (onBoard number (b .moves))), cond (isNew kind) 5 6)
     ∷ [])
 unfolding changeRefusal changeOf comes isNew refusal
-refusal-of Enter b x block = refl
-refusal-of Withdraw b x block = refl
-refusal-of Recost b x block = refl
+refusal-of Enter b number block costs = refl
+refusal-of Withdraw b number block costs = refl
+refusal-of Recost b number block costs = refl
 
 -- Each check by its answer, known or not.
-pub judges-by : (kind : Kind) (h : Head) (x : Move) (block : ℕ) (on : Bool) {v : Verdict} (large high past new : Bool) → leb (h .size) (x .number) ≡ large
-    → (comes kind && blockBad block) ≡ high
-    → (comes kind && costPastBad (h .dimension) (x .costs)) ≡ past
-    → isNew kind ≡ new
-    → answerOf v ≡ refusedWith (refusal ((large, 4) ∷ (high, 11) ∷ (past, 7) ∷ (cond new on (not on), cond new 5 6) ∷ []))
-    → JudgesBy kind h x block on v
-judges-by kind h x block on large high past new e k f g a =
+pub judges-by : (h : Head) (x : Change) (on : Bool) {o : Outcome} (large high past new : Bool) → leb (h .size) (x .number) ≡ large
+    → (comes (x .kind) && blockBad (x .block)) ≡ high
+    → (comes (x .kind) && costPastBad (h .dimension) (x .costs)) ≡ past
+    → isNew (x .kind) ≡ new
+    → outcomeNumber o ≡ refusal ((large, 4) ∷ (high, 11) ∷ (past, 7) ∷ (cond new on (not on), cond new 5 6) ∷ [])
+    → JudgesBy h x on o
+judges-by h x on large high past new e k f g a =
     record {
       is = λ b size dimension o.
           a
           ∙ sym
-          (ap refusedWith
-          (refusal-of kind b x block
+          (refusal-of (x .kind) b (x .number) (x .block) (x .costs)
           ∙ (λ i.
           refusal
           (((ap (λ (k : ℕ). leb k (x .number)) size ∙ e) i, 4)
           ∷ (k i, 11)
-          ∷ ((ap (λ (k : ℕ). comes kind && costPastBad k (x .costs)) dimension ∙ f) i, 7)
+          ∷ ((ap (λ (k : ℕ). comes (x .kind) && costPastBad k (x .costs)) dimension ∙ f) i, 7)
           ∷ (cond (g i) (o i) (not (o i)), cond (g i) 5 6)
-          ∷ []))));
+          ∷ [])));
     }
 
-pub judged : {c d n p : ℕ} {m : List ℕ} (s : SoundAt c d n m) {kind : Kind} {x : Move} {block : ℕ} {v : Verdict} → PlaceOf c n (x .number) m p
-    → JudgesBy kind (record { size = c; dimension = d; count = n }) x block (ltb p n) v → Judges (changeOf kind (x .number) block (x .costs)) m v
+pub judged : {c d n p : ℕ} {m : List ℕ} (s : SoundAt c d n m) {x : Change} {o : Outcome} → PlaceOf c n (x .number) m p
+    → JudgesBy (record { size = c; dimension = d; count = n }) x (ltb p n) o → outcomeNumber o ≡ changeRefusal (boardIn m) (callOf x)
 unfolding boardIn
 judged {c} {d} {n} {p} {m} s {x = x} e j =
-    record { is = j .is (boardIn m) (sym (s .size)) (sym (s .dimension)) (on-board c d n m s (x .number) p e) }
+    j .is (boardIn m) (sym (s .size)) (sym (s .dimension)) (on-board c d n m s (x .number) p e)

@@ -1,230 +1,256 @@
--- The plan of a call, for each of its answers.
-use Prim.Native.Nat.{ℕ, _≤_, _<_}
+-- The plan of a change, for each of its answers.
+use Prim.Native.Nat.{ℕ, zero, suc, _+_, _-_, _≤_, _<_}
 use mathlib.Core.Bool.{Bool, true, false, cond, _&&_}
-use mathlib.Core.List.{List, []}
+use mathlib.Core.List.{List, [], _++_}
 use mathlib.Core.Path.{_≡_, refl, sym, ap, ap₂, _∙_, subst}
 use native.Mathlib.Omega.{arith}
-use borrow.Author.Tests.{ltb-true, ltb-false, lt-ltb}
+use borrow.Author.Tests.{ltb-true, lt-ltb, le-ltb}
 use lib.Dec.{ltb}
-use lib.ListN.{length}
+use lib.ListN.{length, length-append}
+use Rattle.zorder.specs.Address.{rowCosts}
+use Rattle.zorder.specs.Laws.Address.{Costs}
 use Rattle.model.specs.Basics.{equal}
+use Rattle.model.specs.Moves.{Row}
 use Rattle.model.specs.Calls as calls
-use Rattle.model.specs.Calls.{refusedWith, changeRefusal, changeAnswer, changeNotice, keepsMoves, onBoard}
+use Rattle.model.specs.Calls.{accepted, refusedWith, rowsAnswer, changeRefusal, changeNotice, keepsMoves, onBoard}
 use Rattle.model.specs.Withdrawing.{costsOn, unchanged}
 use Rattle.model.specs.Tree.{Tree}
 use Rattle.model.specs.Opening.{withdrawOpens, changeOpens}
-use Rattle.model.specs.Laws.Bool.{both-ways, byCases, and-left, and-right}
+use Rattle.model.specs.Laws.Bool.{both-ways, and-left, and-right}
 use Rattle.model.specs.Laws.Basics.{equal-refl}
-use Rattle.promises.specs.Layout.{dimensionIn, numberIn, costsIn, boardIn}
+use Rattle.promises.specs.Layout.{sizeIn, dimensionIn, numberIn, costsIn, boardIn}
 use Rattle.promises.specs.Sound.{Stands, Sound}
-use Rattle.promises.specs.Answers.{numberOf, outcomeNumber}
+use Rattle.promises.specs.Answers.{answerOf, numberOf, counted, refusedBy, outcomeNumber}
 use Rattle.promises.specs.Run.{Bytes}
 use Rattle.promises.specs.declared.Verdict.{Verdict}
-use Rattle.promises.specs.declared.Verdict.the-variants.{Accepted, Unsound, FewRows}
-use Rattle.dominance.specs.Move.{asMove}
-use Rattle.memory.specs.Laws.Held.{held-readable}
+use Rattle.promises.specs.declared.Outcome.{Outcome}
+use Rattle.promises.specs.declared.Outcome.the-variants.{Unsound}
+use Rattle.dominance.specs.declared.Move.{Move}
+use Rattle.memory.specs.Held.{SoundAt}
+use Rattle.memory.specs.Laws.Held.{held-room, held-readable}
+use Rattle.memory.specs.declared.sound.Head.{Head}
+use Rattle.tree.specs.Withdraw.{PlaceOf}
 use Rattle.upkeep.specs.Change.{Upkept, ComingPlace}
-use Rattle.upkeep.specs.Notice.{noticeRows}
-use Rattle.upkeep.specs.Telling.{toldRows}
-use Rattle.upkeep.specs.Planned.{Nothing, VerdictFor, Plans}
-use Rattle.upkeep.specs.Laws.Planned.{answered-unsound, answered-refused, answered-few, answered-all, nothing-plans}
-use Rattle.upkeep.specs.declared.change.Change.{Change}
-use Rattle.upkeep.specs.declared.change.Upkeep.{Upkeep}
-use Rattle.board.specs.Change.{Judges, Other, neededRows, Made}
-use Rattle.board.specs.Plan.{callOf, alike, Ready, MovesPlanned, Planned, PlanAsked, PlanOf}
+use Rattle.upkeep.specs.declared.exchange.Exchange.{Exchange}
+use Rattle.upkeep.specs.declared.exchange.Upkeep.{Upkeep}
+use Rattle.rows.specs.Planned.{Foreseen, Tells}
+use Rattle.rows.specs.Laws.Planned.{foreseen-unsound, foreseen-refused, foreseen-judged, few-refuses, counted-all, counted-none}
+use Rattle.rows.specs.declared.telling.Telling.{Telling}
+use Rattle.board.specs.Kind.{changeOf, callOf, comes, comingOf, exchangeOf}
+use Rattle.board.specs.Change.{Other, neededRows, Made}
+use Rattle.board.specs.Plan.{alike, ReadyRows, Giveable, Planned, KeepsMoves}
 use Rattle.board.specs.Laws.Judge.{board-moves}
 use Rattle.board.specs.Laws.Recost.{costs-board}
-use Rattle.board.specs.Laws.Notice.{told-rows, rows-needed, notice-needs}
-use Rattle.board.specs.Laws.Calls.{judged-passes, not-refused, call-withdraw, call-enter, call-recost, call-notice}
-use Rattle.board.specs.Laws.Accepted.{recost-on}
+use Rattle.board.specs.Laws.Notice.{leftRows, enteredRows, rows-left, rows-entered, count-left, count-entered, rows-notice, rows-needed}
+use Rattle.board.specs.Laws.Calls.{not-refused, call-notice}
+use Rattle.board.specs.Laws.Accepted.{enter-last, recost-on, recost-place, kind-ready, kind-moves, kind-prepared, kind-block}
 use Rattle.board.specs.Laws.Unchanged.{no-notice, same-made}
-use Rattle.upkeep.specs.declared.plan.Given.{Given}
-use Rattle.upkeep.specs.declared.plan.Plan.{Plan}
+use Rattle.board.specs.declared.change.Change.{Change}
+use Rattle.board.specs.declared.change.Kind.{Kind}
+use Rattle.board.specs.declared.change.Kind.the-variants.{Enter, Withdraw, Recost}
+use Rattle.board.specs.declared.plan.ChangePlan.{ChangePlan}
 
--- ---- nothing told and nothing made
+-- ---- no move changes
 
-module _ {block : ℕ} {x : calls.Change} {m : List ℕ} {lent : ℕ} {v : Verdict} {p : Plan} (e : Nothing v p) (a : VerdictFor (changeAnswer (boardIn m) x lent) (changeNotice (boardIn m) x) m lent v 0) where
-  nothing-planned : (numberOf v ≡ 0 → [] ≡ changeNotice (boardIn m) x) → (numberOf v ≡ 0 → (t : Tree) → Stands m t → 0 ≡ changeOpens (dimensionIn m) x t) → (numberOf v ≡ 0 → Made x m m)
-      → MovesPlanned block x m lent p
-  nothing-planned notice shut idle =
+-- No row is told.
+nothing-told : {v : Verdict} {m : List ℕ} {t : Telling} → t .count ≡ 0 → Tells v [] m t
+nothing-told e =
+    record { rows = λ l. absurd (omega (arith, e)); count = λ _. e; none = λ _. e; asked = λ l. absurd (omega (arith, e)) }
+
+counted-zero : (k n : ℕ) → n ≡ 0 → counted k n ≡ 0
+unfolding counted
+counted-zero zero n e = e
+counted-zero (suc k) n e = refl
+
+-- The rows of two parts are no more than all.
+counted-parts : (k a n lent : ℕ) → a ≤ n → counted k n ≤ lent → counted k a + counted k (n - a) ≤ lent
+unfolding counted
+counted-parts zero a n lent h few = omega arith
+counted-parts (suc k) a n lent h few = omega arith
+
+-- Where no row is needed 8 does not arise.
+none-needed : (o : Outcome) (need lent : ℕ) → outcomeNumber o ≡ 0 → need ≡ 0 → answerOf (refusedBy o 0) ≡ rowsAnswer need lent
+unfolding rowsAnswer accepted
+none-needed o need lent z e =
+    (λ i. record { number = z i; detail = 0 })
+    ∙ sym (ap (λ (b : Bool). cond b (record { number = 8; detail = need }) accepted) (le-ltb lent need (omega (arith, e))))
+
+module _ {h : Head} {x : Change} {o : Outcome} {m : List ℕ} {lent : ℕ} {p : ChangePlan} (e : KeepsMoves h x o p) where
+  keeps-planned :
+      Foreseen (refusedWith (changeRefusal (boardIn m) (callOf x))) (changeNotice (boardIn m) (callOf x)) (changeOpens (dimensionIn m) (callOf x)) m lent (refusedBy o 0) (p .need) (p .opened)
+      → (outcomeNumber o ≡ 0 → [] ≡ changeNotice (boardIn m) (callOf x))
+      → (outcomeNumber o ≡ 0 → h .size ≡ sizeIn m)
+      → (outcomeNumber o ≡ 0 → Made (callOf x) m m)
+      → (outcomeNumber o ≡ 0 → comes (x .kind) ≡ true → Giveable (h .size) x m)
+      → Planned x m lent p
+  keeps-planned f none size idle block =
+      let number : numberOf (p .verdict) ≡ outcomeNumber o = ap (λ (v : Verdict). numberOf v) (e .verdict) in
+      let zero-left = counted-zero (numberOf (p .verdict)) (p .upkeep .left) (e .none) in
+      let zero-entered = counted-zero (numberOf (p .verdict)) (p .need - p .upkeep .left) (omega (arith, e .need)) in
       record {
-        plans = nothing-plans e a notice shut;
-        accepted = λ f. both-ways f (e .makes);
-        makes = λ f. both-ways f (e .makes);
-        idle = λ _ z. idle (sym (ap numberOf (e .verdict)) ∙ z);
-        nothing = λ _ _. e .makes;
-        prepared = λ f. both-ways f (e .makes);
-      }
-
-  refused-planned : 0 < numberOf v → MovesPlanned block x m lent p
-  refused-planned h = nothing-planned (λ z. absurd (omega arith)) (λ z. absurd (omega arith)) (λ z. absurd (omega arith))
-
-pub plan-unsound : {x : calls.Change} {m : List ℕ} {lent : ℕ} {p : Plan} → (Sound m → ⊥) → Nothing Unsound p → Planned x m lent p
-unfolding changeAnswer outcomeNumber
-plan-unsound {x} {m} {lent} bad e =
-    let v-is = ap numberOf (e .verdict) in
-    record {
-      block = 0;
-      moves = refused-planned e (answered-unsound (refusedWith (changeRefusal (boardIn m) x)) (changeNotice (boardIn m) x) m lent bad) (omega arith);
-      gives = λ z. absurd (omega (arith, v-is, z));
-      refused = λ _. e .gives;
-      able = record { prepared = λ f. both-ways f (e .makes); giveable = λ f. both-ways f (e .gives) };
-    }
-
--- ---- the plan of a change
-
-module _ {c d n : ℕ} {v : Verdict} {k : Change} {m : List ℕ} (a : PlanAsked c d n v k m) (b : Bytes m) where
-  abbrev sound : Sound m
-  sound = a .sound .sound
-
-  pub plan-refused : {lent : ℕ} {p : Plan} → 0 < numberOf v → Nothing v p → PlanOf c n v k m lent p
-  unfolding changeAnswer
-  plan-refused {lent} h e =
-      record {
-        plans = λ block x j _.
-            refused-planned e (answered-refused (refusedWith (changeRefusal (boardIn m) x)) (changeNotice (boardIn m) x) m lent sound v (j .is) h) h;
-        none = e .gives;
-      }
-
-  module _ (h : numberOf v ≡ 0) where
-    abbrev ready : Ready c d n k m
-    ready = a .ready h
-
-    -- A re-cost with equal costs.
-    module _ (same : alike c d n k m ≡ true) where
-      alike-costs : (k .comes ≡ true) × (k .goes < n) × (equal (k .coming .costs) (costsIn c d m (k .coming .number)) ≡ true)
-      unfolding alike
-      alike-costs =
-          let comes = and-left (k .comes) _ same in
-          let rest = and-right (k .comes) _ same in
-          let l = ltb-true (k .goes) n (and-left (ltb (k .goes) n) _ rest) in
-          (comes, l, ap (λ (i : ℕ). equal (k .coming .costs) (costsIn c d m i)) (sym (ready .number comes l)) ∙ and-right (ltb (k .goes) n) _ rest)
-
-      idle-recost : (block : ℕ) {lent : ℕ} {p : Plan} → Judges (calls.recost (k .coming .number) block (k .coming .costs)) m v → Nothing Accepted p
-          → MovesPlanned block (calls.recost (k .coming .number) block (k .coming .costs)) m lent p
-      unfolding changeAnswer changeOpens
-      idle-recost block {lent} j e =
-          let x = k .coming in
-          let fit = ready .asked .fit (alike-costs .0) in
-          let ok = judged-passes j h in
-          let on = recost-on (boardIn m) (x .number) block (x .costs) ok in
-          let none = no-notice (a .sound) b x fit on (alike-costs .2) block in
-          nothing-planned e (answered-all _ _ m lent sound (not-refused ok) 0 (ap length (sym none)) (omega arith)) (λ _. sym none) (λ _ _ _. refl)
-          (λ _. same-made (a .sound) b x fit on (alike-costs .2) block)
-
-      pub plan-idle : {lent : ℕ} {p : Plan} → Nothing Accepted p → PlanOf c n v k m lent p
-      plan-idle {lent} {p} e =
-          record {
-            plans = λ block x j stands.
-                let is = sym (call-recost c n k block m (alike-costs .0) (alike-costs .1)) ∙ stands h in
-                subst (λ (x : calls.Change). MovesPlanned block x m lent p) is
-                (idle-recost block (subst (λ (x : calls.Change). Judges x m v) (sym is) j) e);
-            none = e .gives;
-          }
-
-    module _ (different : alike c d n k m ≡ false) where
-      other : Other c d n k m
-      unfolding alike
-      other =
-          record {
-            costs = λ e l f.
-                both-ways
-                (ap₂ _&&_ e (ap₂ _&&_ (lt-ltb (k .goes) n l) (ap (equal (k .coming .costs)) f ∙ equal-refl (k .coming .costs))))
-                different;
-          }
-
-      -- A change that is made changes something.
-      costs-change : (block : ℕ) → k .comes ≡ true → k .goes < n → changeRefusal (boardIn m) (calls.recost (k .coming .number) block (k .coming .costs)) ≡ 0
-          → keepsMoves (boardIn m) (calls.recost (k .coming .number) block (k .coming .costs)) ≡ false
-      unfolding keepsMoves unchanged alike
-      costs-change block e l ok =
-          let x = k .coming in
-          let own = board-moves c d n m (a .sound) in
-          let on = ap (onBoard (x .number)) (sym own) ∙ recost-on (boardIn m) (x .number) block (x .costs) ok in
-          ap (equal (x .costs)) (ap (costsOn (x .number)) own ∙ costs-board c d n m (x .number) on ∙ ap (costsIn c d m) (sym (ready .number e l)))
-          ∙ sym (ap₂ (λ (p q : Bool). p && (q && equal (x .costs) (costsIn c d m (numberIn c m (k .goes))))) e (lt-ltb (k .goes) n l))
-          ∙ different
-
-      never-nothing : (block : ℕ) (x : calls.Change) → changeRefusal (boardIn m) x ≡ 0 → callOf c n k block m ≡ x → keepsMoves (boardIn m) x ≡ false
-      unfolding keepsMoves
-      never-nothing block x ok stands =
-          let by : (y : calls.Change) → callOf c n k block m ≡ y → keepsMoves (boardIn m) y ≡ false → keepsMoves (boardIn m) x ≡ false =
-          λ y is f. ap (keepsMoves (boardIn m)) (sym stands ∙ is) ∙ f in
-          byCases (k .comes)
-          (λ e. byCases (ltb (k .goes) n)
-          (λ i. let l = ltb-true (k .goes) n i in let is = call-recost c n k block m e l in by _ is (costs-change block e l (ap (changeRefusal (boardIn m)) (sym is ∙ stands) ∙ ok)))
-          (λ o. by _ (call-enter c n k block m e (ltb-false (k .goes) n o)) refl))
-          (λ e. by _ (call-withdraw c n k block m e) refl)
-
-      module _ {u : Upkeep} (up : Upkept c d n k m u) {need : ℕ} (e : need ≡ neededRows u) where
-        plan-need : (block : ℕ) → need ≡ length (changeNotice (boardIn m) (callOf c n k block m))
-        plan-need block = e ∙ notice-needs (ready .asked) b other up ∙ ap length (call-notice block ready b)
-
-        need-of : (block : ℕ) (x : calls.Change) → (numberOf v ≡ 0 → callOf c n k block m ≡ x) → need ≡ length (changeNotice (boardIn m) x)
-        need-of block x stands = plan-need block ∙ ap (λ (x : calls.Change). length (changeNotice (boardIn m) x)) (stands h)
-
-        pub plan-few : {lent : ℕ} {p : Plan} → lent < need → Nothing (FewRows need) p → PlanOf c n v k m lent p
-        unfolding changeAnswer outcomeNumber
-        plan-few {lent} l g =
+        foreseen = subst (λ (v : Verdict). Foreseen (refusedWith (changeRefusal (boardIn m) (callOf x))) (changeNotice (boardIn m) (callOf x)) (changeOpens (dimensionIn m) (callOf x)) m lent v (p .need) (p .opened)) (sym (e .verdict)) f;
+        lefts = [];
+        entereds = [];
+        notice = λ z. none (sym number ∙ z);
+        leaves = nothing-told zero-left;
+        enters = nothing-told zero-entered;
+        within = omega (arith, e .none);
+        enough = omega (arith, zero-left, zero-entered);
+        able =
             record {
-              plans = λ block x j stands.
-                  refused-planned g (answered-few (refusedWith (changeRefusal (boardIn m) x)) (changeNotice (boardIn m) x) m lent sound (not-refused (judged-passes j h)) need (need-of block x stands) l) (omega arith);
-              none = g .gives;
-            }
+              moves = λ _ f. both-ways f (e .makes);
+              block = λ z c.
+                  subst (λ (g : Head). Giveable (g .size) (p .change) m) (sym (e .head))
+                  (subst (λ (y : Change). Giveable (h .size) y m) (sym (e .change))
+                  (block (sym number ∙ z) (sym (ap (λ (y : Change). comes (y .kind)) (e .change)) ∙ c)));
+            };
+        change = e .change;
+        size = λ z. ap (λ (g : Head). g .size) (e .head) ∙ size (sym number ∙ z);
+        idle = λ z _. idle (sym number ∙ z);
+        nothing = λ _ _ _. e .makes;
+      }
 
-        -- A withdrawal reports the nodes opened, the others none.
-        call-opens : (block : ℕ) (t : Tree) → Stands m t → cond (k .comes) 0 (u .opened) ≡ changeOpens (dimensionIn m) (callOf c n k block m) t
-        unfolding changeOpens
-        call-opens block t x =
-            let nodes : calls.Change → ℕ = λ y. changeOpens (dimensionIn m) y t in
-            byCases (k .comes)
-            (λ f. ap (λ (t : Bool). cond t 0 (u .opened)) f
-            ∙ byCases (ltb (k .goes) n)
-            (λ i. sym (ap nodes (call-recost c n k block m f (ltb-true (k .goes) n i))))
-            (λ o. sym (ap nodes (call-enter c n k block m f (ltb-false (k .goes) n o)))))
-            (λ f. ap (λ (t : Bool). cond t 0 (u .opened)) f
-            ∙ up .opened (ready .place f) t x
-            ∙ ap (λ (d : ℕ). withdrawOpens d (numberIn c m (k .goes)) t) (a .sound .dimension)
-            ∙ sym (ap nodes (call-withdraw c n k block m f)))
+pub plan-unsound : {h : Head} {x : Change} {m : List ℕ} {lent : ℕ} {p : ChangePlan} → (Sound m → ⊥) → KeepsMoves h x Unsound p → Planned x m lent p
+unfolding outcomeNumber
+plan-unsound {m = m} {lent} bad e =
+    keeps-planned e (foreseen-unsound _ _ _ m lent _ _ bad) (λ z. absurd (omega arith)) (λ z. absurd (omega arith)) (λ z. absurd (omega arith)) (λ z. absurd (omega arith))
 
-        module _ {lent : ℕ} (l : need ≤ lent) {place : ℕ} (q : ComingPlace c d n k m place) (g : Given) (off : g .gives ≡ false) (opened : ℕ) (shown : opened ≡ cond (k .comes) 0 (u .opened)) where
-          abbrev full : Plan
-          full =
+-- ---- the plan on sound memory
+
+pub plan-refused : {c d n : ℕ} {m : List ℕ} → SoundAt c d n m → {x : Change} {o : Outcome} → outcomeNumber o ≡ changeRefusal (boardIn m) (callOf x) → {lent : ℕ} {p : ChangePlan}
+    → 0 < outcomeNumber o → KeepsMoves (record { size = c; dimension = d; count = n }) x o p → Planned x m lent p
+unfolding refusedWith
+plan-refused {m = m} s {o = o} judged {lent} h k =
+    keeps-planned k (foreseen-refused _ _ _ m lent _ _ (s .sound) (refusedBy o 0) (ap refusedWith judged) h)
+    (λ z. absurd (omega arith)) (λ z. absurd (omega arith)) (λ z. absurd (omega arith)) (λ z. absurd (omega arith))
+
+module _ {c d n g : ℕ} {m : List ℕ} (s : SoundAt c d n m) (b : Bytes m) (x : Change) (w : Costs rowCosts (x .costs)) (e : PlaceOf c n (x .number) m g)
+    (ok : changeRefusal (boardIn m) (callOf x) ≡ 0) where
+  abbrev head : Head
+  head = record { size = c; dimension = d; count = n }
+
+  abbrev call : calls.Change
+  call = callOf x
+
+  pub ready : ReadyRows c d n (exchangeOf x g) m
+  ready = kind-ready s b (comingOf x) (x .block) w e (x .kind) ok
+
+  giveable : comes (x .kind) ≡ true → Giveable c x m
+  giveable f =
+      let k = kind-block s b (comingOf x) (x .block) w e (x .kind) f ok in
+      record { room = held-room c d n m s; number = k .0; block = k .1 }
+
+  -- A re-cost with equal costs.
+  module _ (same : alike c d n (exchangeOf x g) m ≡ true) where
+    alike-costs : (comes (x .kind) ≡ true) × (g < n) × (equal (x .costs) (costsIn c d m (x .number)) ≡ true)
+    unfolding alike
+    alike-costs =
+        let f = and-left (comes (x .kind)) _ same in
+        let rest = and-right (comes (x .kind)) _ same in
+        let l = ltb-true g n (and-left (ltb g n) _ rest) in
+        (f, l, ap (λ (i : ℕ). equal (x .costs) (costsIn c d m i)) (sym (ready .number f l)) ∙ and-right (ltb g n) _ rest)
+
+    -- Only a re-cost has a move come for one that goes.
+    by-kind : (kind : Kind) → x .kind ≡ kind → ([] ≡ changeNotice (boardIn m) (changeOf kind (x .number) (x .block) (x .costs))) × Made (changeOf kind (x .number) (x .block) (x .costs)) m m
+        × ((t : Tree) → 0 ≡ changeOpens (dimensionIn m) (changeOf kind (x .number) (x .block) (x .costs)) t)
+    unfolding changeOf changeOpens comes
+    by-kind Enter k =
+        let none = ap (changeRefusal (boardIn m)) (ap (λ (kind : Kind). changeOf kind (x .number) (x .block) (x .costs)) k) in
+        absurd (enter-new (sym none ∙ ok))
+      where
+        enter-new : changeRefusal (boardIn m) (calls.enter (x .number) (x .block) (x .costs)) ≡ 0 → ⊥
+        enter-new passes = omega (arith, alike-costs .1, enter-last s b (comingOf x) (x .block) w e passes)
+    by-kind Withdraw k = both-ways (sym (ap comes k) ∙ alike-costs .0) refl
+    by-kind Recost k =
+        let passes = sym (ap (λ (kind : Kind). changeRefusal (boardIn m) (changeOf kind (x .number) (x .block) (x .costs))) k) ∙ ok in
+        let fit = ready .asked .fit (alike-costs .0) in
+        let on = recost-on (boardIn m) (x .number) (x .block) (x .costs) passes in
+        (sym (no-notice s b (comingOf x) fit on (alike-costs .2) (x .block)), same-made s b (comingOf x) fit on (alike-costs .2) (x .block), λ _. refl)
+
+    pub plan-idle : {o : Outcome} → outcomeNumber o ≡ 0 → {lent : ℕ} {p : ChangePlan} → KeepsMoves head x o p → Planned x m lent p
+    unfolding rowsAnswer
+    plan-idle {o} z {lent} {p} k =
+        let own = by-kind (x .kind) refl in
+        keeps-planned k
+        (foreseen-judged _ _ _ m lent (p .need) (p .opened) (s .sound) (refusedBy o 0) (not-refused ok) (none-needed o (p .need) lent z (k .need)) (k .need ∙ ap length (own .0)) (λ t _. k .opened ∙ own .2 t))
+        (λ _. own .0) (λ _. s .size) (λ _. own .1) (λ _. giveable)
+
+  module _ (different : alike c d n (exchangeOf x g) m ≡ false) where
+    other : Other c d n (exchangeOf x g) m
+    unfolding alike
+    other =
+        record {
+          costs = λ f l q.
+              both-ways
+              (ap₂ _&&_ f (ap₂ _&&_ (lt-ltb g n l) (ap (equal (x .costs)) q ∙ equal-refl (x .costs))))
+              different;
+        }
+
+    -- A change that is made changes something.
+    never-nothing : (kind : Kind) → x .kind ≡ kind → keepsMoves (boardIn m) (changeOf kind (x .number) (x .block) (x .costs)) ≡ false
+    unfolding changeOf keepsMoves unchanged alike comes
+    never-nothing Enter k = refl
+    never-nothing Withdraw k = refl
+    never-nothing Recost k =
+        let passes = sym (ap (λ (kind : Kind). changeRefusal (boardIn m) (changeOf kind (x .number) (x .block) (x .costs))) k) ∙ ok in
+        let f : comes (x .kind) ≡ true = ap comes k in
+        let l : g < n = recost-place s b (comingOf x) (x .block) w e passes in
+        let own = board-moves c d n m s in
+        let on = ap (onBoard (x .number)) (sym own) ∙ recost-on (boardIn m) (x .number) (x .block) (x .costs) passes in
+        ap (equal (x .costs)) (ap (costsOn (x .number)) own ∙ costs-board c d n m (x .number) on ∙ ap (costsIn c d m) (sym (ready .number f l)))
+        ∙ sym (ap₂ (λ (p q : Bool). p && (q && equal (x .costs) (costsIn c d m (numberIn c m g)))) f (lt-ltb g n l))
+        ∙ different
+
+    -- A withdrawal reports the nodes opened, the others none.
+    kind-opens : {u : Upkeep} → Upkept c d n (exchangeOf x g) m u → (kind : Kind) → x .kind ≡ kind → (t : Tree) → Stands m t
+        → cond (comes kind) 0 (u .opened) ≡ changeOpens (dimensionIn m) (changeOf kind (x .number) (x .block) (x .costs)) t
+    unfolding changeOf changeOpens comes
+    kind-opens up Enter k t stands = refl
+    kind-opens up Withdraw k t stands =
+        let l = ready .place (ap comes k) in
+        up .opened l t stands ∙ (λ i. withdrawOpens (s .dimension i) (e .found l i) t)
+    kind-opens up Recost k t stands = refl
+
+    pub plan-full : {lent : ℕ} {u : Upkeep} (up : Upkept c d n (exchangeOf x g) m u) {place : ℕ} (q : ComingPlace c d n (exchangeOf x g) m place) {need : ℕ} → need ≡ neededRows u
+        → (v : Verdict) → answerOf v ≡ rowsAnswer need lent → {opened : ℕ} → opened ≡ cond (comes (x .kind)) 0 (u .opened)
+        → Planned x m lent (record { verdict = v; need = need; opened = opened; makes = true; goes = g; place = place; head = head; change = x; upkeep = u })
+    unfolding neededRows
+    plan-full {lent} {u} up {place} q {need} is v answer {opened} shown =
+        let a = ready .asked in
+        let moves = kind-moves s b (comingOf x) (x .block) w e (x .kind) ok in
+        let notice = rows-notice a b other up q ∙ call-notice (exchangeOf x g) s call moves in
+        let needs : need ≡ length (changeNotice (boardIn m) call) = is ∙ rows-needed a b other up q ∙ ap length (call-notice (exchangeOf x g) s call moves) in
+        let few = few-refuses need lent (numberOf v) (ap (λ (a : calls.Answer). a .number) answer) in
+        let left = count-left a b other up q in
+        let rest : need - u .left ≡ length (enteredRows a b other up q) = omega (arith, is, count-entered a b other up q) in
+        record {
+          foreseen = foreseen-judged _ _ _ m lent need opened (s .sound) v (not-refused ok) answer needs (λ t stands. shown ∙ kind-opens up (x .kind) refl t stands);
+          lefts = leftRows a b other up q;
+          entereds = enteredRows a b other up q;
+          notice = λ _. notice;
+          leaves =
               record {
-                verdict = Accepted;
-                count = need;
-                opened = opened;
-                makes = true;
-                goes = k .goes;
-                comes = k .comes;
-                given = g;
-                telling = record { head = record { size = c; dimension = d; count = n }; place = place; mark = 1; coming = k .coming; upkeep = u };
-              }
-
-          full-plans : (block : ℕ) (x : calls.Change) → changeRefusal (boardIn m) x ≡ 0 → (numberOf v ≡ 0 → callOf c n k block m ≡ x)
-              → Plans (changeAnswer (boardIn m) x lent) (changeNotice (boardIn m) x) (changeOpens (dimensionIn m) x) m lent full
-          unfolding changeAnswer toldRows noticeRows outcomeNumber
-          full-plans block x ok stands =
+                rows = λ _. rows-left a b other up q;
+                count = λ z. counted-all (numberOf v) (u .left) z ∙ left;
+                none = λ h. counted-none (numberOf v) (u .left) h;
+                asked = λ _. record { readable = held-readable s; place = omega arith };
+              };
+          enters =
               record {
-                answered = answered-all _ _ m lent sound (not-refused ok) need (need-of block x stands) l;
-                opens = λ _ t z. shown ∙ call-opens block t z ∙ ap (λ (y : calls.Change). changeOpens (dimensionIn m) y t) (stands h);
-                closed = λ z. absurd (omega arith);
-                told = rows-needed (ready .asked) b other up q (asMove (k .coming)) ∙ sym e;
-                tells = λ _. told-rows (ready .asked) b other up q ∙ call-notice block ready b ∙ ap (changeNotice (boardIn m)) (stands h);
-                asked = λ _. record { readable = held-readable (a .sound); place = q .within };
-              }
-
-          full-planned : (block : ℕ) (x : calls.Change) → changeRefusal (boardIn m) x ≡ 0 → (numberOf v ≡ 0 → callOf c n k block m ≡ x) → MovesPlanned block x m lent full
-          unfolding outcomeNumber
-          full-planned block x ok stands =
+                rows = λ _. rows-entered a b other up q;
+                count = λ z. counted-all (numberOf v) (need - u .left) z ∙ rest;
+                none = λ h. counted-none (numberOf v) (need - u .left) h;
+                asked = λ _. record { readable = held-readable s; place = q .within };
+              };
+          within = omega (arith, is);
+          enough = counted-parts (numberOf v) (u .left) need lent (omega (arith, is)) few;
+          able =
               record {
-                plans = full-plans block x ok stands;
-                accepted = λ _. refl;
-                makes = λ _. stands h;
-                idle = λ f. both-ways refl f;
-                nothing = λ _ same. both-ways same (never-nothing block x ok (stands h));
-                prepared = λ _. record { ready = ready; other = other; upkept = up };
-              }
-
-          pub plan-full : PlanOf c n v k m lent full
-          plan-full = record { plans = λ block x j stands. full-planned block x (judged-passes j h) stands; none = off }
+                moves = λ _ _. kind-prepared s b (comingOf x) (x .block) w e (x .kind) ok (λ f l. other .costs f l) up;
+                block = λ _. giveable;
+              };
+          change = refl;
+          size = λ _. s .size;
+          idle = λ _ f. both-ways refl f;
+          nothing = λ _ same _. both-ways same (never-nothing (x .kind) refl);
+        }

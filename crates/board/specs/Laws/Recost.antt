@@ -40,9 +40,9 @@ use Rattle.tree.specs.Hold.{RowsHold}
 use Rattle.tree.specs.Enter as tree
 use Rattle.tree.specs.Withdraw as withdraw
 use Rattle.upkeep.specs.Change.{dropAt, movesAfter}
-use Rattle.upkeep.specs.Notice.{SetMarks}
+use Rattle.upkeep.specs.Mark.{SetMarks}
 use Rattle.upkeep.specs.Laws.Change.{rest-without}
-use Rattle.upkeep.specs.declared.change.Upkeep.{Upkeep}
+use Rattle.upkeep.specs.declared.exchange.Upkeep.{Upkeep}
 use Rattle.board.specs.Change.{ToRecost, Moved, RecostMade}
 use Rattle.board.specs.Laws.Rows.{holds-sound, holds-moves, holds-over-marks, holds-counted}
 use Rattle.board.specs.Laws.Kept.{MarksRight, made}

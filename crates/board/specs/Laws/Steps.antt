@@ -31,11 +31,11 @@ use Rattle.tree.specs.Enter.{EnterAsked}
 use Rattle.tree.specs.Withdraw.{Withdrawn}
 use Rattle.upkeep.specs.Change.{dropAt, ChangeAsked}
 use Rattle.upkeep.specs.Laws.Change.{rest-without}
-use Rattle.upkeep.specs.declared.change.Change.{Change}
+use Rattle.upkeep.specs.declared.exchange.Exchange.{Exchange}
 use Rattle.board.specs.Laws.Rows.{holds-sound, holds-moves, holds-over-marks, holds-setCosts, enter-asked}
 
 -- What storing the mark and the costs of a coming move asks, whatever was written before.
-pub coming-asked : {c d n : ℕ} {k : Change} {m m₁ : List ℕ} → ChangeAsked c d n k m → k .comes ≡ true → MovesOnly c m m₁ → Room c m₁ × (k .coming .number < c)
+pub coming-asked : {c d n : ℕ} {k : Exchange} {m m₁ : List ℕ} → ChangeAsked c d n k m → k .comes ≡ true → MovesOnly c m m₁ → Room c m₁ × (k .coming .number < c)
 coming-asked {c} {d} {n} {m = m} asked comes f = (only-room c f (held-room c d n m (asked .sound)), asked .fit comes .number)
 
 -- Its mark, after those of the others.

@@ -1,4 +1,4 @@
--- What `tell` writes is the notice of the change, by the lists before and after it.
+-- Who is told to leave and to enter is the difference of the lists before and after the change.
 use Prim.Native.Nat.{ℕ, _+_, _-_, _<_, _≤_}
 use mathlib.Core.Bool.{Bool, true, false, not, cond, _&&_, Bool·beq}
 use mathlib.Core.List.{List, [], _∷_, _++_, map, map-append, List·Memᴰ, Memᴰ·map, Memᴰ·of-map}
@@ -12,7 +12,6 @@ use lib.ListN.{length, length-append, length-map, getD}
 use Rattle.model.specs.Basics.{Each, consIf, select, count, rising, insertBy, numbersFrom}
 use Rattle.model.specs.Moves.{Move, Row, rowOf, moveBefore, insert, ordered, left, entered}
 use Rattle.model.specs.Lists.{hidden, skyline}
-use Rattle.model.specs.Notice.{noticeOf}
 use Rattle.model.specs.Sound.{Fit}
 use Rattle.model.specs.Laws.Bool.{byCases, testCases, and-left, and-right, not-back, not-flip}
 use Rattle.model.specs.Laws.Basics.{mem-each, each-mem, select-mem, mem-select, select-ext, select-append}
@@ -20,7 +19,7 @@ use Rattle.model.specs.Laws.Range.{each-numbers, numbers-append}
 use Rattle.model.specs.Laws.Order.{move-order, off-board}
 use Rattle.model.specs.Laws.Sorting.{StrictOrder, insert-mem, mem-insert-old, asym, connex, rising-cons, rising-tail, rising-head}
 use Rattle.model.specs.Laws.Skyline.{skyline-mem}
-use Rattle.model.specs.Laws.Notice.{among, gone, among-mem, notice-rows}
+use Rattle.model.specs.Laws.Notice.{among, gone, among-mem}
 use Rattle.line.specs.Line.{Placed, none, movesIn}
 use Rattle.line.specs.Enter.{placeFor}
 use Rattle.promises.specs.Layout.{moveIn, placedIn, lineFrom}
@@ -28,25 +27,30 @@ use Rattle.promises.specs.Answers.{resultRow}
 use Rattle.promises.specs.Run.{Bytes}
 use Rattle.dominance.specs.Move.{asMove}
 use Rattle.memory.specs.Held.{SoundAt}
+use Rattle.memory.specs.Search.{looks, looksAt}
 use Rattle.memory.specs.Tests.{isListed}
+use Rattle.memory.specs.declared.sound.Head.{Head}
 use Rattle.memory.specs.Laws.Lines.{getD-line, length-line}
 use Rattle.memory.specs.Laws.Held.{held-dimension, held-order, held-listed, held-fit, held-fit-at, held-once}
 use Rattle.upkeep.specs.Change.{dropAt, movesAfter, stays, placesIn, ChangeAsked, Upkept}
-use Rattle.upkeep.specs.Notice.{moveNumbers, toldIn, rowsAt, noticeRows}
+use Rattle.rows.specs.Rows.{moveNumbers}
+use Rattle.rows.specs.Telling.{tellsPlace, rowsAt, comingRows, toldRows}
+use Rattle.rows.specs.declared.telling.Told.{Told}
 use Rattle.upkeep.specs.Laws.Places.{place-below, below-place}
 use Rattle.upkeep.specs.Laws.Change.{line-places, rest-places}
 use Rattle.upkeep.specs.Laws.Place.{place-low, place-high}
 use Rattle.upkeep.specs.Laws.Notified.{Places, stay, left-places, entered-after, entered-rest, entered-coming}
-use Rattle.upkeep.specs.declared.change.Change.{Change}
-use Rattle.upkeep.specs.declared.change.Upkeep.{Upkeep}
+use Rattle.upkeep.specs.declared.exchange.Exchange.{Exchange}
+use Rattle.upkeep.specs.declared.exchange.Upkeep.{Upkeep}
+use Rattle.board.specs.Plan.{leavingBy, enteringBy}
 
-left-test : (listed stays : Bool) → (not (Bool·beq listed stays) && Bool·beq true listed) ≡ (listed && not stays)
+left-test : (listed stays : Bool) → (not (Bool·beq listed stays) && listed) ≡ (listed && not stays)
 left-test true true = refl
 left-test true false = refl
 left-test false true = refl
 left-test false false = refl
 
-entered-test : (listed stays : Bool) → (not (Bool·beq listed stays) && Bool·beq false listed) ≡ (not listed && stays)
+entered-test : (listed stays : Bool) → (not (Bool·beq listed stays) && not listed) ≡ (not listed && stays)
 entered-test true true = refl
 entered-test true false = refl
 entered-test false true = refl
@@ -72,7 +76,7 @@ rising-places P lt o f t (i ∷ is) es r =
     next)
     (λ _. next)
 
-module _ (c d n : ℕ) (k : Change) (m : List ℕ) (s : SoundAt c d n m) (b : Bytes m) (a : ChangeAsked c d n k m)
+module _ (c d n : ℕ) (k : Exchange) (m : List ℕ) (s : SoundAt c d n m) (b : Bytes m) (a : ChangeAsked c d n k m)
     (other : k .comes ≡ true → k .goes < n → moveIn c d m (k .goes) ≡ asMove (k .coming) → ⊥) where
   abbrev before : List Move
   before = movesIn (lineFrom c d n m)
@@ -233,103 +237,105 @@ module _ (c d n : ℕ) (k : Change) (m : List ℕ) (s : SoundAt c d n m) (b : By
         ∙ byCases (k .comes) coming-part plain-part
 
     module _ (u : Upkeep) (v : Upkept c d n k m u) where
-      abbrev part : Bool → ℕ → Bool
-      part = toldIn c left (u .changed) m
+      abbrev head : Head
+      head = record { size = c; dimension = d; count = n }
 
       chosen-places : (p q : ℕ → Bool) → ((i : ℕ) → i < n → p i ≡ q i) → (i j : ℕ) → i ≤ j → j ≤ n → placesIn i j p ≡ select q (numbersFrom i (j - i))
       unfolding placesIn
       chosen-places p q h i j l r =
           select-ext p q (numbersFrom i (j - i)) (each-numbers (λ i. p i ≡ q i) i (j - i) (λ k _ g. h k (omega arith)))
 
-      part-left : (i : ℕ) → i < n → part true i ≡ (isListed c m i && not (stayAt i))
-      unfolding toldIn stays stay
-      part-left i h = ap (λ (t : Bool). t && Bool·beq true (isListed c m i)) (v .changed i h) ∙ left-test (isListed c m i) (stays c d n k m i)
-
-      part-entered : (i : ℕ) → i < n → part false i ≡ enters i
-      unfolding toldIn stays stay
-      part-entered i h = ap (λ (t : Bool). t && Bool·beq false (isListed c m i)) (v .changed i h) ∙ entered-test (isListed c m i) (stays c d n k m i)
-
-      left-chosen : placesIn 0 n (part true) ≡ select (λ i. isListed c m i && not (stayAt i)) (numbersFrom 0 n)
-      left-chosen =
-          chosen-places (part true) (λ i. isListed c m i && not (stayAt i)) part-left 0 n (omega arith) (omega arith)
-          ∙ ap (λ (q : ℕ). select (λ i. isListed c m i && not (stayAt i)) (numbersFrom 0 q)) (sub-zero n)
-
-      first-chosen : placesIn 0 p (part false) ≡ select enters (numbersFrom 0 p)
-      first-chosen =
-          chosen-places (part false) enters part-entered 0 p (omega arith) f
-          ∙ ap (λ (q : ℕ). select enters (numbersFrom 0 q)) (sub-zero p)
-
-      last-chosen : placesIn p n (part false) ≡ select enters (numbersFrom p (n - p))
-      last-chosen = chosen-places (part false) enters part-entered p n f (omega arith)
-
       rows-told : (mark : ℕ) (js : List ℕ) → map resultRow (rowsAt c d mark js m) ≡ map (rowOf mark) (map (moveIn c d m) js)
       unfolding rowsAt resultRow moveNumbers rowOf
       rows-told mark [] = refl
       rows-told mark (j ∷ js) = ap (λ (rs : List Row). rowOf mark (moveIn c d m j) ∷ rs) (rows-told mark js)
+
+      -- ---- who leaves
+
+      part-left : (i : ℕ) → i < n → tellsPlace (leavingBy head) (u .changed) m i ≡ (isListed c m i && not (stayAt i))
+      unfolding tellsPlace looksAt looks isListed stays stay
+      part-left i h = ap (λ (t : Bool). t && isListed c m i) (v .changed i h) ∙ left-test (isListed c m i) (stays c d n k m i)
+
+      left-chosen : placesIn 0 n (tellsPlace (leavingBy head) (u .changed) m) ≡ select (λ i. isListed c m i && not (stayAt i)) (numbersFrom 0 n)
+      left-chosen =
+          chosen-places (tellsPlace (leavingBy head) (u .changed) m) (λ i. isListed c m i && not (stayAt i)) part-left 0 n (omega arith) (omega arith)
+          ∙ ap (λ (q : ℕ). select (λ i. isListed c m i && not (stayAt i)) (numbersFrom 0 q)) (sub-zero n)
+
+      left-rows : toldRows (leavingBy head) (u .changed) m ≡ rowsAt c d left (placesIn 0 n (tellsPlace (leavingBy head) (u .changed) m)) m
+      unfolding toldRows comingRows rowsAt placesIn select numbersFrom
+      left-rows = refl
+
+      pub left-told : map resultRow (toldRows (leavingBy head) (u .changed) m) ≡ map (rowOf left) (gone (skyline d before) (skyline d after))
+      left-told =
+          ap (map resultRow) left-rows
+          ∙ rows-told left (placesIn 0 n (tellsPlace (leavingBy head) (u .changed) m))
+          ∙ ap (map (rowOf left)) (ap (map (moveIn c d m)) left-chosen ∙ sym left-part)
+
+      pub left-number : u .left ≡ length (map (rowOf left) (gone (skyline d before) (skyline d after)))
+      unfolding count stays stay
+      left-number =
+          v .left
+          ∙ sym (length-map (select (λ i. isListed c m i && not (stayAt i)) (numbersFrom 0 n)) (moveIn c d m))
+          ∙ ap length (sym left-part)
+          ∙ sym (length-map (gone (skyline d before) (skyline d after)) (rowOf left))
+
+      -- ---- who enters
+
+      abbrev entering : Told
+      entering = enteringBy head (record { told = u .listed; place = p; entrant = k .coming })
+
+      part-entered : (i : ℕ) → i < n → tellsPlace entering (u .changed) m i ≡ enters i
+      unfolding tellsPlace looksAt looks isListed stays stay
+      part-entered i h = ap (λ (t : Bool). t && not (isListed c m i)) (v .changed i h) ∙ entered-test (isListed c m i) (stays c d n k m i)
+
+      first-chosen : placesIn 0 p (tellsPlace entering (u .changed) m) ≡ select enters (numbersFrom 0 p)
+      first-chosen =
+          chosen-places (tellsPlace entering (u .changed) m) enters part-entered 0 p (omega arith) f
+          ∙ ap (λ (q : ℕ). select enters (numbersFrom 0 q)) (sub-zero p)
+
+      last-chosen : placesIn p n (tellsPlace entering (u .changed) m) ≡ select enters (numbersFrom p (n - p))
+      last-chosen = chosen-places (tellsPlace entering (u .changed) m) enters part-entered p n f (omega arith)
 
       coming-told : (t : Bool) → map resultRow (cond t (moveNumbers entered x ∷ []) []) ≡ map (rowOf entered) (cond t (x ∷ []) [])
       unfolding resultRow moveNumbers rowOf
       coming-told true = refl
       coming-told false = refl
 
-      pub notice-told : map resultRow (noticeRows c d n p x u m) ≡ noticeOf (skyline d before) (skyline d after)
-      unfolding noticeRows
-      notice-told =
-          let ls = placesIn 0 n (part true) in
-          let es = placesIn 0 p (part false) in
-          let fs = placesIn p n (part false) in
+      pub entered-told : map resultRow (toldRows entering (u .changed) m) ≡ map (rowOf entered) (gone (skyline d after) (skyline d before))
+      unfolding toldRows comingRows
+      entered-told =
+          let es = placesIn 0 p (tellsPlace entering (u .changed) m) in
+          let fs = placesIn p n (tellsPlace entering (u .changed) m) in
           let own : List (List ℕ) = cond (u .listed) (moveNumbers entered x ∷ []) [] in
-          map-append resultRow (rowsAt c d left ls m) (rowsAt c d entered es m ++ (own ++ rowsAt c d entered fs m))
-          ∙ ap₂ _++_
-          (rows-told left ls ∙ ap (map (rowOf left)) (ap (map (moveIn c d m)) left-chosen ∙ sym left-part))
-          (map-append resultRow (rowsAt c d entered es m) (own ++ rowsAt c d entered fs m)
+          map-append resultRow (rowsAt c d entered es m) (own ++ rowsAt c d entered fs m)
           ∙ ap₂ _++_ (rows-told entered es ∙ ap (λ (js : List ℕ). map (rowOf entered) (map (moveIn c d m) js)) first-chosen)
           (map-append resultRow own (rowsAt c d entered fs m)
           ∙ ap₂ _++_ (coming-told (u .listed) ∙ ap (λ (t : Bool). map (rowOf entered) (cond t (x ∷ []) [])) (v .listed))
           (rows-told entered fs ∙ ap (λ (js : List ℕ). map (rowOf entered) (map (moveIn c d m) js)) last-chosen)
           ∙ sym (map-append (rowOf entered) (cond (k .comes && not (hidden d after x)) (x ∷ []) []) last))
           ∙ sym (map-append (rowOf entered) first (cond (k .comes && not (hidden d after x)) (x ∷ []) [] ++ last))
-          ∙ ap (map (rowOf entered)) (sym entered-part))
-          ∙ sym (notice-rows (skyline d before) (skyline d after))
+          ∙ ap (map (rowOf entered)) (sym entered-part)
 
-      -- ---- how many rows it has
+      coming-count : (t : Bool) → cond t 1 0 ≡ length (cond t (x ∷ []) [])
+      coming-count true = refl
+      coming-count false = refl
 
-      left-count : u .left ≡ length (placesIn 0 n (part true))
+      pub entered-number : u .entered + cond (u .listed) 1 0 ≡ length (map (rowOf entered) (gone (skyline d after) (skyline d before)))
       unfolding count stays stay
-      left-count = v .left ∙ ap length (sym left-chosen)
-
-      entered-count : u .entered ≡ length (placesIn 0 p (part false)) + length (placesIn p n (part false))
-      unfolding count stays stay
-      entered-count =
-          v .entered ∙ ap (λ (js : List ℕ). length (select enters js)) (whole p f)
-          ∙ ap length (select-append enters (numbersFrom 0 p) (numbersFrom p (n - p)))
-          ∙ length-append (select enters (numbersFrom 0 p)) (select enters (numbersFrom p (n - p)))
-          ∙ ap₂ _+_ (ap length (sym first-chosen)) (ap length (sym last-chosen))
-
-      coming-count : (t : Bool) (y : Move) → length (cond t (moveNumbers entered y ∷ []) []) ≡ cond t 1 0
-      coming-count true y = refl
-      coming-count false y = refl
-
-      rows-count : (mark : ℕ) (js : List ℕ) → length (rowsAt c d mark js m) ≡ length js
-      unfolding rowsAt
-      rows-count mark js = length-map js (λ i. moveNumbers mark (moveIn c d m i))
-
-      pub notice-count : (y : Move) → length (noticeRows c d n p y u m) ≡ u .left + u .entered + cond (u .listed) 1 0
-      unfolding noticeRows
-      notice-count y =
-          let ls = rowsAt c d left (placesIn 0 n (part true)) m in
-          let es = rowsAt c d entered (placesIn 0 p (part false)) m in
-          let own : List (List ℕ) = cond (u .listed) (moveNumbers entered y ∷ []) [] in
-          let fs = rowsAt c d entered (placesIn p n (part false)) m in
+      entered-number =
+          let own = cond (k .comes && not (hidden d after x)) (x ∷ []) [] in
           omega (
             arith,
-            length-append ls (es ++ (own ++ fs)),
-            length-append es (own ++ fs),
-            length-append own fs,
-            coming-count (u .listed) y,
-            rows-count left (placesIn 0 n (part true)),
-            rows-count entered (placesIn 0 p (part false)),
-            rows-count entered (placesIn p n (part false)),
-            left-count,
-            entered-count,
+            v .entered,
+            ap (λ (js : List ℕ). length (select enters js)) (whole p f),
+            ap length (select-append enters (numbersFrom 0 p) (numbersFrom p (n - p))),
+            length-append (select enters (numbersFrom 0 p)) (select enters (numbersFrom p (n - p))),
+            coming-count (u .listed),
+            ap (λ (t : Bool). length (cond t (x ∷ []) [])) (v .listed),
+            length-map (select enters (numbersFrom 0 p)) (moveIn c d m),
+            length-map (select enters (numbersFrom p (n - p))) (moveIn c d m),
+            length-append first (own ++ last),
+            length-append own last,
+            ap length entered-part,
+            length-map (gone (skyline d after) (skyline d before)) (rowOf entered),
           )

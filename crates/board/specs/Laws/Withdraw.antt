@@ -12,9 +12,9 @@ use Rattle.memory.specs.Stores.{setCount}
 use Rattle.memory.specs.Laws.Written.{only-trans, marks-written}
 use Rattle.tree.specs.Withdraw as withdraw
 use Rattle.upkeep.specs.Change.{movesAfter}
-use Rattle.upkeep.specs.Notice.{SetMarks}
+use Rattle.upkeep.specs.Mark.{SetMarks}
 use Rattle.upkeep.specs.Laws.Change.{rest-without}
-use Rattle.upkeep.specs.declared.change.Upkeep.{Upkeep}
+use Rattle.upkeep.specs.declared.exchange.Upkeep.{Upkeep}
 use Rattle.board.specs.Change.{ToWithdraw, WithdrawMade}
 use Rattle.board.specs.Laws.Rows.{holds-sound, holds-over-marks, holds-counted}
 use Rattle.board.specs.Laws.Kept.{MarksRight, made}

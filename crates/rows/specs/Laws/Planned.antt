@@ -48,7 +48,7 @@ accepts-first a b e =
 by-rows : ℕ → Bool → calls.Answer
 by-rows need b = cond b (record { number = 8; detail = need }) accepted
 
-few-refuses : (need lent : ℕ) (k : ℕ) → k ≡ rowsAnswer need lent .number → counted k need ≤ lent
+pub few-refuses : (need lent : ℕ) (k : ℕ) → k ≡ rowsAnswer need lent .number → counted k need ≤ lent
 unfolding counted rowsAnswer accepted by-rows
 few-refuses need lent zero e =
     byCases (ltb lent need)

@@ -9,7 +9,7 @@ use native.Mathlib.Numerals.{add-one}
 use native.Mathlib.Omega.{arith}
 use borrow.Author.Tests.{ltb-true, ltb-false, lt-ltb, le-ltb, eq-eqb, ne-eqb}
 use lib.Dec.{eqb, ltb}
-use lib.ListN.{length, getD, set, drop, replicate}
+use lib.ListN.{length, getD, set, drop, replicate, length-set}
 use lib.Seq.{paste, paste-zero, paste-suc, drop-drop}
 use Rattle.model.specs.Basics.{consIf, select, numbersFrom, firstOr}
 use Rattle.model.specs.Laws.Bool.{byCases, testCases}
@@ -218,3 +218,10 @@ module _ (t : Told) (numbers m : List ℕ) where
       let all = told-all (asked (omega arith) .place) in
       filled-some rows from (suc k) (omega (arith, ap length all, e (omega arith))) h
       ∙ ap (λ (new : List (List ℕ)). paste rows from new (suc k)) all
+
+  -- There are as many rows as before.
+  pub filled-length : (rows : List (List ℕ)) (from k : ℕ) → length (filledRows t numbers m from k rows) ≡ length rows
+  unfolding filledRows
+  filled-length rows from zero = refl
+  filled-length rows from (suc k) =
+      length-set (filledRows t numbers m from k rows) (from + k) (nextRow t numbers m (position t numbers m k)) ∙ filled-length rows from k

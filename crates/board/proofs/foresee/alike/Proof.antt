@@ -9,12 +9,12 @@ use borrow.Author.Tests.{lt-ltb, le-ltb, not-true, not-false}
 use lib.Dec.{ltb}
 use Rattle.model.specs.Basics.{equal}
 use Rattle.promises.specs.Layout.{numberIn, costsIn}
-use Rattle.upkeep.specs.declared.change.Change.{Change}
+use Rattle.upkeep.specs.declared.exchange.Exchange.{Exchange}
 use Rattle.board.specs.Plan.{alike}
 use Rattle.board.proofs.foresee.alike.Statement.{statement}
 use Rattle.board.proofs.foresee.alike.Tie as tie
 
-alike-by : (c d n : ℕ) (k : Change) (m : List ℕ) (comes inside : Bool) → k .comes ≡ comes → ltb (k .goes) n ≡ inside
+alike-by : (c d n : ℕ) (k : Exchange) (m : List ℕ) (comes inside : Bool) → k .comes ≡ comes → ltb (k .goes) n ≡ inside
     → (comes && (inside && equal (k .coming .costs) (costsIn c d m (numberIn c m (k .goes))))) ≡ alike c d n k m
 unfolding alike
 alike-by c d n k m comes inside e f =
