@@ -30,8 +30,8 @@
  *
  * What is sound
  *   Memory that holds a board, each move of it in a block of 0 to 63. Accepted loads and changes leave such memory; every call
- *   but dolzhev_load refuses any other with 3. Versions without blocks never wrote the bytes that these have now: memory that
- *   one of them left is to be loaded again, also where these bytes happen to be in range.
+ *   but dolzhev_load refuses any other with 3. A load writes the number of the layout into the memory: memory of a version
+ *   with another layout has another number, and gets 3.
  *
  * What it takes
  *   stack    at most 12 KB in every call; measured, 9,112 bytes.

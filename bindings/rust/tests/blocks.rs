@@ -5,7 +5,7 @@ use reference::layout::blocks;
 use reference::library;
 use reference::random::{moves, Random, Shape};
 use reference::tries::used_board;
-use reference::{BlockHours, Call, Costs, Given, Row, Window, BLOCKS, COSTS};
+use reference::{BlockHours, Call, Change, Costs, Given, Row, Window, BLOCKS, COSTS};
 
 const C: usize = 16;
 
@@ -21,23 +21,28 @@ fn refusal(board: &Against, call: Call) -> (usize, usize) {
     (answer.refusal, answer.detail)
 }
 
+/// The same of a change and of its preview.
+fn refusals(board: &Against, change: Change) -> [(usize, usize); 2] {
+    change.calls().map(|call| refusal(board, call))
+}
+
 /// A block above 63 is refused after a number out of range and before all else, also where its lower byte would do.
 #[test]
 fn bounds() {
     let (good, past) = (padded([1, 2]), padded([1, 2, 3]));
     let three = Given { number: 3, block: 63, costs: good };
     let board = board(2, vec![three]);
-    for block in [0, 63, 64, 255, 256, u16::MAX] {
+    for block in (0..=BLOCKS as u16).chain([255, 256, u16::MAX]) {
         let expected = |in_yard: usize| if block > 63 && in_yard != 4 { 11 } else { in_yard };
         for (number, costs, in_yard) in [(4, good, 0), (16, past, 4), (4, past, 7), (3, past, 7), (3, good, 5)] {
             let (refused, given) = (expected(in_yard), Given { number, block, costs });
             let load = Call::Load { c: C, d: 2, rows: vec![three, given] };
             assert_eq!(refusal(&board, load), (refused, refused.min(1)), "load {given:?}");
-            assert_eq!(refusal(&board, Call::enter(given)), (refused, 0), "enter {given:?}");
+            assert_eq!(refusals(&board, Change::Enter(given)), [(refused, 0); 2], "enter {given:?}");
         }
         for (number, costs, in_yard) in [(3, good, 0), (16, past, 4), (3, past, 7), (4, past, 7), (4, good, 6)] {
             let given = Given { number, block, costs };
-            assert_eq!(refusal(&board, Call::recost(given)), (expected(in_yard), 0), "re-cost {given:?}");
+            assert_eq!(refusals(&board, Change::Recost(given)), [(expected(in_yard), 0); 2], "re-cost {given:?}");
         }
     }
 }
@@ -47,7 +52,7 @@ fn differing(before: &[u8], after: &[u8]) -> Vec<usize> {
     (0..before.len()).filter(|&at| before[at] != after[at]).collect()
 }
 
-/// A re-cost with equal costs needs no row. Another block alters its one byte, the same block none.
+/// A re-cost with equal costs needs no row. Another block alters its one byte, the same block and a preview none.
 #[test]
 fn block_alone() {
     for d in [2, 5, COSTS] {
@@ -57,8 +62,11 @@ fn block_alone() {
             let at = blocks(C) + usize::from(number);
             for other in [block, 0, 63, block ^ 1] {
                 let before = against.memory().to_vec();
-                let answer = against.check(&Call::recost(Given { number, block: other, costs }), 0).answer;
-                assert_eq!((answer.refusal, answer.count), (0, 0), "number {number}, block {other}");
+                let change = Change::Recost(Given { number, block: other, costs });
+                for call in change.calls() {
+                    let answer = against.check(&call, 0).answer;
+                    assert_eq!((answer.refusal, answer.count), (0, 0), "number {number}, block {other}");
+                }
                 let altered = if before[at] == other as u8 { vec![] } else { vec![at] };
                 assert_eq!(differing(&before, against.memory()), altered, "number {number}, block {other}");
                 assert_eq!(against.memory()[at], other as u8);

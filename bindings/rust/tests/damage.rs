@@ -2,7 +2,7 @@
 //! answers as on the board that stands there where they are sound after all, and writes nothing that it may not.
 use reference::against::{Against, Ask};
 use reference::draw::Draw;
-use reference::layout::{self, blocks};
+use reference::layout::{self, blocks, FORMAT};
 use reference::library;
 use reference::plain;
 use reference::random::{Random, Shape};
@@ -92,22 +92,19 @@ fn every_value_of_a_block() {
     }
 }
 
-/// Every call on boards of which one block is wrong or just right.
+/// Memory of another format: every call but load answers 3 and writes no byte.
 #[test]
-fn damaged_blocks() {
-    let mut random = Random::new(23);
+fn every_other_format() {
+    let mut random = Random::new(24);
     let mut seen = Seen::default();
-    let bytes = used_board(library::ask, 16, 3, 12, 8);
-    let (board, _) = layout::sound(&bytes).unwrap();
-    for at in blocks(16)..blocks(16) + 16 {
-        for value in [63, 64, 128, 255] {
-            let mut damaged = bytes.clone();
-            damaged[at] = value;
-            try_all(library::ask, &damaged, &mut random, &mut seen);
-            try_all(plain::ask, &damaged, &mut random, &mut seen);
-        }
+    let mut bytes = used_board(library::ask, 16, 3, 12, 9);
+    assert_eq!(bytes[3], FORMAT, "a load writes the format");
+    for format in (0..=255).filter(|&format| format != FORMAT) {
+        bytes[3] = format;
+        try_all(library::ask, &bytes, &mut random, &mut seen);
+        try_all(plain::ask, &bytes, &mut random, &mut seen);
     }
-    assert_eq!(seen.unsound, 2 * 3 * board.moves.len());
+    assert_eq!((seen.sound, seen.unsound), (0, 2 * 255));
 }
 
 /// Several bytes at once, and a whole field copied over another.

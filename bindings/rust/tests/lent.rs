@@ -1,4 +1,4 @@
-//! Rows lent: none, one fewer than needed, as many, one more; and the bounds of document 01's "Run besides".
+//! Rows lent: none, one fewer than needed, as many, one more; and the bounds of numbers, costs, k and sets.
 use dolzhev::padded;
 use reference::against::Against;
 use reference::draw::Draw;
@@ -98,43 +98,17 @@ fn notice_of_one_row_more_than_the_board() {
     assert_eq!(Change::Recost(row(5, [0, 0])).calls().map(|call| lend_each(&against, &call)), [65, 65]);
 }
 
-fn load_answer(bytes: usize, c: usize, d: usize, rows: Vec<Given>) -> (usize, usize) {
-    let answer = Against::over(library::ask, &vec![7; bytes]).check(&Call::Load { c, d, rows }, 0).answer;
-    (answer.refusal, answer.detail)
-}
-
-#[test]
-fn sizes_and_memory() {
-    for (c, refusal) in [(15, 2), (16, 0), (4096, 0), (4097, 2)] {
-        let bytes = 64 * c + 1024;
-        assert_eq!(load_answer(bytes, c, 2, vec![]), (refusal, 0), "C of {c}");
-        let short = if refusal == 0 { 1 } else { refusal };
-        assert_eq!(load_answer(bytes - 1, c, 2, vec![]), (short, 0), "C of {c}, one byte short");
-    }
-    for (d, refusal) in [(0, 2), (1, 2), (2, 0), (COSTS, 0), (COSTS + 1, 2), (usize::MAX, 2)] {
-        assert_eq!(load_answer(2048, 16, d, vec![]), (refusal, 0), "d of {d}");
-    }
-    assert_eq!(load_answer(0, 16, 2, vec![]), (1, 0));
-    assert_eq!(load_answer(2048, usize::MAX, 2, vec![]), (2, 0));
-}
-
+/// The greatest number that a board takes, one past it and the greatest there is; and a number that is not on it.
 #[test]
 fn numbers_at_the_bound() {
-    let good = row(15, [1, 2]);
-    assert_eq!(load_answer(2048, 16, 2, vec![good]), (0, 0));
-    assert_eq!(load_answer(2048, 16, 2, vec![good, row(16, [1, 2])]), (4, 1));
-    assert_eq!(load_answer(2048, 16, 2, vec![good, row(0, [1, 2, 0, 3]), row(16, [])]), (7, 1));
-    assert_eq!(load_answer(2048, 16, 2, vec![good, row(0, []), good]), (5, 2));
     let mut against = Against::over(library::ask, &[0; 2048]);
     against.check(&Call::Load { c: 16, d: 2, rows: vec![] }, 0);
-    for (number, refusal) in [(15, 0), (16, 4), (15, 5), (65535, 4)] {
+    for (number, refusal) in [(15, 0), (16, 4), (u16::MAX, 4)] {
         assert_eq!(against.check(&Call::enter(row(number, [3, 3])), 17).answer.refusal, refusal);
     }
-    assert_eq!(against.check(&Call::withdraw(16), 17).answer.refusal, 4);
-    assert_eq!(against.check(&Call::withdraw(14), 17).answer.refusal, 6);
-    assert_eq!(against.check(&Call::recost(row(16, [0, 0, 0, 1])), 17).answer.refusal, 4);
-    assert_eq!(against.check(&Call::recost(row(14, [0, 0, 0, 1])), 17).answer.refusal, 7);
-    assert_eq!(against.check(&Call::recost(row(14, [0, 0])), 17).answer.refusal, 6);
+    for (number, refusal) in [(14, 6), (15, 0), (16, 4), (u16::MAX, 4)] {
+        assert_eq!(against.check(&Call::withdraw(number), 17).answer.refusal, refusal);
+    }
 }
 
 /// What a call on a copy of the board is refused with.
@@ -159,8 +133,8 @@ fn costs_past_d() {
         for place in d..COSTS {
             let mut costs = costs;
             costs[place] = 1;
-            let rows = vec![row(4, []), row(3, costs)];
-            assert_eq!(load_answer(2048, 16, d, rows), (7, 1), "d {d}: cost {place}");
+            let load = Call::Load { c: 16, d, rows: vec![row(4, []), row(3, costs)] };
+            assert_eq!(refusal(&against, load), 7, "d {d}: cost {place}");
             assert_eq!(refusals(&against, Change::Enter(row(4, costs))), [7, 7], "d {d}: cost {place}");
             assert_eq!(refusals(&against, Change::Recost(row(3, costs))), [7, 7], "d {d}: cost {place}");
         }

@@ -6,7 +6,7 @@ use reference::layout;
 use reference::library;
 use reference::node::Node;
 use reference::random::Shape;
-use reference::{Call, Given, COSTS};
+use reference::{Call, Costs, Given, COSTS};
 
 fn leaf_sizes(node: &Node) -> Vec<usize> {
     match node {
@@ -51,47 +51,48 @@ fn rows(c: usize) -> Vec<Given> {
     (0..40).map(row).collect()
 }
 
-/// A board of 40 moves in memory of 8,192 bytes.
-fn standing() -> Vec<u8> {
-    let mut against = Against::over(library::ask, &[0xFF; 8192]);
-    assert_eq!(against.check(&Call::Load { c: 40, d: 2, rows: rows(40) }, 0).answer.refusal, 0);
-    against.memory().to_vec()
-}
-
-/// What a load on the board's first bytes is refused with; every byte stays.
-fn refused(bytes: usize, c: usize, d: usize, rows: Vec<Given>) -> (usize, usize) {
-    let memory = &standing()[..bytes];
-    let mut against = Against::over(library::ask, memory);
-    let answer = against.check(&Call::Load { c, d, rows }, 0).answer;
-    assert!(against.memory() == memory, "a refused load wrote the memory");
+/// What a load answers on memory of so many bytes in which a board of 40 moves stands, as far as they go; refused, it leaves
+/// every byte.
+fn answer(bytes: usize, c: usize, d: usize, rows: Vec<Given>) -> (usize, usize) {
+    let mut standing = Against::over(library::ask, &[0xFF; 3584]);
+    assert_eq!(standing.check(&Call::Load { c: 40, d: 2, rows: self::rows(40) }, 0).answer.refusal, 0);
+    let mut memory = standing.memory().to_vec();
+    memory.resize(bytes, 0xFF);
+    let answer = Against::over(library::ask, &memory).check(&Call::Load { c, d, rows }, 0).answer;
     (answer.refusal, answer.detail)
 }
 
-/// The load with another row at a place.
-fn with_row<const D: usize>(place: usize, number: u16, block: u16, costs: [u16; D]) -> (usize, usize) {
+/// The load with other rows at some places: number, block and costs.
+fn with_rows(others: &[(usize, u16, u16, Costs)]) -> (usize, usize) {
     let mut altered = rows(40);
-    altered[place] = Given { number, block, costs: padded(costs) };
-    refused(3584, 40, 2, altered)
+    for &(place, number, block, costs) in others {
+        altered[place] = Given { number, block, costs };
+    }
+    answer(3584, 40, 2, altered)
 }
 
 #[test]
 fn rows_refused() {
-    assert_eq!(with_row(5, 3, 63, [1, 1]), (5, 5));
-    assert_eq!(with_row(5, 3, 64, [1, 1, 1]), (11, 5));
-    assert_eq!(with_row(7, 40, 64, [1, 1]), (4, 7));
-    assert_eq!(with_row(9, 26, 0, [1, 1, 1]), (7, 9));
-    assert_eq!(with_row(39, 36, 63, [1, 1, 0, 0, 0, 0, 0, 1]), (7, 39));
-    assert_eq!(with_row(39, 36, 256, [1, 1]), (11, 39));
-    assert_eq!(with_row(0, u16::MAX, 0, [0, 0, 0, 1]), (4, 0));
-    assert_eq!(refused(8192, 16, 2, rows(16)), (5, 16));
+    let (good, past, last) = (padded([1, 1]), padded([1, 1, 1]), padded([1, 1, 0, 0, 0, 0, 0, 1]));
+    assert_eq!(with_rows(&[(5, 3, 63, good)]), (5, 5));
+    assert_eq!(with_rows(&[(7, 40, 0, good)]), (4, 7));
+    assert_eq!(with_rows(&[(0, u16::MAX, 0, past)]), (4, 0));
+    assert_eq!(with_rows(&[(39, 36, 63, last)]), (7, 39));
+    assert_eq!(with_rows(&[(5, 38, 0, past), (7, 40, 0, good)]), (7, 5));
+    assert_eq!(answer(8192, 16, 2, rows(16)), (5, 16));
 }
 
 #[test]
-fn sizes_refused() {
-    for (bytes, c, refusal) in [(3583, 40, 1), (3584, 15, 2), (8192, 4097, 2), (8192, 4096, 1), (0, 40, 1)] {
-        assert_eq!(refused(bytes, c, 2, rows(40)), (refusal, 0), "{bytes} bytes, C of {c}");
+fn sizes_and_memory() {
+    for (c, refusal) in [(15, 2), (16, 0), (4096, 0), (4097, 2)] {
+        let bytes = 64 * c + 1024;
+        assert_eq!(answer(bytes, c, 2, vec![]), (refusal, 0), "C of {c}");
+        let short = if refusal == 0 { 1 } else { refusal };
+        assert_eq!(answer(bytes - 1, c, 2, vec![]), (short, 0), "C of {c}, one byte short");
     }
-    for d in [0, 1, COSTS + 1] {
-        assert_eq!(refused(3584, 40, d, rows(40)), (2, 0), "d of {d}");
+    for (d, refusal) in [(0, 2), (1, 2), (2, 0), (COSTS, 0), (COSTS + 1, 2), (usize::MAX, 2)] {
+        assert_eq!(answer(2048, 16, d, vec![]), (refusal, 0), "d of {d}");
     }
+    assert_eq!(answer(0, 16, 2, vec![]), (1, 0));
+    assert_eq!(answer(2048, usize::MAX, 2, vec![]), (2, 0));
 }

@@ -129,35 +129,6 @@ fn used() -> (Vec<u8>, u16, Vec<Given>) {
     (memory, free, board.given())
 }
 
-/// Blocks up to 64 and beyond: 11 exactly where the change has it.
-#[test]
-fn blocks() {
-    let (memory, free, moves) = used();
-    for block in (0..=BLOCKS as u16).chain([255, 256, u16::MAX]) {
-        let refusal = if usize::from(block) < BLOCKS { 0 } else { 11 };
-        let costs = padded([1, 0, 2]);
-        let enter = Change::Enter(Given { number: free, block, costs });
-        let recosts = moves.iter().flat_map(|&x| [costs, x.costs].map(|costs| Given { block, costs, ..x }));
-        for change in recosts.map(Change::Recost).chain([enter]) {
-            let answer = look_and_make(&mut memory.clone(), change, 17);
-            assert_eq!((answer.refusal, answer.detail), (refusal, 0), "{change:?}");
-        }
-    }
-}
-
-/// A re-cost with equal costs is accepted with no row lent, whatever the block; its preview leaves the block too.
-#[test]
-fn block_alone() {
-    let (mut memory, _, moves) = used();
-    for x in moves {
-        for block in 0..BLOCKS as u16 {
-            let change = Change::Recost(Given { block, ..x });
-            assert_eq!(look(&mut memory, change, 0), (Answer::default(), vec![]), "{change:?}");
-            assert_eq!(look_and_make(&mut memory, change, 0), Answer::default(), "{change:?}");
-        }
-    }
-}
-
 /// Two previews and then the first change: it answers as its own preview did, not as the last one.
 #[test]
 fn own_preview() {

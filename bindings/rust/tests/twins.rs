@@ -67,9 +67,9 @@ fn the_other_lists() {
     assert_eq!(told(&board.check(&Call::Rank(9), C).rows), [(1, 3), (0, 0)]);
 }
 
-/// Memory that an earlier version left has every undominated twin marked: no board stands there until the next load.
+/// Where a twin of higher number is marked, or the one of lowest is not, no board stands.
 #[test]
-fn marks_of_an_earlier_version() {
+fn other_marks_of_twins() {
     let bytes = loaded().memory().to_vec();
     let mark = |number: u16| 16 + 3 * C + usize::from(number);
     assert_eq!(TWINS.map(|number| bytes[mark(number)]), [1, 0, 0, 0]);

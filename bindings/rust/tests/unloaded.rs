@@ -1,33 +1,26 @@
 //! Memory that nobody loaded: every call returns, answers 3 exactly where the independent check of the bytes says so, answers
 //! as on the board that stands there where they are sound after all, and writes nothing that it may not.
+use reference::layout::FORMAT;
 use reference::library;
 use reference::random::Random;
 use reference::tries::{try_all, Seen};
 use reference::COSTS;
 
-/// Nothing but random bytes, of any length.
+/// Nothing but zeros, then nothing but random bytes, of any length.
 #[test]
-fn random_bytes() {
+fn zeros_and_random_bytes() {
     let mut random = Random::new(11);
     let mut seen = Seen::default();
-    let lengths = [0, 1, 2, 3, 5, 6, 15, 16, 17, 100, 2047, 2048, 2049, 2112, 4000];
+    let lengths = [0, 1, 2, 3, 5, 6, 15, 16, 17, 100, 2047, 2048, 2049, 2112, 4096];
     for round in 0..600 {
         let mut bytes = vec![0; lengths[round % lengths.len()]];
-        random.fill(&mut bytes);
+        if round >= lengths.len() {
+            random.fill(&mut bytes);
+        }
         try_all(library::ask, &bytes, &mut random, &mut seen);
+        assert!(round >= lengths.len() || seen.sound == 0, "zeros are no board");
     }
     assert!(seen.unsound > 500);
-}
-
-/// Nothing but zeros.
-#[test]
-fn zero_bytes() {
-    let mut random = Random::new(10);
-    let mut seen = Seen::default();
-    for length in [0, 1, 2, 16, 2047, 2048, 4096] {
-        try_all(library::ask, &vec![0; length], &mut random, &mut seen);
-    }
-    assert_eq!((seen.sound, seen.unsound), (0, 7));
 }
 
 /// Random bytes with fields that are nearly right, so that every step of the decision is reached.
@@ -38,6 +31,7 @@ fn nearly(random: &mut Random) -> Vec<u8> {
     let n = random.below(5);
     bytes[..2].copy_from_slice(&(c as u16).to_le_bytes());
     bytes[2] = random.one_of(&[2, 2, 2, 3, 5, COSTS as u8, COSTS as u8 + 1]);
+    bytes[3] = random.one_of(&[FORMAT, FORMAT, FORMAT, FORMAT, FORMAT, FORMAT, 0, FORMAT + 1]);
     bytes[4..6].copy_from_slice(&(n as u16).to_le_bytes());
     for (place, number) in random.numbers(c, n).into_iter().enumerate() {
         bytes[16 + 2 * place..][..2].copy_from_slice(&number.to_le_bytes());
@@ -70,7 +64,7 @@ fn more_moves_than_the_board_takes() {
     let mut seen = Seen::default();
     for n in [17u16, 100, 1015, 1017, u16::MAX] {
         let mut bytes = vec![0; 2048];
-        bytes[..3].copy_from_slice(&[16, 0, 2]);
+        bytes[..4].copy_from_slice(&[16, 0, 2, FORMAT]);
         bytes[4..6].copy_from_slice(&n.to_le_bytes());
         try_all(library::ask, &bytes, &mut random, &mut seen);
     }

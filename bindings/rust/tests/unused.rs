@@ -8,7 +8,7 @@ use std::ops::Range;
 
 /// The bytes that the layout names as not in use whatever the board holds.
 fn unused(c: usize) -> Vec<usize> {
-    let parts: [Range<usize>; 3] = [3..4, 6..16, 16 + 21 * c..64 * c + 1064];
+    let parts: [Range<usize>; 2] = [6..16, 16 + 21 * c..64 * c + 1064];
     parts.into_iter().flatten().collect()
 }
 

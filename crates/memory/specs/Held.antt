@@ -1,11 +1,20 @@
 -- What the functions ask that work on sound memory.
-use Prim.Native.Nat.{ℕ}
+use Prim.Native.Nat.{ℕ, _≤_}
 use mathlib.Core.Path.{_≡_}
 use mathlib.Core.List.{List}
+use lib.ListN.{length}
 use Rattle.promises.specs.Layout.{sizeIn, dimensionIn, countIn}
 use Rattle.promises.specs.Sound.{Sound}
+use Rattle.memory.specs.declared.sound.Head.{Head}
 use Rattle.memory.specs.declared.sound.Held.{Held}
 use Rattle.memory.specs.declared.sound.Held.the-variants as held
+
+-- The memory is long enough for a head, and this is its own.
+pub record HeadOf (h : Head) (m : List ℕ) : Type 0 where
+  pub long : 16 ≤ length m
+  pub size : h .size ≡ sizeIn m
+  pub dimension : h .dimension ≡ dimensionIn m
+  pub count : h .count ≡ countIn m
 
 -- The memory is sound, and c, d and n are its own.
 pub record SoundAt (c d n : ℕ) (m : List ℕ) : Type 0 where

@@ -3,10 +3,10 @@ use Prim.Native.Nat.{ℕ, suc}
 use mathlib.Core.Bool.{Bool, cond}
 use mathlib.Core.List.{List, [], _∷_}
 use lib.ListN.{set}
-use Rattle.promises.specs.Layout.{setWord, sizePlace, dimensionPlace, countPlace, numberPlace, heightPlace, markPlace, blockPlace, costPlace, workPlace}
+use Rattle.promises.specs.Layout.{setWord, formatNumber, sizePlace, dimensionPlace, formatPlace, countPlace, numberPlace, heightPlace, markPlace, blockPlace, costPlace, workPlace}
 
 unfoldable pub setHead : ℕ → ℕ → ℕ → List ℕ → List ℕ
-setHead c d n m = setWord countPlace n (set (setWord sizePlace c m) dimensionPlace d)
+setHead c d n m = setWord countPlace n (set (set (setWord sizePlace c m) dimensionPlace d) formatPlace formatNumber)
 
 unfoldable pub setCount : ℕ → List ℕ → List ℕ
 setCount n m = setWord countPlace n m

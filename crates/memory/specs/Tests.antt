@@ -9,7 +9,7 @@ use Rattle.zorder.specs.Refusal.{costCountBad}
 use Rattle.model.specs.Moves.{Move, moveBefore}
 use Rattle.model.specs.Dominance.{hides}
 use Rattle.model.specs.Calls.{sizeBad, memoryNeed, blockBad}
-use Rattle.promises.specs.Layout.{sizeIn, dimensionIn, countIn, numberIn, markIn, blockIn, moveIn}
+use Rattle.promises.specs.Layout.{sizeIn, dimensionIn, formatIn, formatNumber, countIn, numberIn, markIn, blockIn, moveIn}
 use Rattle.promises.specs.Sound.{Sound}
 
 -- A test passes at 0, 1, .., n-1.
@@ -24,6 +24,7 @@ unfoldable pub headRight : List ℕ → Bool
 headRight m =
     not (sizeBad (sizeIn m))
     && not (costCountBad (dimensionIn m))
+    && eqb (formatIn m) formatNumber
     && leb (memoryNeed (sizeIn m)) (length m)
     && leb (countIn m) (sizeIn m)
 

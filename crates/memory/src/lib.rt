@@ -37,7 +37,6 @@ pub use search::next_within;
 pub use search::seen;
 pub use sound::Head;
 pub use sound::Held;
-pub use sound::is_sound;
 pub use sound::sound_head;
 pub use stores::set_block;
 pub use stores::set_costs;

@@ -2,16 +2,21 @@
 use crate::fields::block_of;
 use crate::fields::count;
 use crate::fields::dimension;
+use crate::fields::has_format;
 use crate::fields::move_at;
 use crate::fields::number_at;
 use crate::fields::size;
 use crate::heights::heights_right;
 use crate::marks::marks_right;
 use crate::order::stands_before;
-use zorder::COSTS;
+use promises::block_bad;
+use promises::memory_need;
+use promises::size_bad;
+use zorder::cost_count_bad;
 ghost use mathlib.Core.Path.{_≡_};
 ghost use Prim.Native.Nat.{_≤_};
-ghost use Rattle.memory.specs.Held.{HeldIn};
+ghost use lib.ListN.{length};
+ghost use Rattle.memory.specs.Held.{HeadOf, HeldIn};
 ghost use Rattle.memory.specs.Room.{Room, Readable};
 ghost use Rattle.memory.specs.Tests as tests;
 
@@ -22,28 +27,39 @@ pub struct Head {
     pub count: usize,
 }
 
-// Whether C, d and the number of moves are in range and the memory is long enough for C.
-fn head_right(m: &[u8]) -> bool
-    ensures { λ r. ⌜ r ≡ tests.headRight (now (m .entry)) ⌝ }
+// What the head says, whatever that is.
+fn head_of(m: &[u8]) -> Head
+    requires { ⌜ 16 ≤ length (now m) ⌝ }
+    ensures { λ r. ⌜ HeadOf r (now (m .entry)) ⌝ }
 {
-    if m.len() < 2048 {
-        return false;
+    Head {
+        size: size(m),
+        dimension: dimension(m),
+        count: count(m),
     }
-    let c = size(m);
-    let d = dimension(m);
-    if c < 16 || 4096 < c {
-        return false;
-    }
-    if d < 2 || COSTS < d {
-        return false;
-    }
-    if m.len() < 64 * c + 1024 {
-        return false;
-    }
-    count(m) <= c
 }
 
-// Whether each number is below C and its block one of 0 to 63.
+// Whether the memory has this layout, C, d and the number of moves are in range and it is long enough for C.
+fn head_right(m: &[u8], h: Head) -> bool
+    requires { ⌜ HeadOf h (now m) ⌝ }
+    ensures { λ r. ⌜ r ≡ tests.headRight (now (m .entry)) ⌝ }
+{
+    if size_bad(h.size) {
+        return false;
+    }
+    if cost_count_bad(h.dimension) {
+        return false;
+    }
+    if !has_format(m) {
+        return false;
+    }
+    if m.len() < memory_need(h.size) {
+        return false;
+    }
+    h.count <= h.size
+}
+
+// Whether each number is below C and its block in range.
 fn numbers_right(m: &[u8], c: usize, n: usize) -> bool
     requires { ⌜ Room c (now m) × (n ≤ c) ⌝ }
     ensures { λ r. ⌜ r ≡ tests.numbersRight c n (now (m .entry)) ⌝ }
@@ -54,7 +70,8 @@ fn numbers_right(m: &[u8], c: usize, n: usize) -> bool
         if c <= (number as usize) {
             return false;
         }
-        if 63 < block_of(m, c, number) {
+        let block = block_of(m, c, number);
+        if block_bad(block as u16) {
             return false;
         }
         i += 1;
@@ -78,17 +95,13 @@ fn order_right(m: &[u8], h: Head) -> bool
     true
 }
 
-pub fn is_sound(m: &[u8]) -> bool
+fn is_sound(m: &[u8], h: Head) -> bool
+    requires { ⌜ HeadOf h (now m) ⌝ }
     ensures { λ r. ⌜ tests.Decides r (now (m .entry)) ⌝ }
 {
-    if !head_right(m) {
+    if !head_right(m, h) {
         return false;
     }
-    let h = Head {
-        size: size(m),
-        dimension: dimension(m),
-        count: count(m),
-    };
     if !numbers_right(m, h.size, h.count) {
         return false;
     }
@@ -110,12 +123,12 @@ pub enum Held {
 pub fn sound_head(m: &[u8]) -> Held
     ensures { λ r. ⌜ HeldIn (now (m .entry)) r ⌝ }
 {
-    if !is_sound(m) {
+    if m.len() < 16 {
         return Held::Unsound;
     }
-    Held::Sound(Head {
-        size: size(m),
-        dimension: dimension(m),
-        count: count(m),
-    })
+    let h = head_of(m);
+    if !is_sound(m, h) {
+        return Held::Unsound;
+    }
+    Held::Sound(h)
 }

@@ -1,5 +1,6 @@
 // Each field written.
 use crate::bytes::set_word;
+use crate::fields::FORMAT;
 use zorder::COSTS;
 ghost use mathlib.Core.Path.{_≡_};
 ghost use Prim.Native.Nat.{_≤_, _<_};
@@ -7,13 +8,14 @@ ghost use lib.ListN.{length};
 ghost use Rattle.memory.specs.Room.{Room};
 ghost use Rattle.memory.specs.Stores as stores;
 
-// C, d and the number of moves.
+// C, d, the format and the number of moves.
 pub fn set_head(m: &mut [u8], c: usize, d: usize, n: usize)
     requires { ⌜ (16 ≤ length (now m)) × (c < 65536) × (d < 256) × (n < 65536) ⌝ }
     ensures { λ _. ⌜ now (m .exit) ≡ stores.setHead c d n (now (m .entry)) ⌝ }
 {
     set_word(m, 0, c as u16);
     m[2] = d as u8;
+    m[3] = FORMAT;
     set_word(m, 4, n as u16);
 }
 

@@ -5,8 +5,3 @@ pub mod Demand3
 pub mod BroughtUp
 pub mod Accept
 pub mod Written
-pub mod Width
-pub mod WidthTree
-pub mod WidthChanges
-pub mod Widened
-pub mod Earlier

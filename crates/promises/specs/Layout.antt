@@ -23,6 +23,9 @@ sizePlace = 0
 abbrev pub dimensionPlace : ℕ
 dimensionPlace = 2
 
+abbrev pub formatPlace : ℕ
+formatPlace = 3
+
 abbrev pub countPlace : ℕ
 countPlace = 4
 
@@ -44,12 +47,19 @@ costPlace c n j = 16 + 5 * c + 16 * n + 2 * j
 unfoldable pub workPlace : ℕ → ℕ → ℕ
 workPlace c i = 16 + 21 * c + 2 * i
 
--- The head: C, d and how many moves are on the board.
+-- The head: C, d, the format and how many moves are on the board.
 unfoldable pub sizeIn : List ℕ → ℕ
 sizeIn m = wordAt sizePlace m
 
 unfoldable pub dimensionIn : List ℕ → ℕ
 dimensionIn m = getD m dimensionPlace 0
+
+unfoldable pub formatIn : List ℕ → ℕ
+formatIn m = getD m formatPlace 0
+
+-- The number of this layout. A layout that reads the same bytes otherwise takes another.
+abbrev pub formatNumber : ℕ
+formatNumber = 1
 
 unfoldable pub countIn : List ℕ → ℕ
 countIn m = wordAt countPlace m

@@ -6,5 +6,4 @@ pub mod Used
 pub mod Answers
 pub mod Promise
 pub mod Run
-pub mod Width
 pub mod Laws

@@ -7,12 +7,12 @@ use lib.Dec.{eqb, leb}
 use lib.ListN.{length, getD}
 use Rattle.model.specs.Basics.{any}
 use Rattle.model.specs.Calls.{memoryNeed}
-use Rattle.promises.specs.Layout.{sizePlace, dimensionPlace, countPlace, numberPlace, heightPlace, markPlace, blockPlace, costPlace, sizeIn, dimensionIn, countIn, numberIn, tab}
+use Rattle.promises.specs.Layout.{sizePlace, formatPlace, countPlace, numberPlace, heightPlace, markPlace, blockPlace, costPlace, sizeIn, dimensionIn, countIn, numberIn, tab}
 use Rattle.promises.specs.Written.{inArea}
 
--- C, d and the count.
+-- C, d, the format and the count.
 unfoldable pub headUse : ℕ → Bool
-headUse i = inArea sizePlace (dimensionPlace + 1) i || inArea countPlace (countPlace + 2) i
+headUse i = inArea sizePlace (formatPlace + 1) i || inArea countPlace (countPlace + 2) i
 
 -- Numbers and heights at the first n places.
 unfoldable pub rowsUse : ℕ → ℕ → ℕ → Bool

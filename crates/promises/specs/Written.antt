@@ -3,7 +3,7 @@ use Prim.Native.Nat.{ℕ, _+_}
 use mathlib.Core.Bool.{Bool, false, not, _&&_, _||_}
 use lib.Dec.{leb, ltb, eqb}
 use Rattle.model.specs.Calls.{Change, enter, withdraw, recost}
-use Rattle.promises.specs.Layout.{sizePlace, dimensionPlace, countPlace, numberPlace, blockPlace, workPlace}
+use Rattle.promises.specs.Layout.{sizePlace, formatPlace, countPlace, numberPlace, blockPlace, workPlace}
 
 -- The byte i is one from a up to b.
 unfoldable pub inArea : ℕ → ℕ → ℕ → Bool
@@ -24,7 +24,7 @@ blockWrites c (recost n block costs) i = eqb i (blockPlace c n)
 unfoldable pub changeWrites : ℕ → Change → ℕ → Bool
 changeWrites c x i = movesWrite c i || blockWrites c x i
 
--- A load: C and d, moves and blocks.
+-- A load: C, d and the format, moves and blocks.
 unfoldable pub loadWrites : ℕ → ℕ → Bool
 loadWrites c i =
-    inArea sizePlace (dimensionPlace + 1) i || movesWrite c i || inArea (blockPlace c 0) (blockPlace c c) i
+    inArea sizePlace (formatPlace + 1) i || movesWrite c i || inArea (blockPlace c 0) (blockPlace c c) i

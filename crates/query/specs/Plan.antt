@@ -6,8 +6,8 @@ use Rattle.model.specs.Tree.{Tree}
 use Rattle.model.specs.Calls.{accepted, Query, queryRefusal, queryRows}
 use Rattle.model.specs.Opening.{queryOpens}
 use Rattle.promises.specs.Layout.{dimensionIn, boardIn}
-use Rattle.upkeep.specs.Planned.{QueryPlanned}
-use Rattle.upkeep.specs.declared.plan.Plan.{Plan}
+use Rattle.rows.specs.Planned.{QueryPlanned}
+use Rattle.rows.specs.declared.plan.Plan.{Plan}
 use Rattle.query.specs.Kept.{keptRows}
 use Rattle.query.specs.declared.rule.Rule.{Rule}
 

@@ -4,7 +4,7 @@ use crate::COSTS;
 use crate::RegionAnswer;
 use crate::Verdict;
 use crate::Words;
-use crate::interleave::count_bad;
+use crate::interleave::cost_count_bad;
 use crate::separate::separated;
 use crate::separate::too_large;
 use crate::two_words::below;
@@ -86,7 +86,7 @@ fn refused(verdict: Verdict) -> RegionAnswer
 pub fn region(d: usize, a: Words, b: Words) -> RegionAnswer
     ensures { λ r. ⌜ RegionPromise d (value a) (value b) r ⌝ }
 {
-    if count_bad(d) {
+    if cost_count_bad(d) {
         return refused(Verdict::BadCostCount);
     }
     if too_large(d, a) || too_large(d, b) || below(b, a) {

@@ -63,7 +63,7 @@ pub fn zero_past(d: usize, costs: [u16; COSTS]) -> bool
     true
 }
 
-pub(crate) fn count_bad(d: usize) -> bool
+pub fn cost_count_bad(d: usize) -> bool
     ensures { λ r. ⌜ r ≡ costCountBad d ⌝ }
 {
     d < 2 || COSTS < d
@@ -72,7 +72,7 @@ pub(crate) fn count_bad(d: usize) -> bool
 pub fn address(d: usize, costs: [u16; COSTS]) -> AddressAnswer
     ensures { λ r. ⌜ AddressPromise d costs r ⌝ }
 {
-    if count_bad(d) {
+    if cost_count_bad(d) {
         return AddressAnswer {
             verdict: Verdict::BadCostCount,
             address: Words { upper: 0, lower: 0 },

@@ -1,7 +1,7 @@
 // Addresses and regions in Z-order, without the tree (document 01, "Moves, addresses, regions").
 //
 // The calls `address`, `costs` and `region` have no `requires`: they refuse. The functions of `between` serve the crates
-// above, which name no address: a wider address changes this crate alone. So does `zero_past`.
+// above, which name no address: a wider address changes this crate alone. So do `zero_past` and `cost_count_bad`.
 mod between;
 mod corners;
 mod interleave;
@@ -14,6 +14,7 @@ pub use between::near_of;
 pub use between::side_of;
 pub use corners::region;
 pub use interleave::address;
+pub use interleave::cost_count_bad;
 pub use interleave::zero_past;
 pub use separate::costs;
 

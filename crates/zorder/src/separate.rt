@@ -4,7 +4,7 @@ use crate::COSTS;
 use crate::CostsAnswer;
 use crate::Verdict;
 use crate::Words;
-use crate::interleave::count_bad;
+use crate::interleave::cost_count_bad;
 use crate::two_words::bit;
 use crate::two_words::leading_zeros;
 ghost use mathlib.Core.Path.{_≡_};
@@ -54,7 +54,7 @@ pub(crate) fn too_large(d: usize, a: Words) -> bool
 pub fn costs(d: usize, address: Words) -> CostsAnswer
     ensures { λ r. ⌜ CostsPromise d (value address) r ⌝ }
 {
-    if count_bad(d) {
+    if cost_count_bad(d) {
         return CostsAnswer {
             verdict: Verdict::BadCostCount,
             costs: [0u16; COSTS],

@@ -5,6 +5,9 @@ use super::lists::skyline;
 use super::node::{Node, LEAST_ENTRIES, MOST_ENTRIES};
 use crate::{Given, Move, BLOCKS, COSTS};
 
+/// What byte 3 holds: the number of this layout.
+pub const FORMAT: u8 = 1;
+
 /// What the bytes in use say, judged only as far as reading needs it.
 #[derive(Clone, Debug)]
 pub struct Content {
@@ -35,12 +38,12 @@ fn stored_move(bytes: &[u8], c: usize, d: usize, number: u16) -> Move {
     Move { number, costs }
 }
 
-/// None where C, d, the number of moves or a number is out of range, or the memory too short.
+/// None where C, d, the number of moves or a number is out of range, the format another one or the memory too short.
 pub fn content(bytes: &[u8]) -> Option<Content> {
     let head = bytes.get(..16)?;
     let (c, d, n) = (usize::from(word(head, 0)), usize::from(head[2]), usize::from(word(head, 4)));
     let fits = (16..=4096).contains(&c) && (2..=COSTS).contains(&d) && n <= c && bytes.len() >= 64 * c + 1024;
-    if !fits {
+    if !fits || head[3] != FORMAT {
         return None;
     }
     let numbers: Vec<u16> = (0..n).map(|place| word(bytes, 16 + 2 * place)).collect();

@@ -13,7 +13,7 @@ pub fn written(call: &Call, before: Option<&PlainBoard>, c: usize) -> Vec<Range<
     let costs_stay = |given: Given| before.is_some_and(|board| board.costs_of(given.number) == Some(given.costs));
     let others = [4..6, 16..blocks(c), blocks(c) + c..16 + 23 * c];
     match *call {
-        Call::Load { .. } => vec![0..3, 4..6, 16..16 + 23 * c],
+        Call::Load { .. } => vec![0..6, 16..16 + 23 * c],
         Call::Change(Change::Recost(given)) if costs_stay(given) => vec![block(given)],
         Call::Change(change) => others.into_iter().chain(change.coming().map(block)).collect(),
         _ => vec![],

@@ -1,7 +1,9 @@
 //! The lines on addresses and regions.
-use crate::lines::{costs, joined, kind, lines, words};
+use crate::lines::{costs, files, joined, kind, words, Line};
 use reference::address;
 use reference::{AddressAnswer, AddressWords, Costs, CostsAnswer, RegionAnswer};
+
+const KINDS: [&str; 3] = ["A2", "U2", "R2"];
 
 /// Whoever answers on addresses.
 struct Addresses {
@@ -35,10 +37,18 @@ impl Addresses {
         }
     }
 
-    fn play(&self) {
-        for (at, (asked, answer)) in lines("addresses.txt", 3162).iter().enumerate() {
-            assert_eq!(self.answer(asked), *answer, "addresses.txt, line {}: {asked}", at + 1);
+    fn play_file(&self, name: &str, lines: &[Line]) -> usize {
+        let mut answers = 0;
+        for (at, (asked, answer)) in lines.iter().enumerate().filter(|(_, (asked, _))| KINDS.contains(&kind(asked))) {
+            assert_eq!(self.answer(asked), *answer, "{name}, line {}: {asked}", at + 1);
+            answers += 1;
         }
+        answers
+    }
+
+    fn play(&self) {
+        let answers: usize = files().iter().map(|(name, lines)| self.play_file(name, lines)).sum();
+        assert_eq!(answers, 2629);
     }
 }
 

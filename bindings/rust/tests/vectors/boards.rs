@@ -1,29 +1,13 @@
 //! Who answers the lines on boards, and the lines put to them.
-use crate::lines::{call_of, is_load, joined, kind, lines, words};
+use crate::lines::{call_of, files, is_load, joined, kind, words, Line};
 use reference::against::Ask;
-use reference::layout::{self, blocks};
+use reference::layout;
 use reference::model::Model;
 use reference::node::written;
 use reference::{Answer, Call, Row};
 
-/// The words of calls that are not here yet: their lines are passed by.
-const LATER: [&str; 2] = ["SF", "WH"];
-
-/// The memory of a line `Z bytes filler = content`: the content in hexadecimal digits, and after it the filler.
-pub fn memory_of(asked: &str, content: &str) -> Vec<u8> {
-    let digits = |at| u8::from_str_radix(&content[at..at + 2], 16).expect(content);
-    let mut memory: Vec<u8> = (0..content.len()).step_by(2).map(digits).collect();
-    memory.resize(words(asked)[0] as usize, words(asked)[1] as u8);
-    memory
-}
-
-/// The same with every move in block 0: the version that left it wrote no blocks.
-pub fn in_block_0(asked: &str, content: &str) -> Vec<u8> {
-    let mut memory = memory_of(asked, content);
-    let c = layout::content(&memory).expect("fields in range").c;
-    memory[blocks(c)..][..c].fill(0);
-    memory
-}
+/// Lines on no board, and calls that are not here yet: they are passed by.
+const PASSED: [&str; 8] = ["A2", "U2", "R2", "D", "M", "N", "SF", "WH"];
 
 /// The answer to a line as the vectors write it. An `X` is a withdrawal that shows the nodes opened, a `W` one that does not;
 /// a preview shows them.
@@ -31,7 +15,7 @@ fn answered(asked: &str, (answer, rows): (Answer, Vec<Row>)) -> String {
     let mut words = vec![answer.refusal, answer.detail];
     match kind(asked) {
         "L" | "LB" => {}
-        "Q" | "X" | "PE" | "PW" | "PC" => words.extend([answer.count, answer.opened]),
+        "Q" | "X" | "PE" | "PW" | "PC" | "PEB" | "PCB" => words.extend([answer.count, answer.opened]),
         _ => words.push(answer.count),
     }
     for row in rows {
@@ -90,23 +74,19 @@ impl Player for Model {
 }
 
 /// A file's memory is as long as its loads say at most: some are lent a byte fewer.
-fn memory_bytes(lines: &[(String, String)]) -> usize {
+fn memory_bytes(lines: &[Line]) -> usize {
     let loads = lines.iter().filter(|(asked, _)| is_load(asked));
     loads.map(|(asked, _)| words(asked)[0]).max().unwrap_or(0) as usize
 }
 
-pub fn play(name: &str, count: usize, player: &mut dyn Player) {
-    let lines = lines(name, count);
-    let mut bytes = memory_bytes(&lines);
+/// The file's lines put to the player, on memory that was never loaded; how many were answered.
+fn play_file(name: &str, lines: &[Line], player: &mut dyn Player) -> usize {
+    let bytes = memory_bytes(lines);
     player.take(vec![0; bytes]);
+    let mut answers = 0;
     for (at, (asked, answer)) in lines.iter().enumerate() {
         let got = match kind(asked) {
-            later if LATER.contains(&later) => continue,
-            "Z" => {
-                bytes = words(asked)[0] as usize;
-                player.take(in_block_0(asked, answer));
-                continue;
-            }
+            passed if PASSED.contains(&passed) => continue,
             "T" => player.tree(),
             _ => {
                 let (call, lent) = call_of(asked);
@@ -115,5 +95,12 @@ pub fn play(name: &str, count: usize, player: &mut dyn Player) {
             }
         };
         assert_eq!(got, *answer, "{name}, line {}: {asked}", at + 1);
+        answers += 1;
     }
+    answers
+}
+
+pub fn play(player: &mut dyn Player) {
+    let answers: usize = files().iter().map(|(name, lines)| play_file(name, lines, player)).sum();
+    assert_eq!(answers, 4369);
 }

@@ -1,21 +1,30 @@
-//! The lines of bindings/vectors, read.
+//! The lines of crates/vectors/data, read.
 use reference::{BlockHours, Call, Change, Costs, Given, Window, BLOCKS, COSTS, WINDOWS};
 use std::fs;
 
 /// What stands in the windows past a block's count, which nobody looks at.
 const RUBBISH: Window = Window { start: 0xA5A5, end: 0xA5A5 };
 
-/// The words of lines whose moves have a block; in the others they lie in block 0.
-const WITH_BLOCK: [&str; 3] = ["LB", "EB", "CB"];
+/// A line in two: what is asked and what is answered.
+pub type Line = (String, String);
 
-/// The lines of a file, each in two: what is asked and what is answered.
-pub fn lines(name: &str, count: usize) -> Vec<(String, String)> {
-    let path = format!("{}/../vectors/{name}", env!("CARGO_MANIFEST_DIR"));
-    let text = fs::read_to_string(&path).unwrap_or_else(|error| panic!("{path}: {error}"));
-    let halves = |line: &str| line.split_once(" = ").map(|(asked, answer)| (asked.to_string(), answer.to_string()));
-    let lines: Vec<_> = text.lines().map(|line| halves(line).expect(line)).collect();
-    assert_eq!(lines.len(), count, "{name} is not whole");
-    lines
+/// The words of lines whose moves have a block; in the others they lie in block 0.
+const WITH_BLOCK: [&str; 5] = ["LB", "EB", "CB", "PEB", "PCB"];
+
+fn read(name: &str) -> String {
+    let path = format!("{}/../../crates/vectors/{name}", env!("CARGO_MANIFEST_DIR"));
+    fs::read_to_string(&path).unwrap_or_else(|error| panic!("{path}: {error}"))
+}
+
+fn halves(line: &str) -> Line {
+    let (asked, answer) = line.split_once(" = ").expect(line);
+    (asked.to_string(), answer.to_string())
+}
+
+/// The files that the program `vectors` reads, each with its lines.
+pub fn files() -> Vec<(String, Vec<Line>)> {
+    let lines = |name: &str| read(&format!("data/{name}")).lines().map(halves).collect();
+    read("args").lines().map(|name| (name.to_string(), lines(name))).collect()
 }
 
 /// The word that says what is asked.
@@ -81,9 +90,9 @@ pub fn call_of(asked: &str) -> (Call, usize) {
         "E" | "EB" => Call::enter(moved()),
         "W" | "X" => Call::withdraw(number),
         "C" | "CB" => Call::recost(moved()),
-        "PE" => Call::Preview(Change::Enter(moved())),
+        "PE" | "PEB" => Call::Preview(Change::Enter(moved())),
         "PW" => Call::Preview(Change::Withdraw(number)),
-        "PC" => Call::Preview(Change::Recost(moved())),
+        "PC" | "PCB" => Call::Preview(Change::Recost(moved())),
         "Q" => Call::List,
         "B" => Call::Band(argument),
         "K" => Call::Rank(argument),

@@ -22,9 +22,9 @@ use Rattle.promises.specs.Laws.Tab.{each-tab}
 use Rattle.memory.specs.Held.{SoundAt}
 use Rattle.memory.specs.Stores.{setCount}
 use Rattle.memory.specs.Frame.{DifferWithin, MovesOnly}
-use Rattle.memory.specs.Laws.Written.{only-trans, count-written, size-left, dimension-left}
+use Rattle.memory.specs.Laws.Written.{only-trans, count-written, size-left, dimension-left, format-left}
 use Rattle.memory.specs.Laws.Fields.{number-over-head, mark-over-head}
-use Rattle.memory.specs.Laws.Stored.{setCount-head, count-setCount, size-setCount, dimension-setCount}
+use Rattle.memory.specs.Laws.Stored.{setCount-head, count-setCount, size-setCount, dimension-setCount, format-setCount}
 use Rattle.memory.specs.Laws.Lines.{lineIn-line, line-over-head}
 use Rattle.tree.specs.Hold.{RowsHold}
 use Rattle.board.specs.Change.{Moved}
@@ -80,6 +80,7 @@ module _ {c d n k : ℕ} {m m₁ : List ℕ} {t : Tree} (s : SoundAt c d n m) (f
       record {
         size = ap sizeBad (size ∙ s .size) ∙ s .sound .stands .size;
         dimension = ap costCountBad (dimension ∙ s .dimension) ∙ s .sound .stands .dimension;
+        format = format-setCount k m₁ ∙ format-left c f ∙ s .sound .stands .format;
         room = omega (arith, size, h .readable .room, head .length);
         count = omega (arith, count, size, h .readable .rows);
         numbers = subst (λ (v : ℕ). Each (λ r. r .move .number < v) (lineIn m')) (sym size) (subst (Each (λ r. r .move .number < c)) (sym line-is) numbers);

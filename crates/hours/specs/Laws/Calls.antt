@@ -9,14 +9,15 @@ use Rattle.zorder.specs.Refusal.{refusal}
 use Rattle.model.specs.Hours.{Hours, blockCount}
 use Rattle.model.specs.Opening.{queryOpens}
 use Rattle.model.specs.Calls.{Answer, accepted, refusedWith, orElse, Board, hoursQuery, hoursRefusal, queryRefusal}
-use Rattle.promises.specs.Answers.{answerOf, outcomeNumber}
+use Rattle.promises.specs.Answers.{answerOf, outcomeNumber, refusedBy}
 use Rattle.promises.specs.Layout.{boardIn}
-use Rattle.promises.specs.declared.Verdict.the-variants.{BadHours}
+use Rattle.promises.specs.declared.Outcome.the-variants.{BadHours}
 use Rattle.memory.specs.Held.{SoundAt}
 use Rattle.memory.specs.declared.sound.Head.{Head}
-use Rattle.upkeep.specs.Planned.{Finds, QueryPlanned, PlansFound}
+use Rattle.upkeep.specs.Found.{Finds}
 use Rattle.upkeep.specs.declared.found.Found.{Found}
-use Rattle.upkeep.specs.declared.plan.Plan.{Plan}
+use Rattle.rows.specs.Planned.{QueryPlanned, PlansFound}
+use Rattle.rows.specs.declared.plan.Plan.{Plan}
 use Rattle.hours.specs.Open.{FirstBad, OpenBlocks, shownFor}
 use Rattle.hours.specs.Laws.Windows.{minute-late}
 use Rattle.hours.specs.Laws.Shown.{hours-rows}
@@ -34,7 +35,7 @@ module _ (b : Board) (t : ℕ) (hours : List Hours) where
   by-entries l = ap first-check (sym (minute-late t) ∙ le-ltb 10079 t l)
 
   module _ (l : t ≤ 10079) {k : ℕ} (f : FirstBad hours k) where
-    pub hours-refused : k < 64 → queryRefusal b (hoursQuery t hours) ≡ answerOf (BadHours k)
+    pub hours-refused : k < 64 → queryRefusal b (hoursQuery t hours) ≡ answerOf (refusedBy BadHours k)
     unfolding outcomeNumber
     hours-refused h = by-entries l ∙ f .bad h
 
@@ -50,4 +51,4 @@ pub hours-planned : {h : Head} {m : List ℕ} {t blocks lent : ℕ} {hours : Lis
     → QueryPlanned (hoursQuery t hours) m lent p
 unfolding queryOpens
 hours-planned {h} {m} {t} {hours = hours} s o f plan ok =
-    plan .plans s f (hoursQuery t hours) ok (hours-rows (h .size) (h .dimension) (h .count) m s o) (λ _ _. refl)
+    plan .plans s f _ ok _ (hours-rows (h .size) (h .dimension) (h .count) m s o) (λ _. 0) (λ _ _. refl)

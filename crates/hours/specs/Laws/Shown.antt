@@ -34,7 +34,7 @@ use Rattle.memory.specs.Laws.Hiders.{some-any, some-ext, words-within}
 use Rattle.memory.specs.Laws.Lines.{movesIn-line}
 use Rattle.memory.specs.Laws.Places.{any-tab, anyTo-past, anyTo-mono}
 use Rattle.memory.specs.declared.search.Among.the-variants.{InBlocks}
-use Rattle.upkeep.specs.Planned.{foundMoves}
+use Rattle.upkeep.specs.Found.{foundMoves}
 use Rattle.upkeep.specs.Laws.Others.{own-place}
 use Rattle.hours.specs.Open.{OpenBlocks, movesInBlocks, shownFor}
 

@@ -3,7 +3,7 @@ use borrow.Author.Needs.{needs}
 use Rattle.model.specs.Calls.{list}
 use Rattle.memory.specs.Held.{SoundAt}
 use Rattle.memory.specs.Laws.Held.{held-readable, sound-held, unsound-held}
-use Rattle.upkeep.specs.Laws.Planned.{query-unsound}
+use Rattle.rows.specs.Laws.Planned.{query-unsound}
 use Rattle.listing.specs.Laws.List.{list-planned}
 use Rattle.listing.proofs.plan_list.Statement.{statement}
 use Rattle.listing.proofs.plan_list.Tie as tie
@@ -20,13 +20,13 @@ enum-known-h c = search needs
 enum-told : tie.Need-enum-told
 enum-told c = search needs
 
-nothing-requires : tie.Need-nothing-requires
-nothing-requires c κs = search needs
+refused-requires : tie.Need-refused-requires
+refused-requires c κs = search needs
 
 returns : tie.Need-returns
 returns c =
     let a = c .before .before .before .before .before .args in
-    query-unsound list (a .m .now) (a .lent) (c .nothing .ensures)
+    query-unsound list (a .m .now) (a .lent) (c .refused .ensures)
     (unsound-held (c .before .before .before .sound-head .ensures) (c .before .enum-told .given .1))
 
 find-listed-requires : tie.Need-find-listed-requires
@@ -49,7 +49,7 @@ plan-list-spec =
     sound-head-requires
     enum-known-h
     enum-told
-    nothing-requires
+    refused-requires
     returns
     find-listed-requires
     nodes-opened-requires

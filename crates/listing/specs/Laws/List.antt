@@ -6,16 +6,17 @@ use Rattle.model.specs.Lists.{skyline, listedRows}
 use Rattle.model.specs.Nodes.{nodesOpened}
 use Rattle.model.specs.Calls.{accepted, list, listOf, queryRefusal, queryRows}
 use Rattle.model.specs.Opening.{queryOpens}
-use Rattle.promises.specs.Layout.{boardIn, keptFrom}
+use Rattle.promises.specs.Layout.{dimensionIn, boardIn, keptFrom}
 use Rattle.memory.specs.Held.{SoundAt}
 use Rattle.memory.specs.Laws.Held.{held-kept}
 use Rattle.tree.specs.Search.{Opened}
 use Rattle.memory.specs.declared.sound.Head.{Head}
 use Rattle.memory.specs.Tests.{isMarked}
-use Rattle.upkeep.specs.Planned.{Finds, QueryPlanned, foundMoves, PlansFound}
+use Rattle.upkeep.specs.Found.{Finds, foundMoves}
 use Rattle.upkeep.specs.Laws.Found.{board-line}
 use Rattle.upkeep.specs.declared.found.Found.{Found}
-use Rattle.upkeep.specs.declared.plan.Plan.{Plan}
+use Rattle.rows.specs.Planned.{QueryPlanned, PlansFound}
+use Rattle.rows.specs.declared.plan.Plan.{Plan}
 
 module _ {h : Head} {m : List ℕ} (s : SoundAt (h .size) (h .dimension) (h .count) m) where
   list-rows : listedRows (foundMoves (h .size) (h .dimension) (h .count) (isMarked (h .size) m) m) ≡ queryRows (boardIn m) list
@@ -31,4 +32,5 @@ module _ {h : Head} {m : List ℕ} (s : SoundAt (h .size) (h .dimension) (h .cou
       → {lent : ℕ} {p : Plan} → PlansFound h found opened lent p → QueryPlanned list m lent p
   unfolding queryOpens
   list-planned f {opened} search plan =
-      plan .plans s f list accepts list-rows (λ t w. subst (λ (k : ℕ). opened ≡ nodesOpened k t) (s .dimension) (search .is t w))
+      plan .plans s f (queryRefusal (boardIn m) list) accepts (queryRows (boardIn m) list) list-rows (queryOpens (dimensionIn m) list)
+      (λ t w. subst (λ (k : ℕ). opened ≡ nodesOpened k t) (s .dimension) (search .is t w))

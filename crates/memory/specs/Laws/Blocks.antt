@@ -19,7 +19,7 @@ use Rattle.model.specs.Laws.Bool.{byCases, both-ways}
 use Rattle.model.specs.Laws.Basics.{any-witness, each-mem, select-ext}
 use Rattle.model.specs.Laws.Blocks.{blocks-ext}
 use Rattle.line.specs.Line.{movesIn}
-use Rattle.promises.specs.Layout.{blockPlace, sizeIn, dimensionIn, countIn, numberIn, markIn, blockIn, moveIn, lineFrom, lineIn, keptFrom, keptIn}
+use Rattle.promises.specs.Layout.{blockPlace, sizeIn, dimensionIn, formatIn, countIn, numberIn, markIn, blockIn, moveIn, lineFrom, lineIn, keptFrom, keptIn}
 use Rattle.promises.specs.Sound.{Stands}
 use Rattle.promises.specs.Laws.Tab.{each-tab}
 use Rattle.memory.specs.Room.{Room, Numbers}
@@ -105,6 +105,10 @@ module _ (m m' : List ℕ) (f : BlocksOnly (sizeIn m) m m') where
   unfolding dimensionIn
   dimension-over-blocks = byte-across f 2 (inl (omega arith))
 
+  format-over-blocks : formatIn m' ≡ formatIn m
+  unfolding formatIn
+  format-over-blocks = byte-across f 3 (inl (omega arith))
+
   count-over-blocks : countIn m' ≡ countIn m
   unfolding countIn
   count-over-blocks = word-across f 4 (inl (omega arith))
@@ -145,6 +149,7 @@ module _ (m m' : List ℕ) (f : BlocksOnly (sizeIn m) m m') where
         record {
           size = ap sizeBad size-over-blocks ∙ s .size;
           dimension = ap costCountBad dimension-over-blocks ∙ s .dimension;
+          format = format-over-blocks ∙ s .format;
           room = subst₂ (λ (c n : ℕ). memoryNeed c ≤ n) (sym size-over-blocks) (sym (f .length)) (s .room);
           count = omega (arith, count-over-blocks, size-over-blocks, s .count);
           numbers = subst (λ (c : ℕ). Each (λ r. r .move .number < c) (lineIn m')) (sym size-over-blocks) (subst (Each (λ r. r .move .number < sizeIn m)) (sym line-over-blocks) (s .numbers));

@@ -3,15 +3,18 @@ use Prim.Native.Nat.{ℕ, _≤_}
 use mathlib.Core.Bool.{Bool, true, false, false≢true}
 use mathlib.Core.List.{List}
 use mathlib.Core.Path.{_≡_, sym, ap, _∙_, subst}
+use native.Mathlib.Omega.{arith}
 use lib.Dec.{eqb}
 use Rattle.zorder.specs.Between.{rowCosts}
 use Rattle.model.specs.Basics.{Each, select}
 use Rattle.model.specs.Moves.{Move, ordered}
 use Rattle.model.specs.Lists.{skyline}
 use Rattle.model.specs.Tree.{Tree, movesOf}
+use Rattle.model.specs.Calls.{memoryNeed}
 use Rattle.model.specs.Sound.{Fit}
 use Rattle.model.specs.Laws.Bool.{both-ways}
 use Rattle.model.specs.Laws.Order.{dimension-most}
+use Rattle.model.specs.Laws.Loading.{size-most}
 use Rattle.model.specs.Laws.Tree.{ruled-filled, both-ruled}
 use Rattle.line.specs.Line.{Placed, lineOf, movesIn, heightsIn}
 use Rattle.line.specs.Heights.{heightsRight}
@@ -23,7 +26,9 @@ use Rattle.promises.specs.Sound.{Stands, Sound}
 use Rattle.promises.specs.Run.{Bytes}
 use Rattle.promises.specs.Laws.Tab.{each-tab}
 use Rattle.promises.specs.Laws.Stands.{costs-row, stands-dimension, stands-moves, stands-order}
-use Rattle.memory.specs.Room.{Numbers}
+use Rattle.memory.specs.Room.{Room, Numbers, Readable}
+use Rattle.memory.specs.Held.{HeadOf}
+use Rattle.memory.specs.declared.sound.Head.{Head}
 use Rattle.memory.specs.Tests.{headRight, numbersRight, orderRight, isListed, hiddenBefore, marksRight, Decides}
 use Rattle.memory.specs.Laws.Lines.{movesIn-line, heightsIn-line, numbers-each, each-numbers}
 use Rattle.memory.specs.Laws.Ordered.{order-right}
@@ -72,7 +77,7 @@ module _ (m : List ℕ) where
 
   pub sound-head : Sound m → headRight m ≡ true
   sound-head s =
-      right-head m (record { size = s .stands .size; dimension = s .stands .dimension; room = s .stands .room; count = s .stands .count })
+      right-head m (record { size = s .stands .size; dimension = s .stands .dimension; format = s .stands .format; room = s .stands .room; count = s .stands .count })
 
   pub stands-numbers : {t : Tree} → Stands m t → Numbers (sizeIn m) (countIn m) m
   unfolding lineIn
@@ -123,6 +128,7 @@ module _ (m : List ℕ) where
             record {
               size = head .size;
               dimension = head .dimension;
+              format = head .format;
               room = head .room;
               count = head .count;
               numbers = numbers-each c d n m numbers;
@@ -140,33 +146,54 @@ module _ (m : List ℕ) where
   pub head-decides : headRight m ≡ false → Decides false m
   head-decides e = refuted (λ s. both-ways (sound-head m s) e)
 
-  module _ (c d n : ℕ) (f : c ≡ sizeIn m) (g : d ≡ dimensionIn m) (h : n ≡ countIn m) where
-    same-numbers : numbersRight c n m ≡ numbersRight (sizeIn m) (countIn m) m
-    same-numbers = λ i. numbersRight (f i) (h i) m
+  module _ (h : Head) (own : HeadOf h m) where
+    same-numbers : numbersRight (h .size) (h .count) m ≡ numbersRight (sizeIn m) (countIn m) m
+    same-numbers = λ i. numbersRight (own .size i) (own .count i) m
 
-    same-order : orderRight c d n m ≡ orderRight (sizeIn m) (dimensionIn m) (countIn m) m
-    same-order = λ i. orderRight (f i) (g i) (h i) m
+    same-order : orderRight (h .size) (h .dimension) (h .count) m ≡ orderRight (sizeIn m) (dimensionIn m) (countIn m) m
+    same-order = λ i. orderRight (own .size i) (own .dimension i) (own .count i) m
 
-    same-heights : heightsRight (heightsFrom c n m) ≡ heightsRight (heightsIn (lineIn m))
+    same-heights : heightsRight (heightsFrom (h .size) (h .count) m) ≡ heightsRight (heightsIn (lineIn m))
     unfolding lineIn
-    same-heights = ap heightsRight (sym (heightsIn-line c d n m)) ∙ (λ i. heightsRight (heightsIn (lineFrom (f i) (g i) (h i) m)))
+    same-heights =
+        ap heightsRight (sym (heightsIn-line (h .size) (h .dimension) (h .count) m))
+        ∙ (λ i. heightsRight (heightsIn (lineFrom (own .size i) (own .dimension i) (own .count i) m)))
 
-    same-marks : marksRight c d n m ≡ marksRight (sizeIn m) (dimensionIn m) (countIn m) m
-    same-marks = λ i. marksRight (f i) (g i) (h i) m
+    same-marks : marksRight (h .size) (h .dimension) (h .count) m ≡ marksRight (sizeIn m) (dimensionIn m) (countIn m) m
+    same-marks = λ i. marksRight (own .size i) (own .dimension i) (own .count i) m
 
-    pub numbers-decides : numbersRight c n m ≡ false → Decides false m
+    pub numbers-decides : numbersRight (h .size) (h .count) m ≡ false → Decides false m
     numbers-decides e = refuted (λ s. both-ways (same-numbers ∙ sound-numbers m s) e)
 
-    pub order-decides : orderRight c d n m ≡ false → Decides false m
+    pub order-decides : orderRight (h .size) (h .dimension) (h .count) m ≡ false → Decides false m
     order-decides e = refuted (λ s. both-ways (same-order ∙ sound-order m s) e)
 
-    pub heights-decides : heightsRight (heightsFrom c n m) ≡ false → Decides false m
+    pub heights-decides : heightsRight (heightsFrom (h .size) (h .count) m) ≡ false → Decides false m
     heights-decides e = refuted (λ s. both-ways (same-heights ∙ sound-heights m s) e)
 
-    pub marks-decides : Bytes m → headRight m ≡ true → numbersRight c n m ≡ true → orderRight c d n m ≡ true
-        → heightsRight (heightsFrom c n m) ≡ true → (r : Bool) → r ≡ marksRight c d n m → Decides r m
+    pub marks-decides : Bytes m → headRight m ≡ true → numbersRight (h .size) (h .count) m ≡ true → orderRight (h .size) (h .dimension) (h .count) m ≡ true
+        → heightsRight (heightsFrom (h .size) (h .count) m) ≡ true → (r : Bool) → r ≡ marksRight (h .size) (h .dimension) (h .count) m → Decides r m
     marks-decides b e j k l r q =
         record {
           sound = λ t. right-sound m b e (sym same-numbers ∙ j) (sym same-order ∙ k) (sym same-heights ∙ l) (sym same-marks ∙ sym q ∙ t);
           unsound = λ u s. both-ways (q ∙ same-marks ∙ sound-marks m b s) u;
         }
+
+    -- What the tests passed give those that follow.
+    module _ (e : headRight m ≡ true) where
+      head : HeadRight m
+      head = head-right m e
+
+      pub own-room : Room (h .size) m × (h .count ≤ h .size)
+      unfolding memoryNeed
+      own-room =
+          ((omega (arith, own .size, head .room), omega (arith, own .size, size-most (sizeIn m) (head .size))), omega (arith, own .size, own .count, head .count))
+
+      pub own-readable : numbersRight (h .size) (h .count) m ≡ true → Readable h m
+      own-readable j =
+          record {
+            room = own-room .0;
+            rows = own-room .1;
+            numbers = numbers-right (h .size) m (h .count) j;
+            dimension = omega (arith, own .dimension, dimension-most (dimensionIn m) (head .dimension));
+          }

@@ -13,7 +13,7 @@ use lib.Seq.{getD-set-same, getD-take, length-take-le}
 use Rattle.zorder.specs.Address.{rowCosts, padded}
 use Rattle.zorder.specs.Between.{RowCosts}
 use Rattle.zorder.specs.Laws.Between.{row-padded}
-use Rattle.promises.specs.Layout.{setWord, numberPlace, heightPlace, markPlace, costPlace, workPlace, sizeIn, dimensionIn, countIn, numberIn, heightIn, markIn, costIn, workIn, costsIn}
+use Rattle.promises.specs.Layout.{setWord, formatNumber, numberPlace, heightPlace, markPlace, costPlace, workPlace, sizeIn, dimensionIn, formatIn, countIn, numberIn, heightIn, markIn, costIn, workIn, costsIn}
 use Rattle.memory.specs.Room.{Room}
 use Rattle.memory.specs.Stores.{setHead, setCount, setNumber, setHeight, setListed, setCostsFrom, setCosts, setWork}
 use Rattle.memory.specs.Frame.{DifferWithin, RowsOnly, MarksOnly, CostsOnly, WorkOnly}
@@ -39,8 +39,10 @@ unfolding setHead
 setHead-frame c d n m =
     let m₁ : List ℕ = setWord 0 c m in
     let m₂ : List ℕ = set m₁ 2 d in
+    let m₃ : List ℕ = set m₂ 3 formatNumber in
     frame-trans (frame-widen (omega arith) (omega arith) (word-frame 0 c m))
-    (frame-trans (frame-widen (omega arith) (omega arith) (byte-frame 2 d m₁)) (frame-widen (omega arith) (omega arith) (word-frame 4 n m₂)))
+    (frame-trans (frame-widen (omega arith) (omega arith) (byte-frame 2 d m₁))
+    (frame-trans (frame-widen (omega arith) (omega arith) (byte-frame 3 formatNumber m₂)) (frame-widen (omega arith) (omega arith) (word-frame 4 n m₃))))
 
 module _ (c i : ℕ) (m : List ℕ) where
   pub setNumber-frame : (v : ℕ) → DifferWithin (16 + 2 * i) (18 + 2 * i) m (setNumber c i v m)
@@ -98,26 +100,39 @@ length-setNumber c i v m = setNumber-frame c i m v .length
 -- ---- the head
 
 module _ (c d n : ℕ) (m : List ℕ) (h : 16 ≤ length m) where
+  abbrev m₁ : List ℕ
+  m₁ = setWord 0 c m
+
+  abbrev m₂ : List ℕ
+  m₂ = set m₁ 2 d
+
+  abbrev m₃ : List ℕ
+  m₃ = set m₂ 3 formatNumber
+
   pub size-setHead : sizeIn (setHead c d n m) ≡ c
   unfolding setHead sizeIn
   size-setHead =
-      let m₁ : List ℕ = setWord 0 c m in
-      word-across (word-frame 4 n (set m₁ 2 d)) 0 (inl (omega arith))
+      word-across (word-frame 4 n m₃) 0 (inl (omega arith))
+      ∙ word-across (byte-frame 3 formatNumber m₂) 0 (inl (omega arith))
       ∙ word-across (byte-frame 2 d m₁) 0 (inl (omega arith))
       ∙ word-stored 0 c m (omega arith)
 
   pub dimension-setHead : dimensionIn (setHead c d n m) ≡ d
   unfolding setHead dimensionIn
   dimension-setHead =
-      let m₁ : List ℕ = setWord 0 c m in
-      byte-across (word-frame 4 n (set m₁ 2 d)) 2 (inl (omega arith))
+      byte-across (word-frame 4 n m₃) 2 (inl (omega arith))
+      ∙ byte-across (byte-frame 3 formatNumber m₂) 2 (inl (omega arith))
       ∙ getD-set-same m₁ 2 d 0 (omega (arith, word-length 0 c m))
+
+  pub format-setHead : formatIn (setHead c d n m) ≡ formatNumber
+  unfolding setHead formatIn
+  format-setHead =
+      byte-across (word-frame 4 n m₃) 3 (inl (omega arith))
+      ∙ getD-set-same m₂ 3 formatNumber 0 (omega (arith, length-set m₁ 2 d, word-length 0 c m))
 
   pub count-setHead : countIn (setHead c d n m) ≡ n
   unfolding setHead countIn
-  count-setHead =
-      let m₁ : List ℕ = setWord 0 c m in
-      word-stored 4 n (set m₁ 2 d) (omega (arith, length-set m₁ 2 d, word-length 0 c m))
+  count-setHead = word-stored 4 n m₃ (omega (arith, length-set m₂ 3 formatNumber, length-set m₁ 2 d, word-length 0 c m))
 
 module _ (n : ℕ) (m : List ℕ) where
   pub count-setCount : 16 ≤ length m → countIn (setCount n m) ≡ n
@@ -131,6 +146,10 @@ module _ (n : ℕ) (m : List ℕ) where
   pub dimension-setCount : dimensionIn (setCount n m) ≡ dimensionIn m
   unfolding dimensionIn
   dimension-setCount = byte-across (setCount-frame n m) 2 (inl (omega arith))
+
+  pub format-setCount : formatIn (setCount n m) ≡ formatIn m
+  unfolding formatIn
+  format-setCount = byte-across (setCount-frame n m) 3 (inl (omega arith))
 
 -- ---- rows, marks and work by index
 

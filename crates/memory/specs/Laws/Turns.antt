@@ -9,7 +9,6 @@ use borrow.Author.Tests.{ltb-true, lt-ltb, le-ltb, not-true}
 use Rattle.model.specs.Moves.{moveBefore}
 use Rattle.model.specs.Calls.{blockBad}
 use Rattle.model.specs.Laws.Bool.{and-left, and-right, and-both, and-false-right}
-use Rattle.model.specs.Laws.Blocks.{block-low, block-high}
 use Rattle.promises.specs.Layout.{numberIn, blockIn, moveIn}
 use Rattle.memory.specs.Room.{Numbers}
 use Rattle.memory.specs.Tests.{allTo, numberRight, numbersRight, orderRight, isMarked, isListed, hiddenBefore, marksRight}
@@ -49,21 +48,21 @@ module _ (c : ℕ) (m : List ℕ) where
   unfolding numbersRight allTo
   numbers-none = refl
 
-  pub numbers-more : (i : ℕ) → numbersRight c i m ≡ true → numberIn c m i < c → blockIn c m (numberIn c m i) ≤ 63 → numbersRight c (i + 1) m ≡ true
+  pub numbers-more : (i : ℕ) → numbersRight c i m ≡ true → numberIn c m i < c → blockBad (blockIn c m (numberIn c m i)) ≡ false → numbersRight c (i + 1) m ≡ true
   unfolding numbersRight numberRight
   numbers-more i h l k =
       allTo-more (numberRight c m) i h
-      (and-both (ltb (numberIn c m i) c) (not (blockBad (block i))) (lt-ltb (numberIn c m i) c l) (ap not (block-low (block i) k)))
+      (and-both (ltb (numberIn c m i) c) (not (blockBad (block i))) (lt-ltb (numberIn c m i) c l) (ap not k))
 
   pub numbers-fail : (n i : ℕ) → i < n → c ≤ numberIn c m i → numbersRight c n m ≡ false
   unfolding numbersRight numberRight
   numbers-fail n i k l = allTo-fails (numberRight c m) n i k (ap (λ (b : Bool). b && not (blockBad (block i))) (le-ltb (numberIn c m i) c l))
 
-  pub blocks-fail : (n i : ℕ) → i < n → 63 < blockIn c m (numberIn c m i) → numbersRight c n m ≡ false
+  pub blocks-fail : (n i : ℕ) → i < n → blockBad (blockIn c m (numberIn c m i)) ≡ true → numbersRight c n m ≡ false
   unfolding numbersRight numberRight
   blocks-fail n i k l =
       allTo-fails (numberRight c m) n i k
-      (and-false-right (ltb (numberIn c m i) c) (not (blockBad (block i))) (ap not (block-high (block i) l)))
+      (and-false-right (ltb (numberIn c m i) c) (not (blockBad (block i))) (ap not l))
 
 module _ (c d : ℕ) (m : List ℕ) where
   -- ---- order

@@ -17,7 +17,7 @@ use Rattle.model.specs.Calls.{sizeBad, memoryNeed, blocksOn}
 use Rattle.model.specs.Laws.Bool.{or-left, or-right}
 use Rattle.model.specs.Laws.Basics.{select-ext}
 use Rattle.line.specs.Line.{movesIn}
-use Rattle.promises.specs.Layout.{wordAt, numberPlace, heightPlace, markPlace, blockPlace, costPlace, sizeIn, dimensionIn, countIn, numberIn, heightIn, markIn, blockIn, costIn, costsIn, moveIn, tab, lineFrom, lineIn, boardIn, keptFrom, keptIn}
+use Rattle.promises.specs.Layout.{wordAt, numberPlace, heightPlace, markPlace, blockPlace, costPlace, sizeIn, dimensionIn, formatIn, countIn, numberIn, heightIn, markIn, blockIn, costIn, costsIn, moveIn, tab, lineFrom, lineIn, boardIn, keptFrom, keptIn}
 use Rattle.promises.specs.Sound.{Stands}
 use Rattle.promises.specs.Written.{inArea}
 use Rattle.promises.specs.Used.{headUse, rowsUse, moveUse, inUse, longEnough, SameInUse}
@@ -54,13 +54,13 @@ module _ (m m' : List ℕ) (same : SameInUse m m') where
   unfolding inUse
   rows-byte i h = same .bytes i (or-left (headUse i || rowsUse c n i) (moves-use i) (or-right (headUse i) (rowsUse c n i) h))
 
-  first-byte : (i : ℕ) → i < 3 → getD m' i 0 ≡ getD m i 0
+  first-byte : (i : ℕ) → i < 4 → getD m' i 0 ≡ getD m i 0
   unfolding headUse
-  first-byte i u = head-byte i (or-left (inArea 0 3 i) (inArea 4 6 i) (in-area 0 3 i (omega arith) u))
+  first-byte i u = head-byte i (or-left (inArea 0 4 i) (inArea 4 6 i) (in-area 0 4 i (omega arith) u))
 
   count-byte : (i : ℕ) → 4 ≤ i → i < 6 → getD m' i 0 ≡ getD m i 0
   unfolding headUse
-  count-byte i l u = head-byte i (or-right (inArea 0 3 i) (inArea 4 6 i) (in-area 4 6 i l u))
+  count-byte i l u = head-byte i (or-right (inArea 0 4 i) (inArea 4 6 i) (in-area 4 6 i l u))
 
   size-same : sizeIn m' ≡ sizeIn m
   unfolding sizeIn
@@ -69,6 +69,10 @@ module _ (m m' : List ℕ) (same : SameInUse m m') where
   dimension-same : dimensionIn m' ≡ dimensionIn m
   unfolding dimensionIn
   dimension-same = first-byte 2 (omega arith)
+
+  format-same : formatIn m' ≡ formatIn m
+  unfolding formatIn
+  format-same = first-byte 3 (omega arith)
 
   count-same : countIn m' ≡ countIn m
   unfolding countIn
@@ -178,6 +182,7 @@ module _ (m m' : List ℕ) (same : SameInUse m m') where
       record {
         size = ap sizeBad size-same ∙ s .size;
         dimension = ap costCountBad dimension-same ∙ s .dimension;
+        format = format-same ∙ s .format;
         room = leb-true (memoryNeed (sizeIn m')) (length m') (same .long ∙ le-leb (memoryNeed c) (length m) (s .room));
         count = omega (arith, count-same, size-same, s .count);
         numbers = subst (λ (c : ℕ). Each (λ r. r .move .number < c) (lineIn m')) (sym size-same) (subst (Each (λ r. r .move .number < sizeIn m)) (sym line-same) (s .numbers));

@@ -8,7 +8,7 @@ use native.Mathlib.Decide.{decLt}
 use native.Mathlib.Omega.{arith}
 use lib.ListN.{length, getD, set}
 use Rattle.model.specs.Laws.Bool.{both-ways, or-left, or-right, or-false-left, or-false-right}
-use Rattle.promises.specs.Layout.{wordAt, setWord, blockPlace, sizeIn, dimensionIn, blockIn}
+use Rattle.promises.specs.Layout.{wordAt, setWord, blockPlace, formatNumber, sizeIn, dimensionIn, formatIn, blockIn}
 use Rattle.promises.specs.Written.{inArea, movesWrite, loadWrites}
 use Rattle.promises.specs.Laws.Written.{in-area, writes-count, writes-rows, writes-costs, leaves-head, leaves-blocks}
 use Rattle.memory.specs.Room.{Room}
@@ -65,6 +65,10 @@ module _ (c : ℕ) {m m' : List ℕ} (f : MovesOnly c m m') where
   unfolding dimensionIn
   dimension-left = f .same 2 (leaves-head c 2 (omega arith))
 
+  pub format-left : formatIn m' ≡ formatIn m
+  unfolding formatIn
+  format-left = f .same 3 (leaves-head c 3 (omega arith))
+
   -- Blocks stay.
   pub block-left : (n : ℕ) → n < c → blockIn c m' n ≡ blockIn c m n
   unfolding blockIn blockPlace
@@ -82,16 +86,16 @@ module _ (c : ℕ) where
       record {
         length = f .length;
         same = λ i free.
-            f .same i (or-false-right (inArea 0 3 i) (movesWrite c i) (or-false-left (inArea 0 3 i || movesWrite c i) (blocks i) free));
+            f .same i (or-false-right (inArea 0 4 i) (movesWrite c i) (or-false-left (inArea 0 4 i || movesWrite c i) (blocks i) free));
       }
 
-  writes-head : (i : ℕ) → i < 3 → loadWrites c i ≡ true
+  writes-head : (i : ℕ) → i < 4 → loadWrites c i ≡ true
   unfolding loadWrites
-  writes-head i u = or-left (inArea 0 3 i || movesWrite c i) (blocks i) (or-left (inArea 0 3 i) (movesWrite c i) (in-area 0 3 i (omega arith) u))
+  writes-head i u = or-left (inArea 0 4 i || movesWrite c i) (blocks i) (or-left (inArea 0 4 i) (movesWrite c i) (in-area 0 4 i (omega arith) u))
 
   writes-blocks : (i : ℕ) → 16 + 4 * c ≤ i → i < 16 + 5 * c → loadWrites c i ≡ true
   unfolding loadWrites blockPlace
-  writes-blocks i l u = or-right (inArea 0 3 i || movesWrite c i) (blocks i) (in-area (blockPlace c 0) (blockPlace c c) i (omega arith) (omega arith))
+  writes-blocks i l u = or-right (inArea 0 4 i || movesWrite c i) (blocks i) (in-area (blockPlace c 0) (blockPlace c c) i (omega arith) (omega arith))
 
   pub blocks-load : {m m' : List ℕ} → BlocksOnly c m m' → Only (loadWrites c) m m'
   blocks-load = range-only (loadWrites c) writes-blocks
@@ -101,5 +105,7 @@ module _ (c : ℕ) where
   head-written d n m =
       let m₁ : List ℕ = setWord 0 c m in
       let m₂ : List ℕ = set m₁ 2 d in
+      let m₃ : List ℕ = set m₂ 3 formatNumber in
       only-trans (range-only (loadWrites c) (λ i l u. writes-head i (omega arith)) (word-frame 0 c m))
-      (only-trans (range-only (loadWrites c) (λ i l u. writes-head i (omega arith)) (byte-frame 2 d m₁)) (moves-load (range-only (movesWrite c) (writes-count c) (word-frame 4 n m₂))))
+      (only-trans (range-only (loadWrites c) (λ i l u. writes-head i (omega arith)) (byte-frame 2 d m₁))
+      (only-trans (range-only (loadWrites c) (λ i l u. writes-head i (omega arith)) (byte-frame 3 formatNumber m₂)) (moves-load (range-only (movesWrite c) (writes-count c) (word-frame 4 n m₃)))))

@@ -1,26 +1,27 @@
 -- A change that is not refused: its number, the moves on the board after it, and how many rows its notice has.
-use Prim.Native.Nat.{ℕ, suc, _+_, _≤_, _<_}
+use Prim.Native.Nat.{ℕ, _+_, _≤_, _<_}
 use mathlib.Core.Bool.{Bool, true, false, cond, not}
-use mathlib.Core.List.{List, [], _∷_, _++_, map, List·Memᴰ, List·Memᴰ·append-cases}
+use mathlib.Core.List.{List, [], _∷_, map, List·Memᴰ, Memᴰ·cast}
 use mathlib.Core.Logic.{⊎-elim}
-use mathlib.Core.Path.{_≡_, sym, ap, _∙_}
+use mathlib.Core.Path.{_≡_, ap, _∙_}
 use native.Mathlib.Omega.{arith}
 use lib.Dec.{leb, eqb}
-use lib.ListN.{length, length-append}
-use borrow.Author.Tests.{leb-false, lt-leb, le-ltb, eqb-true, ne-eqb, not-true}
+use lib.ListN.{length}
+use borrow.Author.Tests.{leb-false, lt-leb, le-ltb, eqb-true, eqb-false, not-true}
 use Rattle.zorder.specs.Refusal.{Check, refusal, costPastBad}
 use Rattle.zorder.specs.Laws.Refusal.{first-passes, rest-passes}
-use Rattle.model.specs.Basics.{Each, distinct}
+use Rattle.model.specs.Basics.{Each, any, has, distinct}
 use Rattle.model.specs.Moves.{Move, moveBefore, insert}
 use Rattle.model.specs.Lists.{hidden, skyline}
+use Rattle.model.specs.Notice.{noticeOf}
 use Rattle.model.specs.Withdrawing.{without, unchanged}
 use Rattle.model.specs.Calls.{Answer, accepted, refusedWith, orElse, rowsAnswer, Board, Change, enter, withdraw, recost, blockBad, onBoard, changeRefusal, changedMoves, changed, keepsMoves, changesNothing, listOf, changeNotice, changeAnswer}
 use Rattle.model.specs.Sound.{Fit, SoundBoard}
-use Rattle.model.specs.Laws.Bool.{condCases, not-flip, and-left}
-use Rattle.model.specs.Laws.Basics.{Once, each-mem, mem-each, select-mem, mem-select, any-none}
+use Rattle.model.specs.Laws.Bool.{byCases, condCases, not-flip, and-left, or-false-left}
+use Rattle.model.specs.Laws.Basics.{each-mem, mem-each, each-mono, select-mem, mem-select, any-none}
 use Rattle.model.specs.Laws.Sorting.{insert-mem}
-use Rattle.model.specs.Laws.Order.{has-numbers, distinct-cons, distinct-insert, distinct-select, distinct-once, mem-number}
-use Rattle.model.specs.Laws.Numbers.{except, except-mem, except-length, distinct-except, once-append, once-distinct, distinct-length}
+use Rattle.model.specs.Laws.Order.{has-numbers, distinct-insert, distinct-select, mem-number}
+use Rattle.model.specs.Laws.Numbers.{distinct-length, two-lists}
 use Rattle.model.specs.Laws.Notice.{among, gone, gone-mem, notice-length}
 
 unfoldable pub changeNumber : Change → ℕ
@@ -106,69 +107,82 @@ distinct-gone : (ms ns : List Move) → distinct (map (λ m. m .number) ms) ≡ 
 unfolding gone
 distinct-gone ms ns = distinct-select (λ m. m .number) (λ m. not (among m ns)) ms
 
--- Rows of other numbers than the change's are different moves of the board before it, and with the change's own number they
--- are at most C; that number itself may leave once and enter once.
-module _ (b : Board) (x : Change) (s : SoundBoard b) (h : changeRefusal b x ≡ 0) where
-  abbrev N : ℕ
-  N = changeNumber x
+gone-below : (c : ℕ) (b b' : Board) → Each (λ m. m .number < c) (b .moves) → Each (λ m. m .number < c) (gone (listOf b) (listOf b'))
+gone-below c b b' es =
+    mem-each (λ m. m .number < c) (gone (listOf b) (listOf b'))
+    (λ m k. each-mem (λ m. m .number < c) es (list-mem b (gone-mem (listOf b) (listOf b') k .0)))
 
+-- Two boards with numbers below c, each at most once.
+abbrev number : Move → ℕ
+number m = m .number
+
+module _ (c : ℕ) (old new : Board) (d : distinct (map number (old .moves)) ≡ true) (e : distinct (map number (new .moves)) ≡ true)
+    (es : Each (λ m. m .number < c) (old .moves)) (fs : Each (λ m. m .number < c) (new .moves)) where
   abbrev outs : List Move
-  outs = gone (listOf b) (listOf (changed b x))
+  outs = gone (listOf old) (listOf new)
 
   abbrev ins : List Move
-  ins = gone (listOf (changed b x)) (listOf b)
-
-  abbrev number : Move → ℕ
-  number m = m .number
+  ins = gone (listOf new) (listOf old)
 
   outs-distinct : distinct (map number outs) ≡ true
-  outs-distinct = distinct-gone (listOf b) (listOf (changed b x)) (distinct-list b (s .once))
+  outs-distinct = distinct-gone (listOf old) (listOf new) (distinct-list old d)
 
   ins-distinct : distinct (map number ins) ≡ true
-  ins-distinct = distinct-gone (listOf (changed b x)) (listOf b) (distinct-list (changed b x) (changed-distinct b x (s .once) h))
+  ins-distinct = distinct-gone (listOf new) (listOf old) (distinct-list new e)
 
-  abbrev others : List Move
-  others = except number N outs ++ except number N ins
+  outs-below : Each (λ m. m .number < c) outs
+  outs-below = gone-below c old new es
 
-  others-mem : (m : Move) → List·Memᴰ m others → List·Memᴰ m (b .moves) × (¬ (m .number ≡ N))
-  others-mem m k =
-      ⊎-elim
-      (λ j. let r = except-mem number N outs j in (list-mem b (gone-mem (listOf b) (listOf (changed b x)) (r .0) .0), r .1))
-      (λ j. let r = except-mem number N ins j in
-      (changed-mem b x (list-mem (changed b x) (gone-mem (listOf (changed b x)) (listOf b) (r .0) .0)) (r .1), r .1))
-      (List·Memᴰ·append-cases (except number N outs) k)
+  ins-below : Each (λ m. m .number < c) ins
+  ins-below = gone-below c new old fs
 
-  others-once : Once others
-  others-once =
-      once-append (except number N outs) (except number N ins)
-      (distinct-once number (except number N outs) (distinct-except number N outs outs-distinct))
-      (distinct-once number (except number N ins) (distinct-except number N ins ins-distinct))
-      (λ m j k. gone-mem (listOf (changed b x)) (listOf b) (except-mem number N ins k .0) .1 (gone-mem (listOf b) (listOf (changed b x)) (except-mem number N outs j .0) .0))
-
-  others-length : suc (length others) ≤ b .size
-  others-length =
-      distinct-length number (b .size) (record { number = N; costs = [] } ∷ others)
-      (distinct-cons number (record { number = N; costs = [] }) others
-      (mem-each (λ m. eqb N (m .number) ≡ false) others (λ m k. ne-eqb N (m .number) (λ e. others-mem m k .1 (sym e))))
-      (once-distinct number others others-once
-      (λ m n j k. mem-number number (b .moves) (s .once) (others-mem m j .0) (others-mem n k .0)))) (
-        change-number b x h,
-        mem-each (λ m. m .number < b .size) others
-            (λ m k. each-mem (Fit (b .size) (b .dimension)) (s .fit) (others-mem m k .0) .number),
-      )
-
-  -- "For these three C + 1 rows always suffice."
-  pub notice-short : length (changeNotice b x) ≤ b .size + 1
-  unfolding changeNotice
-  notice-short =
+  -- No number leaves twice or enters twice.
+  pub notice-double : length (noticeOf (listOf old) (listOf new)) ≤ c + c
+  notice-double =
       omega (
         arith,
-        notice-length (listOf b) (listOf (changed b x)),
-        except-length number N outs outs-distinct,
-        except-length number N ins ins-distinct,
-        length-append (except number N outs) (except number N ins),
-        others-length,
+        notice-length (listOf old) (listOf new),
+        distinct-length number c outs outs-distinct outs-below,
+        distinct-length number c ins ins-distinct ins-below,
       )
+
+  -- If they differ in the moves of some numbers only, a number that leaves and enters is one of these.
+  module _ (ns : List ℕ) (stays : (m : Move) → List·Memᴰ m (new .moves) → has (m .number) ns ≡ false → List·Memᴰ m (old .moves)) where
+    told-twice : (x y : Move) → List·Memᴰ x outs → List·Memᴰ y ins → x .number ≡ y .number → has (y .number) ns ≡ true
+    told-twice x y j k same =
+        let g = gone-mem (listOf old) (listOf new) j in
+        let i = gone-mem (listOf new) (listOf old) k in
+        byCases (has (y .number) ns) (λ t. t)
+        (λ t. absurd (g .1 (Memᴰ·cast (mem-number number (old .moves) d (list-mem old (g .0)) (stays y (list-mem new (i .0)) t) same) (i .0))))
+
+    pub notice-few : length (noticeOf (listOf old) (listOf new)) ≤ c + length ns
+    notice-few =
+        omega (
+          arith,
+          notice-length (listOf old) (listOf new),
+          two-lists number c ns outs ins outs-distinct ins-distinct outs-below ins-below told-twice,
+        )
+
+pub numbers-below : (b : Board) → SoundBoard b → Each (λ m. m .number < b .size) (b .moves)
+numbers-below b s = each-mono (Fit (b .size) (b .dimension)) (λ m. m .number < b .size) (b .moves) (λ m f. f .number) (s .fit)
+
+pub changed-below : (b : Board) (x : Change) → changeRefusal b x ≡ 0 → Each (λ m. m .number < b .size) (b .moves) → Each (λ m. m .number < b .size) (changed b x .moves)
+changed-below b x h es =
+    mem-each (λ m. m .number < b .size) (changed b x .moves)
+    (λ m k. byCases (eqb (m .number) (changeNumber x))
+    (λ e. omega (arith, eqb-true (m .number) (changeNumber x) e, change-number b x h))
+    (λ e. each-mem (λ m. m .number < b .size) es (changed-mem b x k (eqb-false (m .number) (changeNumber x) e))))
+
+not-one : (k n : ℕ) → has k (n ∷ []) ≡ false → ¬ (k ≡ n)
+unfolding has any
+not-one k n h = eqb-false k n (or-false-left (eqb k n) false h)
+
+-- "For these three C + 1 rows always suffice."
+pub notice-short : (b : Board) (x : Change) → SoundBoard b → changeRefusal b x ≡ 0 → length (changeNotice b x) ≤ b .size + 1
+unfolding changeNotice
+notice-short b x s h =
+    notice-few (b .size) b (changed b x) (s .once) (changed-distinct b x (s .once) h) (numbers-below b s) (changed-below b x h (numbers-below b s))
+    (changeNumber x ∷ []) (λ m k f. changed-mem b x k (not-one (m .number) (changeNumber x) f))
 
 -- ---- answers
 

@@ -11,7 +11,7 @@ use Rattle.model.specs.Basics.{Each, select, any, insertBy, rising}
 use Rattle.model.specs.Moves.{Move, Row, rowOf, sameRow, moveBefore, rowBefore, ordered, listed, left, entered}
 use Rattle.model.specs.Lists.{hidden, skyline, listedRows}
 use Rattle.model.specs.Notice.{missing, noticeOf}
-use Rattle.model.specs.Calls.{Board, Change, changed, listOf, changeNotice}
+use Rattle.model.specs.Calls.{Board, Change, changed, listOf}
 use Rattle.model.specs.Sound.{Fit, SoundBoard}
 use Rattle.model.specs.Holder.{Call, change, preview, listCall, other, Event, isAccepted, plainNext, Answered, marked, putIn, takeOut, followed, heldAfter, HoldsList, Starts, Demand3}
 use Rattle.model.specs.Laws.Bool.{cond-map}
@@ -159,7 +159,7 @@ module _ (c d : ℕ) (l : d ≤ rowCosts) where
         ∙ put-rows d (gone new old) (gone old (gone old new))
         ∙ ap listedRows moves-followed
 
--- ---- a change of a board
+-- ---- from one board to another
 
 each-list : (b : Board) → SoundBoard b → Each (Fit (b .size) (b .dimension)) (listOf b)
 unfolding listOf skyline
@@ -171,23 +171,39 @@ rising-list b s =
     rising-select (Fit (b .size) (b .dimension)) (moveBefore (b .dimension)) (move-order (b .dimension) (b .size) (dimension-most (b .dimension) (s .dimension)))
     (λ m. not (hidden (b .dimension) (b .moves) m)) (b .moves) (s .fit) (s .order)
 
-change-followed : (b : Board) (x : Change) → SoundBoard b → SoundBoard (changed b x)
-    → followed (b .dimension) (changeNotice b x) (listedRows (listOf b)) ≡ listedRows (listOf (changed b x))
-unfolding changeNotice changed
-change-followed b x s r =
-    notice-followed (b .size) (b .dimension) (dimension-most (b .dimension) (s .dimension)) (listOf b) (listOf (changed b x)) (each-list b s) (each-list (changed b x) r)
-    (rising-list b s) (rising-list (changed b x) r)
-
 nothing-followed : (d : ℕ) (held : List Row) → followed d [] held ≡ held
 unfolding followed marked takeOut putIn select any
 nothing-followed d held =
     select-all (λ h. not (any (sameRow h) [])) held (mem-each (λ h. not (any (sameRow h) []) ≡ true) held (λ h _. refl))
 
--- accepted or refused
-pub change-held : (b : Board) (x : Change) (c : Bool) → SoundBoard b → SoundBoard (cond c (changed b x) b)
-    → followed (b .dimension) (cond c (changeNotice b x) []) (listedRows (listOf b)) ≡ listedRows (listOf (cond c (changed b x) b))
-change-held b x true s r = change-followed b x s r
-change-held b x false s r = nothing-followed (b .dimension) (listedRows (listOf b))
+-- Of the same size and number of costs, as a change leaves them.
+pub record SameShape (b next : Board) : Type 0 where
+  pub size : next .size ≡ b .size
+  pub dimension : next .dimension ≡ b .dimension
+
+pub change-shape : (b : Board) (x : Change) → SameShape b (changed b x)
+unfolding changed
+change-shape b x = record { size = refl; dimension = refl }
+
+module _ (b next : Board) (same : SameShape b next) (s : SoundBoard b) where
+  each-next : SoundBoard next → Each (Fit (b .size) (b .dimension)) (listOf next)
+  each-next r =
+      subst (λ (c : ℕ). Each (Fit c (b .dimension)) (listOf next)) (same .size)
+      (subst (λ (d : ℕ). Each (Fit (next .size) d) (listOf next)) (same .dimension) (each-list next r))
+
+  rising-next : SoundBoard next → rising (moveBefore (b .dimension)) (listOf next) ≡ true
+  rising-next r = subst (λ (d : ℕ). rising (moveBefore d) (listOf next) ≡ true) (same .dimension) (rising-list next r)
+
+  lists-followed : SoundBoard next → followed (b .dimension) (noticeOf (listOf b) (listOf next)) (listedRows (listOf b)) ≡ listedRows (listOf next)
+  lists-followed r =
+      notice-followed (b .size) (b .dimension) (dimension-most (b .dimension) (s .dimension)) (listOf b) (listOf next) (each-list b s) (each-next r)
+      (rising-list b s) (rising-next r)
+
+  -- accepted or refused
+  pub lists-held : (c : Bool) → SoundBoard (cond c next b)
+      → followed (b .dimension) (cond c (noticeOf (listOf b) (listOf next)) []) (listedRows (listOf b)) ≡ listedRows (listOf (cond c next b))
+  lists-held true r = lists-followed r
+  lists-held false r = nothing-followed (b .dimension) (listedRows (listOf b))
 
 -- ---- a run
 

@@ -11,13 +11,14 @@ use Rattle.model.specs.Moves.{InputRow, Row, moveOf}
 use Rattle.model.specs.Tree.{Tree}
 use Rattle.model.specs.Loading.{loadTree}
 use Rattle.model.specs.Lists.{listedRows}
+use Rattle.model.specs.Notice.{noticeOf}
 use Rattle.model.specs.Calls as calls
 use Rattle.model.specs.Calls.{Board, loaded, Change, changed, changeNotice, listOf, list, queryRows}
 use Rattle.model.specs.Changing.{changeTree}
 use Rattle.model.specs.Opening.{queryOpens, changeOpens}
 use Rattle.model.specs.Sound.{SoundBoard}
 use Rattle.model.specs.Holder.{change, isAccepted, ChangeAnswered, plainNext, Answered, followed, heldAfter, Demand3}
-use Rattle.model.specs.Laws.Holder.{Reads, Keeps, EachKeeps, change-held, keeps-demand3}
+use Rattle.model.specs.Laws.Holder.{SameShape, change-shape, lists-held, Reads, Keeps, EachKeeps, keeps-demand3}
 use Rattle.promises.specs.Layout.{sizeIn, dimensionIn}
 use Rattle.promises.specs.Written.{changeWrites, loadWrites}
 use Rattle.promises.specs.Sound.{Holding}
@@ -79,35 +80,45 @@ module _ (x : Change) (m : List ℕ) (lent lent' : List Row) (r : Answer) (p : C
   rows-here : take (r .count) lent' ≡ cond (isAccepted (answerOf (r .verdict))) (changeNotice b x) []
   rows-here = said-rows _ _ _ _ _ _ said-here
 
+-- A call that answers so, tells the difference of the lists of this board and the next, and leaves the next if it is accepted.
+module _ (answer : calls.Answer) (nodes : ℕ) (writes : ℕ → Bool) (next : Board) (t : Tree) (m m' : List ℕ) (lent lent' : List Row) (r : Answer) (b : Board) (a : At m b)
+    (said : Said answer (noticeOf (listOf b) (listOf next)) nodes lent r lent') (left : MemoryAfter writes (numberOf (r .verdict)) m m' next t) where
+  -- the answer is the plain board's, so what becomes of it is known
+  plain-after : cond (isAccepted answer) next b ≡ cond (isAccepted (answerOf (r .verdict))) next b
+  plain-after = ap (λ (a : calls.Answer). cond (isAccepted a) next b) (sym (said .answers))
+
+  after-at : Bytes m' → At m' (cond (isAccepted answer) next b)
+  unfolding isAccepted answerOf
+  after-at k = subst (At m') (sym plain-after) (left-at writes m m' next t (numberOf (r .verdict)) left k a)
+
+  rows-told : take (r .count) lent' ≡ cond (isAccepted (answerOf (r .verdict))) (noticeOf (listOf b) (listOf next)) []
+  rows-told = said-rows _ _ _ _ _ _ said
+
+  after-held : SameShape b next → Bytes m'
+      → followed (b .dimension) (take (r .count) lent') (listedRows (listOf b)) ≡ listedRows (listOf (cond (isAccepted answer) next b))
+  after-held same k =
+      ap (λ (rs : List Row). followed (b .dimension) rs (listedRows (listOf b))) rows-told
+      ∙ lists-held b next same (at-board a) (isAccepted (answerOf (r .verdict))) (at-board (subst (At m') plain-after (after-at k)))
+      ∙ ap (λ (b : Board). listedRows (listOf b)) (sym plain-after)
+
 module _ (x : Change) (m m' : List ℕ) (lent lent' : List Row) (r : Answer) (p : ChangePromise x m lent r m' lent') (b : Board) (a : At m b) where
   change-left : MemoryAfter (changeWrites (sizeIn m) x) (numberOf (r .verdict)) m m' (changed b x) (changeTree (dimensionIn m) x (a .tree))
   change-left =
       subst (λ (b : Board). MemoryAfter (changeWrites (sizeIn m) x) (numberOf (r .verdict)) m m' (changed b x) (changeTree (dimensionIn m) x (a .tree))) (a .holding .board)
       (p .left (holding-sound (a .holding)))
 
-  -- the answer is the plain board's, so what becomes of it is known
-  abbrev next : Board
-  next = cond (isAccepted (answerOf (r .verdict))) (changed b x) b
-
-  change-next : plainNext b (change x) (length lent) ≡ next
-  unfolding plainNext
-  change-next = ap (λ (a : calls.Answer). cond (isAccepted a) (changed b x) b) (sym (said-here x m lent lent' r (p .said) b a .answers))
-
-  change-at : Bytes m' → At m' next
-  unfolding isAccepted
-  change-at k = left-at (changeWrites (sizeIn m) x) m m' (changed b x) (changeTree (dimensionIn m) x (a .tree)) (numberOf (r .verdict)) change-left k a
+  change-at : Bytes m' → At m' (plainNext b (change x) (length lent))
+  unfolding plainNext changeNotice
+  change-at = after-at _ _ _ (changed b x) _ m m' lent lent' r b a (said-here x m lent lent' r (p .said) b a) change-left
 
   change-keeps : (k : Bytes m') → Keeps b (eventOf (changes x lent lent' r k p))
-  unfolding eventOf ChangeAnswered Answered Reads heldAfter
+  unfolding eventOf ChangeAnswered Answered Reads heldAfter plainNext changeNotice
   change-keeps k =
-      let rows = rows-here x m lent lent' r (p .said) b a in
+      let said = said-here x m lent lent' r (p .said) b a in
       record {
-        answered = (said-here x m lent lent' r (p .said) b a .answers, rows);
+        answered = (said .answers, rows-here x m lent lent' r (p .said) b a);
         reads = tt;
-        held =
-            ap (λ (rs : List Row). followed (b .dimension) rs (listedRows (listOf b))) rows
-            ∙ change-held b x (isAccepted (answerOf (r .verdict))) (at-board a) (at-board (change-at k))
-            ∙ ap (λ (b : Board). listedRows (listOf b)) (sym change-next);
+        held = after-held _ _ _ (changed b x) _ m m' lent lent' r b a said change-left (change-shape b x) k;
       }
 
 module _ (m : List ℕ) (lent lent' : List Row) (r : Answer) (p : QueryPromise list m lent r lent') (b : Board) (a : At m b) where
@@ -138,8 +149,7 @@ step-keeps (leaves answer) b a = record { answered = tt; reads = tt; held = refl
 
 step-at : {m m' : List ℕ} (s : Step m m') (b : Board) → At m b → At m' (plainNext b (eventOf s .call) (eventOf s .lent))
 unfolding eventOf plainNext
-step-at {m} {m'} (changes x lent lent' r k p) b a =
-    subst (At m') (sym (change-next x m m' lent lent' r p b a)) (change-at x m m' lent lent' r p b a k)
+step-at {m} {m'} (changes x lent lent' r k p) b a = change-at x m m' lent lent' r p b a k
 step-at (previews x lent lent' r p) b a = a
 step-at (lists lent lent' r p) b a = a
 step-at {m} {m'} (loadRefused c d rows v p f) b a =

@@ -73,7 +73,7 @@ module _ (c i : ℕ) where
   unfolding blockPlace
   writes-costs l u = area-written (omega arith) u (past-area (blockPlace c 0) (blockPlace c c) i (omega arith))
 
-  -- C, d and the byte behind them.
+  -- C, d and the format.
   pub leaves-head : i < 4 → movesWrite c i ≡ false
   unfolding movesWrite numberPlace
   leaves-head l =
@@ -96,8 +96,8 @@ module _ (c i : ℕ) where
   load-ends : 16 + 23 * c ≤ i → loadWrites c i ≡ false
   unfolding loadWrites blockPlace
   load-ends l =
-      or-false-both (inArea 0 3 i || movesWrite c i) blocks
-      (or-false-both (inArea 0 3 i) (movesWrite c i) (past-area 0 3 i (omega arith)) (moves-end l))
+      or-false-both (inArea 0 4 i || movesWrite c i) blocks
+      (or-false-both (inArea 0 4 i) (movesWrite c i) (past-area 0 4 i (omega arith)) (moves-end l))
       (past-area (blockPlace c 0) (blockPlace c c) i (omega arith))
 
   block-ends : (x : Change) → changeNumber x < c → 16 + 23 * c ≤ i → blockWrites c x i ≡ false

@@ -6,6 +6,7 @@ use mathlib.Core.Path.{_≡_, refl, sym, ap, _∙_}
 use Rattle.model.specs.Basics.{select, numbersFrom}
 use Rattle.model.specs.Moves.{Move}
 use Rattle.model.specs.Lists.{listedRows}
+use Rattle.model.specs.Opening.{queryOpens}
 use Rattle.model.specs.Laws.Basics.{select-ext, each-map}
 use Rattle.model.specs.Laws.Range.{each-place}
 use Rattle.promises.specs.Layout.{sizeIn, dimensionIn, countIn, moveIn, lineIn, boardIn}
@@ -15,11 +16,12 @@ use Rattle.memory.specs.Room.{Readable}
 use Rattle.memory.specs.Laws.Held.{held-readable}
 use Rattle.memory.specs.declared.sound.Head.{Head}
 use Rattle.memory.specs.Laws.Lines.{movesIn-line}
-use Rattle.upkeep.specs.Planned.{Finds, foundMoves, PlansFound}
+use Rattle.upkeep.specs.Found.{Finds, foundMoves}
 use Rattle.upkeep.specs.Laws.Places.{tab-places}
 use Rattle.upkeep.specs.Laws.Change.{line-places}
 use Rattle.upkeep.specs.declared.found.Found.{Found}
-use Rattle.upkeep.specs.declared.plan.Plan.{Plan}
+use Rattle.rows.specs.Planned.{PlansFound}
+use Rattle.rows.specs.declared.plan.Plan.{Plan}
 use Rattle.query.specs.Kept.{movesTo, stays, staysFor, kept, keptRows}
 use Rattle.query.specs.Plan.{PlansKept}
 use Rattle.query.specs.Rank.{headIn}
@@ -58,4 +60,4 @@ module _ (h : Head) (rule : Rule) (most : ℕ) (m : List ℕ) where
 
     pub kept-planned : {lent : ℕ} {p : Plan} → PlansFound h found 0 lent p → PlansKept rule most m lent p
     kept-planned plan =
-        record { plans = λ q ok rows shut. plan .plans s f q ok (kept-rows ∙ sym rows) (λ t _. sym (shut t)) }
+        record { plans = λ q ok rows shut. plan .plans s f _ ok _ (kept-rows ∙ sym rows) (queryOpens (dimensionIn m) q) (λ t _. sym (shut t)) }

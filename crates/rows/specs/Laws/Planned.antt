@@ -15,6 +15,7 @@ use Rattle.model.specs.Tree.{Tree}
 use Rattle.model.specs.Calls as calls
 use Rattle.model.specs.Calls.{accepted, refusedWith, orElse, rowsAnswer, Query, queryRefusal, queryRows, queryAnswer}
 use Rattle.model.specs.Laws.Bool.{byCases, both-ways}
+use Rattle.model.specs.Laws.Basics.{map-take}
 use Rattle.promises.specs.Layout.{dimensionIn, boardIn}
 use Rattle.model.specs.Opening.{queryOpens}
 use Rattle.memory.specs.declared.sound.Head.{Head}
@@ -129,12 +130,7 @@ module _ {refusal : calls.Answer} {rows : List Row} {nodes : Tree → ℕ} {m : 
 
 -- ---- the rows after a telling was filled in
 
-map-take : {A B : Type 0} (f : A → B) (k : ℕ) (xs : List A) → map f (take k xs) ≡ take k (map f xs)
-map-take f zero xs = refl
-map-take f (suc k) [] = refl
-map-take f (suc k) (x ∷ xs) = ap (λ l. f x ∷ l) (map-take f k xs)
-
-map-drop : {A B : Type 0} (f : A → B) (k : ℕ) (xs : List A) → map f (drop k xs) ≡ drop k (map f xs)
+pub map-drop : {A B : Type 0} (f : A → B) (k : ℕ) (xs : List A) → map f (drop k xs) ≡ drop k (map f xs)
 map-drop f zero xs = refl
 map-drop f (suc k) [] = refl
 map-drop f (suc k) (x ∷ xs) = map-drop f k xs

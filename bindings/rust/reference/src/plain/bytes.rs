@@ -1,4 +1,5 @@
 //! The fields of the lent memory, by the table of docs/DECISIONS.md.
+use crate::layout::FORMAT;
 use crate::{Costs, Move, COSTS};
 use std::ops::Range;
 
@@ -39,9 +40,14 @@ impl Head {
         Head::new(word(m, 0), m[2].into(), word(m, 4).into())
     }
 
+    pub fn has_format(m: &[u8]) -> bool {
+        m[3] == FORMAT
+    }
+
     pub fn write(self, m: &mut [u8]) {
         set_word(m, 0, self.c);
         m[2] = self.d as u8;
+        m[3] = FORMAT;
         set_word(m, 4, self.n as u16);
     }
 

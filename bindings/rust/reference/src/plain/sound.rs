@@ -5,7 +5,7 @@ use super::order::stands_before;
 use crate::{BLOCKS, COSTS};
 
 fn head(m: &[u8]) -> Option<Head> {
-    if m.len() < 2048 {
+    if m.len() < 16 || !Head::has_format(m) {
         return None;
     }
     let head = Head::read(m);

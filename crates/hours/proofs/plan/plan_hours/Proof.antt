@@ -7,7 +7,7 @@ use Rattle.promises.specs.Answers.{blockHours, outcomeNumber}
 use Rattle.promises.specs.Layout.{boardIn}
 use Rattle.memory.specs.Held.{SoundAt}
 use Rattle.memory.specs.Laws.Held.{sound-held, unsound-held}
-use Rattle.upkeep.specs.Laws.Planned.{query-unsound, query-bad, query-refused}
+use Rattle.rows.specs.Laws.Planned.{query-unsound, query-bad, query-refused}
 use Rattle.hours.specs.Laws.Calls.{minute-refused, hours-refused, hours-right, hours-planned}
 use Rattle.hours.proofs.plan.plan_hours.Statement.{statement}
 use Rattle.hours.proofs.plan.plan_hours.Tie as tie
@@ -19,13 +19,13 @@ sound-at c = sound-held (c .before .before .before .sound-head .ensures) (c .bef
 returns : tie.Need-returns
 returns c =
     let a = c .before .before .before .before .before .args in
-    query-unsound (hoursQuery (a .minute) (map blockHours (a .hours .now))) (a .m .now) (a .lent) (c .nothing .ensures) (unsound-held (c .before .before .before .sound-head .ensures) (c .before .enum-told .given .1))
+    query-unsound (hoursQuery (a .minute) (map blockHours (a .hours .now))) (a .m .now) (a .lent) (c .refused .ensures) (unsound-held (c .before .before .before .sound-head .ensures) (c .before .enum-told .given .1))
 
 returns-2 : tie.Need-returns-2
 returns-2 c =
     let a = c .before .before .before .before .before .before .before .args in
     let hours = map blockHours (a .hours .now) in
-    query-bad (hoursQuery (a .minute) hours) (a .m .now) (a .lent) (c .nothing2 .ensures) (sound-at (c .before .before) .sound)
+    query-bad (hoursQuery (a .minute) hours) (a .m .now) (a .lent) (c .refused2 .ensures) (sound-at (c .before .before) .sound)
     (minute-refused (boardIn (a .m .now)) (a .minute) hours (c .before .if1 .taken))
 
 returns-3 : tie.Need-returns-3
@@ -33,7 +33,7 @@ unfolding outcomeNumber
 returns-3 c =
     let a = c .before .before .before .before .before .before .before .before .before .args in
     let hours = map blockHours (a .hours .now) in
-    query-refused (hoursQuery (a .minute) hours) (a .m .now) (a .lent) (c .nothing3 .ensures) (sound-at (c .before .before .before .before) .sound) (omega arith)
+    query-refused (hoursQuery (a .minute) hours) (a .m .now) (a .lent) (c .refused3 .ensures) (sound-at (c .before .before .before .before) .sound) (omega arith)
     (hours-refused (boardIn (a .m .now)) (a .minute) hours (c .before .before .before .if1 .left) (c .before .before .first-bad .ensures) (c .before .if2 .taken))
 
 returns-4 : tie.Need-returns-4

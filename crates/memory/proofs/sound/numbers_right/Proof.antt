@@ -1,9 +1,12 @@
--- `sound::numbers_right` meets its contract. The loop's invariant: the numbers passed are below C, and their blocks at most 63. Assumes nothing.
-use Prim.Native.Nat.{ℕ, _-_, _≤_, _<_}
-use mathlib.Core.Bool.{true}
-use mathlib.Core.Path.{_≡_, sym, subst}
+-- `sound::numbers_right` meets its contract. The loop's invariant: the numbers passed are below C, and their blocks in range. Assumes nothing.
+use Prim.Native.Nat.{ℕ, _-_, _≤_}
+use mathlib.Core.Bool.{Bool, true}
+use mathlib.Core.List.{List}
+use mathlib.Core.Path.{_≡_, sym, ap, _∙_, subst}
 use native.Mathlib.Omega.{arith}
-use Rattle.promises.specs.Layout.{blockIn}
+use borrow.Author.Needs.{needs}
+use Rattle.model.specs.Calls.{blockBad}
+use Rattle.promises.specs.Layout.{numberIn, blockIn}
 use Rattle.memory.specs.Tests.{numbersRight}
 use Rattle.memory.specs.Laws.Turns.{numbers-none, numbers-more, numbers-fail, blocks-fail}
 use Rattle.memory.proofs.sound.numbers_right.Statement.{statement}
@@ -23,22 +26,24 @@ returns c =
     let a = c .before .before .before .before .before .args in
     sym (numbers-fail (a .c) (a .m .now) (a .n) (c .before .before .before .loop .i) (omega arith) (omega arith))
 
+-- What the number's block is said to be, of the block at the number's place.
+said : (c : ℕ) (m : List ℕ) (i : ℕ) {number block : ℕ} {r : Bool} → number ≡ numberIn c m i → block ≡ blockIn c m number → r ≡ blockBad block → blockBad (blockIn c m (numberIn c m i)) ≡ r
+said c m i is held e = ap (λ (k : ℕ). blockBad (blockIn c m k)) (sym is) ∙ ap blockBad (sym held) ∙ sym e
+
 returns-2 : tie.Need-returns-2 Inv-loop μ-loop
 returns-2 c =
-    let a = c .before .before .before .before .before .before .before .args in
-    let own = c .before .before .before .before .before .loop in
-    let number = c .before .before .before .number-at in
-    sym (blocks-fail (a .c) (a .m .now) (a .n) (own .i) (omega arith)
-    (subst (λ (k : ℕ). 63 < blockIn (a .c) (a .m .now) k) (number .ensures) (omega arith)))
+    let a = c .before .before .before .before .before .before .before .before .args in
+    let i = c .before .before .before .before .before .before .loop .i in
+    sym (blocks-fail (a .c) (a .m .now) (a .n) i (omega arith)
+    (said (a .c) (a .m .now) i (c .before .before .before .before .number-at .ensures) (c .before .before .block-of .ensures) (c .before .block-bad .ensures) ∙ c .if2 .taken))
 
 loop-again : tie.Need-loop-again Inv-loop μ-loop
 loop-again c =
-    let a = c .before .before .before .before .before .before .before .args in
-    let own = c .before .before .before .before .before .loop in
-    let number = c .before .before .before .number-at in (
+    let a = c .before .before .before .before .before .before .before .before .args in
+    let own = c .before .before .before .before .before .before .loop in (
       omega arith,
       numbers-more (a .c) (a .m .now) (own .i) (own .inv .1) (omega arith)
-          (subst (λ (k : ℕ). blockIn (a .c) (a .m .now) k ≤ 63) (number .ensures) (omega arith)),
+          (said (a .c) (a .m .now) (own .i) (c .before .before .before .before .number-at .ensures) (c .before .before .block-of .ensures) (c .before .block-bad .ensures) ∙ c .if2 .left),
     )
 
 returns-3 : tie.Need-returns-3 Inv-loop μ-loop
@@ -59,6 +64,8 @@ numbers-right-spec =
     (λ c. omega arith)
     returns
     (λ c κs. omega arith)
+    (λ c. omega arith)
+    (λ c κs. search needs)
     returns-2
     (λ c. omega arith)
     (λ c. omega arith)

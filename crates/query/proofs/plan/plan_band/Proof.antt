@@ -5,7 +5,7 @@ use Rattle.model.specs.Calls.{bandQuery}
 use Rattle.model.specs.Opening.{queryOpens}
 use Rattle.memory.specs.Held.{SoundAt}
 use Rattle.memory.specs.Laws.Held.{sound-held, unsound-held}
-use Rattle.upkeep.specs.Laws.Planned.{query-unsound, query-bad}
+use Rattle.rows.specs.Laws.Planned.{query-unsound, query-bad}
 use Rattle.query.specs.Laws.Calls.{band-bad, band-right, band-rows}
 use Rattle.query.specs.Laws.Plan.{kept-planned}
 use Rattle.query.specs.declared.rule.Rule.the-variants.{All}
@@ -19,13 +19,13 @@ sound-at c = sound-held (c .before .before .before .sound-head .ensures) (c .bef
 returns : tie.Need-returns
 returns c =
     let a = c .before .before .before .before .before .args in
-    query-unsound (bandQuery (a .b)) (a .m .now) (a .lent) (c .nothing .ensures) (unsound-held (c .before .before .before .sound-head .ensures) (c .before .enum-told .given .1))
+    query-unsound (bandQuery (a .b)) (a .m .now) (a .lent) (c .refused .ensures) (unsound-held (c .before .before .before .sound-head .ensures) (c .before .enum-told .given .1))
 
 returns-2 : tie.Need-returns-2
 returns-2 c =
     let a = c .before .before .before .before .before .before .before .args in
     let s = sound-at (c .before .before) in
-    query-bad (bandQuery (a .b)) (a .m .now) (a .lent) (c .nothing2 .ensures) (s .sound)
+    query-bad (bandQuery (a .b)) (a .m .now) (a .lent) (c .refused2 .ensures) (s .sound)
     (band-bad (a .m .now) (a .b) (c .before .if1 .taken))
 
 returns-3 : tie.Need-returns-3

@@ -8,7 +8,7 @@ use Rattle.model.specs.Calls.{onKQuery}
 use Rattle.model.specs.Opening.{queryOpens}
 use Rattle.memory.specs.Held.{SoundAt}
 use Rattle.memory.specs.Laws.Held.{sound-held, unsound-held}
-use Rattle.upkeep.specs.Laws.Planned.{query-unsound, query-bad}
+use Rattle.rows.specs.Laws.Planned.{query-unsound, query-bad}
 use Rattle.query.specs.Rule.{Fair}
 use Rattle.query.specs.Laws.Calls.{on-bad, on-right, on-rows}
 use Rattle.query.specs.Laws.Plan.{kept-planned}
@@ -23,13 +23,13 @@ sound-at c = sound-held (c .before .before .before .sound-head .ensures) (c .bef
 returns : tie.Need-returns
 returns c =
     let a = c .before .before .before .before .before .args in
-    query-unsound (onKQuery (a .k)) (a .m .now) (a .lent) (c .nothing .ensures) (unsound-held (c .before .before .before .sound-head .ensures) (c .before .enum-told .given .1))
+    query-unsound (onKQuery (a .k)) (a .m .now) (a .lent) (c .refused .ensures) (unsound-held (c .before .before .before .sound-head .ensures) (c .before .enum-told .given .1))
 
 returns-2 : tie.Need-returns-2
 returns-2 c =
     let a = c .before .before .before .before .before .before .before .args in
     let s = sound-at (c .before .before) in
-    query-bad (onKQuery (a .k)) (a .m .now) (a .lent) (c .nothing2 .ensures) (s .sound)
+    query-bad (onKQuery (a .k)) (a .m .now) (a .lent) (c .refused2 .ensures) (s .sound)
     (on-bad (a .m .now) (a .k) (⊎-elim (λ w. inl (w .taken)) (λ w. inr (omega (arith, s .dimension, ltb-true _ (a .k) (w .2 .taken)))) (c .before .if1 .came)))
 
 find-unbeaten-requires : tie.Need-find-unbeaten-requires

@@ -81,7 +81,7 @@ passed d a b right good ordered = three-checks false false false right good orde
 
 -- What the checks passed at each place tell.
 right-count : (c : tie.Else1) → costCountBad (c .before .before .args .d) ≡ false
-right-count c = sym (c .before .count-bad .ensures) ∙ c .if1 .left
+right-count c = sym (c .before .cost-count-bad .ensures) ∙ c .if1 .left
 
 first-good : (c : tie.Else2) → addressBad (c .before .before .before .before .args .d) (value (c .before .before .before .before .args .a)) ≡ false
 first-good c = sym (c .before .too-large .ensures) ∙ c .if2 .left
@@ -93,7 +93,7 @@ returns : tie.Need-returns
 returns c =
     let s = c .before .before in
     let a = s .before .args in
-    bad-count (a .d) (value (a .a)) (value (a .b)) (c .refused .result) (sym (s .count-bad .ensures) ∙ c .before .if1 .taken) (c .refused .ensures)
+    bad-count (a .d) (value (a .a)) (value (a .b)) (c .refused .result) (sym (s .cost-count-bad .ensures) ∙ c .before .if1 .taken) (c .refused .ensures)
 
 too-large-requires : tie.Need-too-large-requires
 too-large-requires c κs = count-right (c .before .before .args .d) (right-count c) .1

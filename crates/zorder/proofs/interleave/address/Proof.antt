@@ -45,10 +45,10 @@ module _ (d : ℕ) (costs : List ℕ) where
 returns : tie.Need-returns
 returns c =
     let a = c .before .before .args in
-    bad-count (a .d) (a .costs) (sym (c .before .count-bad .ensures) ∙ c .if1 .taken)
+    bad-count (a .d) (a .costs) (sym (c .before .cost-count-bad .ensures) ∙ c .if1 .taken)
 
 right-count : (c : tie.Else1) → costCountBad (c .before .before .args .d) ≡ false
-right-count c = sym (c .before .count-bad .ensures) ∙ c .if1 .left
+right-count c = sym (c .before .cost-count-bad .ensures) ∙ c .if1 .left
 
 zero-past-requires : tie.Need-zero-past-requires
 zero-past-requires c κs = count-right (c .before .before .args .d) (right-count c) .1

@@ -42,10 +42,10 @@ module _ (d a : ℕ) where
 returns : tie.Need-returns
 returns c =
     let a = c .before .before .args in
-    bad-count (a .d) (value (a .address)) (sym (c .before .count-bad .ensures) ∙ c .if1 .taken)
+    bad-count (a .d) (value (a .address)) (sym (c .before .cost-count-bad .ensures) ∙ c .if1 .taken)
 
 right-count : (c : tie.Else1) → costCountBad (c .before .before .args .d) ≡ false
-right-count c = sym (c .before .count-bad .ensures) ∙ c .if1 .left
+right-count c = sym (c .before .cost-count-bad .ensures) ∙ c .if1 .left
 
 too-large-requires : tie.Need-too-large-requires
 too-large-requires c κs = count-right (c .before .before .args .d) (right-count c) .1

@@ -1,0 +1,24 @@
+// Document 01's limits of a board, each written once.
+ghost use mathlib.Core.Bool.{false};
+ghost use mathlib.Core.Path.{_≡_};
+ghost use Rattle.model.specs.Calls.{sizeBad, memoryNeed, blockBad};
+
+pub fn size_bad(c: usize) -> bool
+    ensures { λ r. ⌜ r ≡ sizeBad c ⌝ }
+{
+    c < 16 || 4096 < c
+}
+
+// How many bytes a board of size C asks for.
+pub fn memory_need(c: usize) -> usize
+    requires { ⌜ sizeBad c ≡ false ⌝ }
+    ensures { λ r. ⌜ r ≡ memoryNeed c ⌝ }
+{
+    64 * c + 1024
+}
+
+pub fn block_bad(block: u16) -> bool
+    ensures { λ r. ⌜ r ≡ blockBad block ⌝ }
+{
+    63 < block
+}
