@@ -16,7 +16,7 @@ use Rattle.promises.specs.Layout.{sizeIn, dimensionIn, numberIn, costsIn, lineF
 use Rattle.promises.specs.Sound.{Stands}
 use Rattle.memory.specs.Frame.{MovesOnly}
 use Rattle.dominance.specs.declared.Move.{Move}
-use Rattle.upkeep.specs.Change.{ChangeAsked, Upkept, movesAfter}
+use Rattle.upkeep.specs.Change.{AskedRows, UpkeptRows, movesAfter}
 use Rattle.upkeep.specs.declared.exchange.Exchange.{Exchange}
 use Rattle.upkeep.specs.declared.exchange.Upkeep.{Upkeep}
 
@@ -62,19 +62,19 @@ abbrev pub entering : ℕ → Move → Exchange
 entering n x = record { goes = n; comes = true; coming = x }
 
 pub record ToEnter (c d n : ℕ) (x : Move) (u : Upkeep) (m : List ℕ) : Type 0 where
-  pub asked : ChangeAsked c d n (entering n x) m
+  pub asked : AskedRows c d n (entering n x) m
   pub space : n < c
-  pub upkept : Upkept c d n (entering n x) m u
+  pub upkept : UpkeptRows c d n (entering n x) m u
 
 pub record ToWithdraw (c d n p : ℕ) (u : Upkeep) (m : List ℕ) : Type 0 where
   pub coming : Move
-  pub asked : ChangeAsked c d n (record { goes = p; comes = false; coming = coming }) m
+  pub asked : AskedRows c d n (record { goes = p; comes = false; coming = coming }) m
   pub place : p < n
-  pub upkept : Upkept c d n (record { goes = p; comes = false; coming = coming }) m u
+  pub upkept : UpkeptRows c d n (record { goes = p; comes = false; coming = coming }) m u
 
 pub record ToRecost (c d n p : ℕ) (x : Move) (u : Upkeep) (m : List ℕ) : Type 0 where
-  pub asked : ChangeAsked c d n (record { goes = p; comes = true; coming = x }) m
+  pub asked : AskedRows c d n (record { goes = p; comes = true; coming = x }) m
   pub place : p < n
   pub number : numberIn c m p ≡ x .number
   pub other : costsIn c d m (numberIn c m p) ≡ x .costs → ⊥
-  pub upkept : Upkept c d n (record { goes = p; comes = true; coming = x }) m u
+  pub upkept : UpkeptRows c d n (record { goes = p; comes = true; coming = x }) m u

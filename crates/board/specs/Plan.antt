@@ -17,7 +17,7 @@ use Rattle.memory.specs.Room.{Room}
 use Rattle.memory.specs.Stores.{setBlock}
 use Rattle.memory.specs.declared.search.Among.the-variants.{Listed, Hidden}
 use Rattle.memory.specs.declared.sound.Head.{Head}
-use Rattle.upkeep.specs.Change.{ChangeAsked}
+use Rattle.upkeep.specs.Change.{AskedRows}
 use Rattle.upkeep.specs.declared.exchange.Upkeep.{Upkeep}
 use Rattle.upkeep.specs.declared.exchange.Exchange.{Exchange}
 use Rattle.rows.specs.Telling.{nobody}
@@ -41,7 +41,7 @@ alike c d n k m =
 
 -- A move that comes has space, or comes for the one of its number; where none comes one goes.
 pub record ReadyRows (c d n : ℕ) (k : Exchange) (m : List ℕ) : Type 0 where
-  pub asked : ChangeAsked c d n k m
+  pub asked : AskedRows c d n k m
   pub space : k .comes ≡ true → n ≤ k .goes → n < c
   pub number : k .comes ≡ true → k .goes < n → numberIn c m (k .goes) ≡ k .coming .number
   pub place : k .comes ≡ false → k .goes < n

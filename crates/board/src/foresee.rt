@@ -85,7 +85,7 @@ pub fn alike(m: &[u8], h: Head, k: Exchange) -> bool
 pub fn coming_place(m: &[u8], h: Head, k: Exchange) -> usize
     requires { ⌜ Readable h (now m) ⌝ }
     requires { ⌜ InOrder h (now m) ⌝ }
-    ensures { λ r. ⌜ ComingPlace (h .size) (h .dimension) (h .count) k (now (m .entry)) r ⌝ }
+    ensures { λ r. ⌜ ComingPlace h k (now (m .entry)) r ⌝ }
 {
     if !k.comes {
         return h.count;

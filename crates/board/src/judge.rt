@@ -4,6 +4,7 @@ use crate::change::comes;
 use crate::change::is_new;
 use memory::Head;
 use promises::Outcome;
+use promises::block_bad;
 use zorder::zero_past;
 ghost use Prim.Native.Nat.{_≤_};
 ghost use Rattle.zorder.specs.Address.{rowCosts};
@@ -18,7 +19,7 @@ pub fn judge(h: Head, x: Change, on: bool) -> Outcome
     if h.size <= (x.number as usize) {
         return Outcome::NumberTooLarge;
     }
-    if comes(kind) && 63 < x.block {
+    if comes(kind) && block_bad(x.block) {
         return Outcome::BlockTooLarge;
     }
     let costs = x.costs;

@@ -40,14 +40,12 @@ pub fn put_refusal(out: &mut [u8], number: u8, detail: usize) -> usize
     end + 1
 }
 
-// What a load says: it tells no row.
+// What a load says: it tells no row, and accepted it says 0 and 0.
 pub fn put_loaded(out: &mut [u8], verdict: Verdict) -> usize
     requires { ⌜ 7 ≤ length (now out) ⌝ }
     ensures { λ n. ⌜ TextPut (answerText 0 (loadSaid verdict)) (now (out .entry)) 0 (now (out .exit)) n ⌝ }
 {
-    let end = put_head(out, number_of(verdict), verdict.detail);
-    out[end] = b'\n';
-    end + 1
+    put_refusal(out, number_of(verdict), verdict.detail)
 }
 
 // What a list says, with the nodes opened and its rows.

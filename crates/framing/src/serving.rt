@@ -10,15 +10,15 @@ use crate::said::put_list;
 use crate::said::put_loaded;
 use crate::said::put_refusal;
 use board::Change;
-use board::ChangePlan;
 use board::carry_out;
 use board::plan_change;
 use listing::plan_list;
 use loading::INPUT;
 use loading::load;
 use promises::number_of;
+ghost use mathlib.Core.Path.{_≡_};
 ghost use Rattle.framing.specs.Frames as frames;
-ghost use Rattle.framing.specs.Serving.{HoldsState, Lent, CallAsked, Served, ChangedAsked, PlanServed, ChangePlan, Answers};
+ghost use Rattle.framing.specs.Serving.{HoldsState, Lent, CallAsked, Served, ChangeServed, askedBy, Answers};
 
 // How many bytes the answer has, and the number of costs from now on: 0 before the first accepted load.
 pub struct Response {

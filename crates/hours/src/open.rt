@@ -36,7 +36,7 @@ fn hider_of(
     last: usize,
     corners: &[[u16; COSTS]; RUNS],
 ) -> usize
-    requires { ⌜ SoundAt (h .size) (h .dimension) (h .count) (now m) × (i < h .count) ⌝ }
+    requires { ⌜ SoundAt h (now m) × (i < h .count) ⌝ }
     requires { ⌜ Corners (InBlocks blocks) (h .size) (now m) (h .count) (now corners) ⌝ }
     ensures { λ r. ⌜ eqb r i ≡ shownFor (h .size) (h .dimension) (h .count) blocks (now (m .entry)) (numberIn (h .size) (now (m .entry)) i) ⌝ }
 {
@@ -58,8 +58,8 @@ fn hider_of(
 
 // The moves in open blocks that none of them hides. What hid one move often hides the next.
 pub(crate) fn find_open(m: &[u8], h: Head, blocks: u64) -> Found
-    requires { ⌜ SoundAt (h .size) (h .dimension) (h .count) (now m) ⌝ }
-    ensures { λ r. ⌜ Finds (h .size) (h .count) (shownFor (h .size) (h .dimension) (h .count) blocks (now (m .entry))) (now (m .entry)) r ⌝ }
+    requires { ⌜ SoundAt h (now m) ⌝ }
+    ensures { λ r. ⌜ Finds h (shownFor (h .size) (h .dimension) (h .count) blocks (now (m .entry))) (now (m .entry)) r ⌝ }
 {
     let n = h.count;
     let corners = corners_of(m, h, Among::InBlocks(blocks));

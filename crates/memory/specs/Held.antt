@@ -17,13 +17,17 @@ pub record HeadOf (h : Head) (m : List ℕ) : Type 0 where
   pub count : h .count ≡ countIn m
 
 -- The memory is sound, and c, d and n are its own.
-pub record SoundAt (c d n : ℕ) (m : List ℕ) : Type 0 where
+pub record SoundRows (c d n : ℕ) (m : List ℕ) : Type 0 where
   pub size : c ≡ sizeIn m
   pub dimension : d ≡ dimensionIn m
   pub count : n ≡ countIn m
   pub sound : Sound m
 
+-- The same for a head as one value.
+abbrev pub SoundAt : Head → List ℕ → Type 0
+SoundAt h = SoundRows (h .size) (h .dimension) (h .count)
+
 -- The memory is sound with this head, or it is not sound.
 unfoldable pub HeldIn : List ℕ → Held → Type 0
-HeldIn m (held.Sound h) = SoundAt (h .size) (h .dimension) (h .count) m
+HeldIn m (held.Sound h) = SoundAt h m
 HeldIn m held.Unsound = Sound m → ⊥

@@ -48,7 +48,7 @@ fn few_before(m: &[u8], h: Head, most: usize, i: usize, corners: &[[u16; COSTS];
 }
 
 fn stays_at(m: &[u8], h: Head, most: usize, i: usize, corners: &[[u16; COSTS]; RUNS]) -> bool
-    requires { ⌜ SoundAt (h .size) (h .dimension) (h .count) (now m) × (i < h .count) ⌝ }
+    requires { ⌜ SoundAt h (now m) × (i < h .count) ⌝ }
     requires { ⌜ Corners among.All (h .size) (now m) (h .count) (now corners) ⌝ }
     ensures { λ r. ⌜ r ≡ spec.stays (h .dimension) All most (spec.movesTo (h .size) (h .dimension) (h .count) (now (m .entry))) (moveIn (h .size) (h .dimension) (now (m .entry)) i .costs) ⌝ }
 {
@@ -60,8 +60,8 @@ fn stays_at(m: &[u8], h: Head, most: usize, i: usize, corners: &[[u16; COSTS]; R
 
 // The moves that at most `most` others dominate.
 pub fn find_band(m: &[u8], h: Head, most: usize) -> Found
-    requires { ⌜ SoundAt (h .size) (h .dimension) (h .count) (now m) ⌝ }
-    ensures { λ r. ⌜ Finds (h .size) (h .count) (spec.staysFor (h .size) (h .dimension) (h .count) All most (now (m .entry))) (now (m .entry)) r ⌝ }
+    requires { ⌜ SoundAt h (now m) ⌝ }
+    ensures { λ r. ⌜ Finds h (spec.staysFor (h .size) (h .dimension) (h .count) All most (now (m .entry))) (now (m .entry)) r ⌝ }
 {
     let n = h.count;
     let corners = corners_of(m, h, Among::All);

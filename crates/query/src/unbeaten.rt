@@ -82,7 +82,7 @@ fn listed_beater(
     corners: &[[u16; COSTS]; RUNS],
     costs: [u16; COSTS],
 ) -> usize
-    requires { ⌜ SoundAt (h .size) (h .dimension) (h .count) (now m) × Fair rule ⌝ }
+    requires { ⌜ SoundAt h (now m) × Fair rule ⌝ }
     requires { ⌜ ListedCorners h (now m) (h .count) (now corners) ⌝ }
     ensures { λ r. ⌜ Some (spec.beatsAt (h .size) (h .dimension) rule (now (m .entry)) costs) (h .count) r ⌝ }
 {
@@ -106,7 +106,7 @@ fn beater(
     corners: &[[u16; COSTS]; RUNS],
     costs: [u16; COSTS],
 ) -> usize
-    requires { ⌜ SoundAt (h .size) (h .dimension) (h .count) (now m) × Fair rule ⌝ }
+    requires { ⌜ SoundAt h (now m) × Fair rule ⌝ }
     requires { ⌜ ListedCorners h (now m) (h .count) (now corners) ⌝ }
     ensures { λ r. ⌜ Some (spec.beatsAt (h .size) (h .dimension) rule (now (m .entry)) costs) (h .count) r ⌝ }
 {
@@ -120,8 +120,8 @@ fn beater(
 
 // The moves that none beats. What beat one move often beats the next.
 pub fn find_unbeaten(m: &[u8], h: Head, rule: Rule) -> Found
-    requires { ⌜ SoundAt (h .size) (h .dimension) (h .count) (now m) × Fair rule ⌝ }
-    ensures { λ r. ⌜ Finds (h .size) (h .count) (spec.staysFor (h .size) (h .dimension) (h .count) rule 0 (now (m .entry))) (now (m .entry)) r ⌝ }
+    requires { ⌜ SoundAt h (now m) × Fair rule ⌝ }
+    ensures { λ r. ⌜ Finds h (spec.staysFor (h .size) (h .dimension) (h .count) rule 0 (now (m .entry))) (now (m .entry)) r ⌝ }
 {
     let n = h.count;
     let corners = corners_of(m, h, Among::Listed);

@@ -61,8 +61,8 @@ pub record Refuses (v : Verdict) (p : Plan) : Type 0 where
 pub record PlansFound (h : Head) (found : Found) (opened lent : ℕ) (p : Plan) : Type 0 where
   pub plans :
       {m : List ℕ} {test : ℕ → Bool}
-      → SoundAt (h .size) (h .dimension) (h .count) m
-      → Finds (h .size) (h .count) test m found
+      → SoundAt h m
+      → Finds h test m found
       → (refusal : calls.Answer)
       → refusal ≡ accepted
       → (rows : List Row)

@@ -17,7 +17,8 @@ use Rattle.promises.specs.Layout.{heightIn, moveIn, lineFrom}
 use Rattle.promises.specs.Sound.{Stands}
 use Rattle.memory.specs.Tests.{anyTo, isListed}
 use Rattle.tree.specs.declared.nodes.Leaf.{Leaf}
-pub use Rattle.memory.specs.Held.{SoundAt}
+use Rattle.memory.specs.declared.sound.Head.{Head}
+pub use Rattle.memory.specs.Held.{SoundAt, SoundRows}
 
 -- Whether the move at place j is listed, is not the going one, and dominates a corner.
 abbrev pub dominatesCorner : ℕ → ℕ → ℕ → List ℕ → List ℕ → ℕ → Bool
@@ -70,9 +71,12 @@ pub record NextLeaf (opens : Node → Bool) (rs : List Placed) (n i : ℕ) (r : 
   pub total : openedPast opens rs i ≡ r .opened + openedPast opens rs (r .end)
   pub passed : (j : ℕ) → i ≤ j → j < r .start → Passed opens rs j
 
-pub record LeafFrom (c d goes n : ℕ) (m : List ℕ) (i : ℕ) (r : Leaf) : Type 0 where
+pub record LeafRows (c d goes n : ℕ) (m : List ℕ) (i : ℕ) (r : Leaf) : Type 0 where
   pub next : NextLeaf (opensAt c d goes n m) (lineFrom c d n m) n i r
   pub after : NodesFrom c n m (r .end)
+
+abbrev pub LeafFrom : Head → ℕ → List ℕ → ℕ → Leaf → Type 0
+LeafFrom h goes = LeafRows (h .size) (h .dimension) goes (h .count)
 
 pub record Opened (d : ℕ) (m : List ℕ) (r : ℕ) : Type 0 where
   pub is : (t : Tree) → Stands m t → r ≡ nodesOpened d t

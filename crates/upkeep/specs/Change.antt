@@ -20,7 +20,7 @@ use Rattle.line.specs.Enter.{placeFor}
 use Rattle.promises.specs.Layout.{numberIn, moveIn, lineFrom}
 use Rattle.promises.specs.Sound.{Stands}
 use Rattle.memory.specs.Tests.{anyTo, isListed}
-use Rattle.memory.specs.Held.{SoundAt}
+use Rattle.memory.specs.Held.{SoundAt, SoundRows}
 use Rattle.memory.specs.Search.{Corners}
 use Rattle.memory.specs.declared.search.Among.the-variants.{All}
 use Rattle.memory.specs.declared.sound.Head.{Head}
@@ -46,25 +46,34 @@ stays c d n k m i =
 abbrev pub comingListed : ℕ → ℕ → ℕ → Exchange → List ℕ → Bool
 comingListed c d n k m = k .comes && not (hidden d (movesAfter d k (movesIn (lineFrom c d n m))) (asMove (k .coming)))
 
-pub record ChangeAsked (c d n : ℕ) (k : Exchange) (m : List ℕ) : Type 0 where
-  pub sound : SoundAt c d n m
+pub record AskedRows (c d n : ℕ) (k : Exchange) (m : List ℕ) : Type 0 where
+  pub sound : SoundRows c d n m
   pub goes : k .goes ≤ n
   pub fit : k .comes ≡ true → Fit c d (asMove (k .coming))
   pub new : k .comes ≡ true → onBoard (k .coming .number) (dropAt (k .goes) (movesIn (lineFrom c d n m))) ≡ false
 
+abbrev pub ChangeAsked : Head → Exchange → List ℕ → Type 0
+ChangeAsked h = AskedRows (h .size) (h .dimension) (h .count)
+
 -- The place that a coming move gets among the moves before the change; any where none comes.
-pub record ComingPlace (c d n : ℕ) (k : Exchange) (m : List ℕ) (r : ℕ) : Type 0 where
+pub record PlaceRows (c d n : ℕ) (k : Exchange) (m : List ℕ) (r : ℕ) : Type 0 where
   pub within : r ≤ n
   pub is : k .comes ≡ true → r ≡ placeFor d (asMove (k .coming)) (lineFrom c d n m)
 
+abbrev pub ComingPlace : Head → Exchange → List ℕ → ℕ → Type 0
+ComingPlace h = PlaceRows (h .size) (h .dimension) (h .count)
+
 -- Whose mark changes, and how many leave the list and enter it, by the list of the moves afterwards; and the nodes opened where
 -- a move goes, as of its withdrawal (Card 1).
-pub record Upkept (c d n : ℕ) (k : Exchange) (m : List ℕ) (u : Upkeep) : Type 0 where
+pub record UpkeptRows (c d n : ℕ) (k : Exchange) (m : List ℕ) (u : Upkeep) : Type 0 where
   pub changed : (i : ℕ) → i < n → inSet (u .changed) (numberIn c m i) ≡ not (Bool·beq (isListed c m i) (stays c d n k m i))
   pub left : u .left ≡ count (λ i. isListed c m i && not (stays c d n k m i)) (numbersFrom 0 n)
   pub entered : u .entered ≡ count (λ i. not (isListed c m i) && stays c d n k m i) (numbersFrom 0 n)
   pub opened : k .goes < n → (t : Tree) → Stands m t → u .opened ≡ withdrawOpens d (numberIn c m (k .goes)) t
   pub listed : u .listed ≡ comingListed c d n k m
+
+abbrev pub Upkept : Head → Exchange → List ℕ → Upkeep → Type 0
+Upkept h = UpkeptRows (h .size) (h .dimension) (h .count)
 
 -- What the steps compute. A move goes, and it is listed.
 unfoldable pub goesListed : ℕ → ℕ → ℕ → List ℕ → Bool
@@ -109,7 +118,7 @@ pub record Entering (c d n : ℕ) (k : Exchange) (m ws ws' : List ℕ) (r : Ente
 
 -- What the steps ask: a move goes, and it is listed.
 pub record GoesListed (h : Head) (k : Exchange) (m : List ℕ) : Type 0 where
-  pub sound : SoundAt (h .size) (h .dimension) (h .count) m
+  pub sound : SoundAt h m
   pub goes : goesListed (h .size) (h .count) (k .goes) m ≡ true
 
 abbrev pub AllCorners : Head → List ℕ → List (List ℕ) → Type 0

@@ -7,13 +7,17 @@ use Rattle.model.specs.Basics.{select, count, numbersFrom}
 use Rattle.model.specs.Moves.{Move}
 use Rattle.line.specs.Line.{movesIn}
 use Rattle.promises.specs.Layout.{numberIn, lineFrom}
+use Rattle.memory.specs.declared.sound.Head.{Head}
 use Rattle.numbers.specs.Set.{inSet}
 use Rattle.upkeep.specs.declared.found.Found.{Found}
 
 -- Of the first n moves, those whose number passes a test.
-pub record Finds (c n : ℕ) (test : ℕ → Bool) (m : List ℕ) (r : Found) : Type 0 where
+pub record FindsRows (c n : ℕ) (test : ℕ → Bool) (m : List ℕ) (r : Found) : Type 0 where
   pub numbers : (i : ℕ) → i < n → inSet (r .numbers) (numberIn c m i) ≡ test (numberIn c m i)
   pub counts : r .count ≡ count (λ i. test (numberIn c m i)) (numbersFrom 0 n)
+
+abbrev pub Finds : Head → (ℕ → Bool) → List ℕ → Found → Type 0
+Finds h = FindsRows (h .size) (h .count)
 
 -- Of the moves of a line those whose number passes a test.
 abbrev pub foundMoves : ℕ → ℕ → ℕ → (ℕ → Bool) → List ℕ → List Move

@@ -127,7 +127,7 @@ pub fn find_entering(
     corners: &[[u16; COSTS]; RUNS],
     changed: &mut [u64; WORDS],
 ) -> Entered
-    requires { ⌜ SoundAt (h .size) (h .dimension) (h .count) (now m) × spec.AllCorners h (now m) (now corners) ⌝ }
+    requires { ⌜ SoundAt h (now m) × spec.AllCorners h (now m) (now corners) ⌝ }
     ensures { λ r. ⌜ spec.Entering (h .size) (h .dimension) (h .count) k (now (m .entry)) (now (changed .entry)) (now (changed .exit)) r ⌝ }
 {
     if goes_listed(m, h, k.goes) {

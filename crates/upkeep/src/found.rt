@@ -18,7 +18,7 @@ pub struct Found {
 // The listed ones.
 pub fn find_listed(m: &[u8], h: Head) -> Found
     requires { ⌜ Readable h (now m) ⌝ }
-    ensures { λ r. ⌜ spec.Finds (h .size) (h .count) (isMarked (h .size) (now (m .entry))) (now (m .entry)) r ⌝ }
+    ensures { λ r. ⌜ spec.Finds h (isMarked (h .size) (now (m .entry))) (now (m .entry)) r ⌝ }
 {
     let n = h.count;
     let mut numbers = empty();

@@ -60,8 +60,8 @@ fn coming_listed(
     corners: &[[u16; COSTS]; RUNS],
     place: usize,
 ) -> bool
-    requires { ⌜ spec.ChangeAsked (h .size) (h .dimension) (h .count) k (now m) × spec.AllCorners h (now m) (now corners) ⌝ }
-    requires { ⌜ spec.ComingPlace (h .size) (h .dimension) (h .count) k (now m) place ⌝ }
+    requires { ⌜ spec.ChangeAsked h k (now m) × spec.AllCorners h (now m) (now corners) ⌝ }
+    requires { ⌜ spec.ComingPlace h k (now m) place ⌝ }
     ensures { λ r. ⌜ r ≡ spec.comingListed (h .size) (h .dimension) (h .count) k (now (m .entry)) ⌝ }
 {
     if !k.comes {
@@ -72,9 +72,9 @@ fn coming_listed(
 }
 
 pub fn upkeep_of(m: &[u8], h: Head, k: Exchange, place: usize) -> Upkeep
-    requires { ⌜ spec.ChangeAsked (h .size) (h .dimension) (h .count) k (now m) ⌝ }
-    requires { ⌜ spec.ComingPlace (h .size) (h .dimension) (h .count) k (now m) place ⌝ }
-    ensures { λ r. ⌜ spec.Upkept (h .size) (h .dimension) (h .count) k (now (m .entry)) r ⌝ }
+    requires { ⌜ spec.ChangeAsked h k (now m) ⌝ }
+    requires { ⌜ spec.ComingPlace h k (now m) place ⌝ }
+    ensures { λ r. ⌜ spec.Upkept h k (now (m .entry)) r ⌝ }
 {
     let corners = corners_of(m, h, Among::All);
     let listed = coming_listed(m, h, k, &corners, place);

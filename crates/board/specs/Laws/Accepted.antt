@@ -29,11 +29,11 @@ use Rattle.promises.specs.Layout.{numberIn, costsIn, lineFrom, boardIn}
 use Rattle.promises.specs.Run.{Bytes}
 use Rattle.dominance.specs.Move.{asMove}
 use Rattle.dominance.specs.declared.Move.{Move}
-use Rattle.memory.specs.Held.{SoundAt}
+use Rattle.memory.specs.Held.{SoundRows}
 use Rattle.memory.specs.Laws.Lines.{length-line}
 use Rattle.memory.specs.Laws.Held.{held-fit, held-distinct}
 use Rattle.tree.specs.Withdraw.{PlaceOf}
-use Rattle.upkeep.specs.Change.{dropAt, movesAfter, Upkept}
+use Rattle.upkeep.specs.Change.{dropAt, movesAfter, UpkeptRows}
 use Rattle.upkeep.specs.Laws.Change.{rest-without}
 use Rattle.upkeep.specs.declared.exchange.Exchange.{Exchange}
 use Rattle.upkeep.specs.declared.exchange.Upkeep.{Upkeep}
@@ -55,7 +55,7 @@ all-pass b number block costs t k h =
     let rest = rest-passes (blockBad block) 10 _ high in
     (first-passes large 3 _ h, first-passes past 6 _ rest, first-passes t k [] (rest-passes past 6 _ rest), first-passes (blockBad block) 10 _ high)
 
-module _ {c d n : ℕ} {m : List ℕ} (s : SoundAt c d n m) where
+module _ {c d n : ℕ} {m : List ℕ} (s : SoundRows c d n m) where
   abbrev ms : List model.Move
   ms = movesIn (lineFrom c d n m)
 
@@ -71,7 +71,7 @@ module _ {c d n : ℕ} {m : List ℕ} (s : SoundAt c d n m) where
 
 -- ---- enter
 
-module _ {c d n : ℕ} {m : List ℕ} (s : SoundAt c d n m) (b : Bytes m) (x : Move) (block : ℕ) (w : Costs rowCosts (x .costs)) where
+module _ {c d n : ℕ} {m : List ℕ} (s : SoundRows c d n m) (b : Bytes m) (x : Move) (block : ℕ) (w : Costs rowCosts (x .costs)) where
   abbrev coming : Exchange
   coming = record { goes = n; comes = true; coming = x }
 
@@ -116,7 +116,7 @@ module _ {c d n : ℕ} {m : List ℕ} (s : SoundAt c d n m) (b : Bytes m) (x : M
 
 -- ---- withdraw
 
-module _ {c d n number p : ℕ} {m : List ℕ} (s : SoundAt c d n m) (b : Bytes m) (none : Move) (e : PlaceOf c n number m p) where
+module _ {c d n number p : ℕ} {m : List ℕ} (s : SoundRows c d n m) (b : Bytes m) (none : Move) (e : PlaceOf c n number m p) where
   abbrev leaving : Exchange
   leaving = record { goes = p; comes = false; coming = none }
 
@@ -143,7 +143,7 @@ unfolding changeRefusal
 recost-on b number block costs ok =
     not-false (onBoard number (b .moves)) (all-pass b number block costs (not (onBoard number (b .moves))) 5 ok .2)
 
-module _ {c d n p : ℕ} {m : List ℕ} (s : SoundAt c d n m) (b : Bytes m) (x : Move) (block : ℕ) (w : Costs rowCosts (x .costs)) (e : PlaceOf c n (x .number) m p) where
+module _ {c d n p : ℕ} {m : List ℕ} (s : SoundRows c d n m) (b : Bytes m) (x : Move) (block : ℕ) (w : Costs rowCosts (x .costs)) (e : PlaceOf c n (x .number) m p) where
   abbrev moving : Exchange
   moving = record { goes = p; comes = true; coming = x }
 
@@ -175,7 +175,7 @@ module _ {c d n p : ℕ} {m : List ℕ} (s : SoundAt c d n m) (b : Bytes m) (x :
 
 -- ---- each kind of change
 
-module _ {c d n p : ℕ} {m : List ℕ} (s : SoundAt c d n m) (b : Bytes m) (x : Move) (block : ℕ) (w : Costs rowCosts (x .costs)) (e : PlaceOf c n (x .number) m p) where
+module _ {c d n p : ℕ} {m : List ℕ} (s : SoundRows c d n m) (b : Bytes m) (x : Move) (block : ℕ) (w : Costs rowCosts (x .costs)) (e : PlaceOf c n (x .number) m p) where
   -- A number that is not on the board has the place past the last.
   pub enter-last : changeRefusal (boardIn m) (calls.enter (x .number) block (x .costs)) ≡ 0 → p ≡ n
   enter-last ok =
@@ -204,7 +204,7 @@ module _ {c d n p : ℕ} {m : List ℕ} (s : SoundAt c d n m) (b : Bytes m) (x :
   -- What making its moves asks.
   pub kind-prepared : (kind : Kind) {u : Upkeep} → changeRefusal (boardIn m) (changeOf kind (x .number) block (x .costs)) ≡ 0
       → (comes kind ≡ true → p < n → costsIn c d m (numberIn c m p) ≡ x .costs → ⊥)
-      → Upkept c d n (change kind) m u
+      → UpkeptRows c d n (change kind) m u
       → PreparedFor kind (record { size = c; dimension = d; count = n }) (record { kind = kind; number = x .number; block = block; costs = x .costs }) p u m
   unfolding changeOf comes PreparedFor
   kind-prepared Enter {u} ok other up =
@@ -212,7 +212,7 @@ module _ {c d n p : ℕ} {m : List ℕ} (s : SoundAt c d n m) (b : Bytes m) (x :
       record {
         asked = ready .asked;
         space = enter-space s b x block w ok;
-        upkept = subst (λ (g : ℕ). Upkept c d n (record { goes = g; comes = true; coming = x }) m u) (enter-last ok) up;
+        upkept = subst (λ (g : ℕ). UpkeptRows c d n (record { goes = g; comes = true; coming = x }) m u) (enter-last ok) up;
       }
   kind-prepared Withdraw ok other up =
       let ready = withdraw-ready s b x e ok in

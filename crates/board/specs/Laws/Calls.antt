@@ -9,7 +9,7 @@ use Rattle.model.specs.Calls as calls
 use Rattle.model.specs.Calls.{accepted, refusedWith, listOf, changedMoves, changeNotice, changed}
 use Rattle.line.specs.Line.{movesIn}
 use Rattle.promises.specs.Layout.{boardIn, lineFrom}
-use Rattle.memory.specs.Held.{SoundAt}
+use Rattle.memory.specs.Held.{SoundRows}
 use Rattle.upkeep.specs.Change.{movesAfter}
 use Rattle.upkeep.specs.declared.exchange.Exchange.{Exchange}
 use Rattle.board.specs.Change.{noticeBy}
@@ -20,7 +20,7 @@ pub not-refused : {k : ℕ} → k ≡ 0 → refusedWith k ≡ accepted
 unfolding refusedWith accepted
 not-refused e = ap refusedWith e
 
-pub call-notice : {c d n : ℕ} (k : Exchange) {m : List ℕ} → SoundAt c d n m → (x : calls.Change)
+pub call-notice : {c d n : ℕ} (k : Exchange) {m : List ℕ} → SoundRows c d n m → (x : calls.Change)
     → movesAfter d k (movesIn (lineFrom c d n m)) ≡ changedMoves d x (movesIn (lineFrom c d n m)) → noticeBy c d n k m ≡ changeNotice (boardIn m) x
 unfolding noticeBy changeNotice listOf changed boardIn
 call-notice {c} {d} {n} k {m} s x same =

@@ -19,7 +19,7 @@ use Rattle.promises.specs.Sound.{Stands}
 use Rattle.promises.specs.Run.{Bytes}
 use Rattle.dominance.specs.Move.{asMove}
 use Rattle.dominance.specs.declared.Move.{Move}
-use Rattle.memory.specs.Held.{SoundAt}
+use Rattle.memory.specs.Held.{SoundRows}
 use Rattle.memory.specs.Stores.{setListed, setCosts, setCount}
 use Rattle.memory.specs.Frame.{MarksOnly, CostsOnly}
 use Rattle.memory.specs.Laws.Written.{only-trans, rows-written, marks-written, costs-written}
@@ -39,7 +39,7 @@ module _ {c d n : ℕ} {x : Move} {u : Upkeep} {m m₁ m₂ m₃ : List ℕ} (a 
     (set : SetMarks c n (u .changed) m m₁)
     (e₂ : m₂ ≡ setListed c (x .number) (u .listed) m₁)
     (e₃ : m₃ ≡ setCosts c (x .number) (x .costs) m₂) where
-  abbrev s : SoundAt c d n m
+  abbrev s : SoundRows c d n m
   s = a .asked .sound
 
   marked : MarksOnly c m m₂

@@ -15,7 +15,7 @@ use Rattle.line.specs.Withdraw.{placeOf}
 use Rattle.promises.specs.Layout.{boardIn, lineFrom}
 use Rattle.promises.specs.Answers.{outcomeNumber}
 use Rattle.promises.specs.declared.Outcome.{Outcome}
-use Rattle.memory.specs.Held.{SoundAt}
+use Rattle.memory.specs.Held.{SoundRows}
 use Rattle.memory.specs.Laws.Lines.{length-line, lineIn-line}
 use Rattle.tree.specs.Withdraw.{PlaceOf}
 use Rattle.memory.specs.declared.sound.Head.{Head}
@@ -36,11 +36,11 @@ on-line n (r ∷ rs) =
     ap (λ (b : Bool). eqb (r .move .number) n || b) (on-line n rs)
     ∙ found-step (eqb (r .move .number) n) (placeOf n rs) (length rs)
 
-pub board-moves : (c d n : ℕ) (m : List ℕ) → SoundAt c d n m → boardIn m .moves ≡ movesIn (lineFrom c d n m)
+pub board-moves : (c d n : ℕ) (m : List ℕ) → SoundRows c d n m → boardIn m .moves ≡ movesIn (lineFrom c d n m)
 unfolding boardIn
 board-moves c d n m s = ap movesIn (lineIn-line c d n m (sym (s .size)) (sym (s .dimension)) (sym (s .count)))
 
-module _ (c d n : ℕ) (m : List ℕ) (s : SoundAt c d n m) where
+module _ (c d n : ℕ) (m : List ℕ) (s : SoundRows c d n m) where
   pub judge-size : (number : ℕ) → leb (boardIn m .size) number ≡ leb c number
   unfolding boardIn
   judge-size number = ap (λ (k : ℕ). leb k number) (sym (s .size))
@@ -92,7 +92,7 @@ judges-by h x on large high past new e k f g a =
           ∷ [])));
     }
 
-pub judged : {c d n p : ℕ} {m : List ℕ} (s : SoundAt c d n m) {x : Change} {o : Outcome} → PlaceOf c n (x .number) m p
+pub judged : {c d n p : ℕ} {m : List ℕ} (s : SoundRows c d n m) {x : Change} {o : Outcome} → PlaceOf c n (x .number) m p
     → JudgesBy (record { size = c; dimension = d; count = n }) x (ltb p n) o → outcomeNumber o ≡ changeRefusal (boardIn m) (callOf x)
 unfolding boardIn
 judged {c} {d} {n} {p} {m} s {x = x} e j =

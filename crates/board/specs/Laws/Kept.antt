@@ -19,7 +19,7 @@ use Rattle.line.specs.Laws.Line.{moves-line}
 use Rattle.promises.specs.Layout.{sizeIn, dimensionIn, countIn, markIn, moveIn, placedIn, lineFrom, lineIn, keptFrom, keptIn}
 use Rattle.promises.specs.Sound.{Stands}
 use Rattle.promises.specs.Laws.Tab.{each-tab}
-use Rattle.memory.specs.Held.{SoundAt}
+use Rattle.memory.specs.Held.{SoundRows}
 use Rattle.memory.specs.Stores.{setCount}
 use Rattle.memory.specs.Frame.{DifferWithin, MovesOnly}
 use Rattle.memory.specs.Laws.Written.{only-trans, count-written, size-left, dimension-left, format-left}
@@ -33,7 +33,7 @@ use Rattle.board.specs.Change.{Moved}
 abbrev pub MarksRight : ℕ → ℕ → List ℕ → List Move → Type 0
 MarksRight c d m ms = Each (λ x. eqb (markIn c m (x .number)) 1 ≡ not (hidden d ms x)) ms
 
-module _ {c d n k : ℕ} {m m₁ : List ℕ} {t : Tree} (s : SoundAt c d n m) (f : MovesOnly c m m₁) (h : RowsHold c d k m₁ t)
+module _ {c d n k : ℕ} {m m₁ : List ℕ} {t : Tree} (s : SoundRows c d n m) (f : MovesOnly c m m₁) (h : RowsHold c d k m₁ t)
     (marks : MarksRight c d m₁ (movesOf t)) where
   abbrev m' : List ℕ
   m' = setCount k m₁
@@ -93,7 +93,7 @@ module _ {c d n k : ℕ} {m m₁ : List ℕ} {t : Tree} (s : SoundAt c d n m) (f
   all = only-trans f (count-written c k m₁)
 
 -- The same for a change of the board that sound memory holds.
-pub made : {c d n k : ℕ} {m m₁ m' : List ℕ} (s : SoundAt c d n m) (x : Change) (t : Tree) → MovesOnly c m m₁ → RowsHold c d k m₁ (changeTree d x t)
+pub made : {c d n k : ℕ} {m m₁ m' : List ℕ} (s : SoundRows c d n m) (x : Change) (t : Tree) → MovesOnly c m m₁ → RowsHold c d k m₁ (changeTree d x t)
     → movesOf (changeTree d x t) ≡ changedMoves d x (movesIn (lineFrom c d n m))
     → MarksRight c d m₁ (changedMoves d x (movesIn (lineFrom c d n m)))
     → m' ≡ setCount k m₁

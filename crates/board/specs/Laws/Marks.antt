@@ -27,7 +27,7 @@ use Rattle.memory.specs.Laws.Frames.{room-over}
 use Rattle.memory.specs.Laws.Stored.{mark-setListed-other, listed-setListed}
 use Rattle.memory.specs.Laws.Lines.{length-line}
 use Rattle.memory.specs.Laws.Held.{held-room, held-numbers}
-use Rattle.upkeep.specs.Change.{dropAt, movesAfter, stays, ChangeAsked, Upkept}
+use Rattle.upkeep.specs.Change.{dropAt, movesAfter, stays, AskedRows, UpkeptRows}
 use Rattle.upkeep.specs.Mark.{listedThen, SetMarks}
 use Rattle.upkeep.specs.Laws.Places.{anyTo-places}
 use Rattle.upkeep.specs.Laws.Change.{rest-places}
@@ -88,7 +88,7 @@ mark-test true false = refl
 mark-test false true = refl
 mark-test false false = refl
 
-module _ {c d n : ℕ} {k : Exchange} {m : List ℕ} {u : Upkeep} (up : Upkept c d n k m u) where
+module _ {c d n : ℕ} {k : Exchange} {m : List ℕ} {u : Upkeep} (up : UpkeptRows c d n k m u) where
   abbrev before : List Move
   before = movesIn (lineFrom c d n m)
 
@@ -126,7 +126,7 @@ module _ {c d n : ℕ} {k : Exchange} {m : List ℕ} {u : Upkeep} (up : Upkept c
       fresh e = new e ∙ up .listed ∙ ap (λ (b : Bool). b && not (hidden d after (asMove (k .coming)))) e
 
 -- Of memory whose marks were set, and whatever else was written afterwards.
-module _ {c d n : ℕ} {k : Exchange} {m m₁ : List ℕ} {u : Upkeep} (asked : ChangeAsked c d n k m) (up : Upkept c d n k m u)
+module _ {c d n : ℕ} {k : Exchange} {m m₁ : List ℕ} {u : Upkeep} (asked : AskedRows c d n k m) (up : UpkeptRows c d n k m u)
     (set : SetMarks c n (u .changed) m m₁) (m' : List ℕ) where
   pub marks-gone : k .comes ≡ false → ((v : ℕ) → v < c → markIn c m' v ≡ markIn c m₁ v) → MarksRight c d m' (movesAfter d k (movesIn (lineFrom c d n m)))
   marks-gone none same =

@@ -26,11 +26,11 @@ use Rattle.promises.specs.declared.Verdict.{Verdict}
 use Rattle.promises.specs.declared.Outcome.{Outcome}
 use Rattle.promises.specs.declared.Outcome.the-variants.{Unsound}
 use Rattle.dominance.specs.declared.Move.{Move}
-use Rattle.memory.specs.Held.{SoundAt}
+use Rattle.memory.specs.Held.{SoundRows}
 use Rattle.memory.specs.Laws.Held.{held-room, held-readable}
 use Rattle.memory.specs.declared.sound.Head.{Head}
 use Rattle.tree.specs.Withdraw.{PlaceOf}
-use Rattle.upkeep.specs.Change.{Upkept, ComingPlace}
+use Rattle.upkeep.specs.Change.{UpkeptRows, PlaceRows}
 use Rattle.upkeep.specs.declared.exchange.Exchange.{Exchange}
 use Rattle.upkeep.specs.declared.exchange.Upkeep.{Upkeep}
 use Rattle.rows.specs.Planned.{Foreseen, Tells}
@@ -117,14 +117,14 @@ plan-unsound {m = m} {lent} bad e =
 
 -- ---- the plan on sound memory
 
-pub plan-refused : {c d n : ℕ} {m : List ℕ} → SoundAt c d n m → {x : Change} {o : Outcome} → outcomeNumber o ≡ changeRefusal (boardIn m) (callOf x) → {lent : ℕ} {p : ChangePlan}
+pub plan-refused : {c d n : ℕ} {m : List ℕ} → SoundRows c d n m → {x : Change} {o : Outcome} → outcomeNumber o ≡ changeRefusal (boardIn m) (callOf x) → {lent : ℕ} {p : ChangePlan}
     → 0 < outcomeNumber o → KeepsMoves (record { size = c; dimension = d; count = n }) x o p → Planned x m lent p
 unfolding refusedWith
 plan-refused {m = m} s {o = o} judged {lent} h k =
     keeps-planned k (foreseen-refused _ _ _ m lent _ _ (s .sound) (refusedBy o 0) (ap refusedWith judged) h)
     (λ z. absurd (omega arith)) (λ z. absurd (omega arith)) (λ z. absurd (omega arith)) (λ z. absurd (omega arith))
 
-module _ {c d n g : ℕ} {m : List ℕ} (s : SoundAt c d n m) (b : Bytes m) (x : Change) (w : Costs rowCosts (x .costs)) (e : PlaceOf c n (x .number) m g)
+module _ {c d n g : ℕ} {m : List ℕ} (s : SoundRows c d n m) (b : Bytes m) (x : Change) (w : Costs rowCosts (x .costs)) (e : PlaceOf c n (x .number) m g)
     (ok : changeRefusal (boardIn m) (callOf x) ≡ 0) where
   abbrev head : Head
   head = record { size = c; dimension = d; count = n }
@@ -202,7 +202,7 @@ module _ {c d n g : ℕ} {m : List ℕ} (s : SoundAt c d n m) (b : Bytes m) (x :
         ∙ different
 
     -- A withdrawal reports the nodes opened, the others none.
-    kind-opens : {u : Upkeep} → Upkept c d n (exchangeOf x g) m u → (kind : Kind) → x .kind ≡ kind → (t : Tree) → Stands m t
+    kind-opens : {u : Upkeep} → UpkeptRows c d n (exchangeOf x g) m u → (kind : Kind) → x .kind ≡ kind → (t : Tree) → Stands m t
         → cond (comes kind) 0 (u .opened) ≡ changeOpens (dimensionIn m) (changeOf kind (x .number) (x .block) (x .costs)) t
     unfolding changeOf changeOpens comes
     kind-opens up Enter k t stands = refl
@@ -211,7 +211,7 @@ module _ {c d n g : ℕ} {m : List ℕ} (s : SoundAt c d n m) (b : Bytes m) (x :
         up .opened l t stands ∙ (λ i. withdrawOpens (s .dimension i) (e .found l i) t)
     kind-opens up Recost k t stands = refl
 
-    pub plan-full : {lent : ℕ} {u : Upkeep} (up : Upkept c d n (exchangeOf x g) m u) {place : ℕ} (q : ComingPlace c d n (exchangeOf x g) m place) {need : ℕ} → need ≡ neededRows u
+    pub plan-full : {lent : ℕ} {u : Upkeep} (up : UpkeptRows c d n (exchangeOf x g) m u) {place : ℕ} (q : PlaceRows c d n (exchangeOf x g) m place) {need : ℕ} → need ≡ neededRows u
         → (v : Verdict) → answerOf v ≡ rowsAnswer need lent → {opened : ℕ} → opened ≡ cond (comes (x .kind)) 0 (u .opened)
         → Planned x m lent (record { verdict = v; need = need; opened = opened; makes = true; goes = g; place = place; head = head; change = x; upkeep = u })
     unfolding neededRows

@@ -95,7 +95,7 @@ module _ {x : Change} {m m' : List ℕ} {lent : ℕ} {p : ChangePlan} (plan : Pl
   block-kept : numberOf (p .verdict) ≡ 0 → comes (x .kind) ≡ false → m' ≡ out .between
   block-kept z e = out .kept z (ap (λ (y : Change). comes (y .kind)) (plan .change) ∙ e)
 
-  plan-left : (k : ℕ) → numberOf (p .verdict) ≡ k → (s : Sound m)
+  pub plan-left : (k : ℕ) → numberOf (p .verdict) ≡ k → (s : Sound m)
       → MemoryAfter (changeWrites (sizeIn m) (callOf x)) k m m' (changed (boardIn m) (callOf x)) (changeTree (dimensionIn m) (callOf x) (s .tree))
   unfolding MemoryAfter
   plan-left zero e s =

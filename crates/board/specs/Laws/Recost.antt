@@ -28,7 +28,7 @@ use Rattle.promises.specs.Run.{Bytes}
 use Rattle.promises.specs.Laws.Tab.{each-tab}
 use Rattle.dominance.specs.Move.{asMove}
 use Rattle.dominance.specs.declared.Move.{Move}
-use Rattle.memory.specs.Held.{SoundAt}
+use Rattle.memory.specs.Held.{SoundRows}
 use Rattle.memory.specs.Stores.{setListed, setCosts, setCount}
 use Rattle.memory.specs.Frame.{MovesOnly, MarksOnly, CostsOnly}
 use Rattle.memory.specs.Laws.Written.{only-trans, rows-written, marks-written, costs-written}
@@ -72,7 +72,7 @@ costs-there c d n p m l = costs-board c d n m (numberIn c m p) (on-at c d n m p 
 module _ {c d n p : ℕ} {x : Move} {u : Upkeep} {m m₁ m₂ : List ℕ} (a : ToRecost c d n p x u m) (b : Bytes m)
     (set : SetMarks c n (u .changed) m m₁)
     (e₂ : m₂ ≡ setListed c (x .number) (u .listed) m₁) where
-  abbrev s : SoundAt c d n m
+  abbrev s : SoundRows c d n m
   s = a .asked .sound
 
   abbrev before : List model.Move

@@ -21,7 +21,7 @@ use Rattle.promises.specs.Layout.{numberIn, costsIn, moveIn, placedIn, lineFrom
 use Rattle.promises.specs.Sound.{Stands}
 use Rattle.promises.specs.Run.{Bytes}
 use Rattle.memory.specs.Room.{Numbers, ReadableRows}
-use Rattle.memory.specs.Held.{SoundAt}
+use Rattle.memory.specs.Held.{SoundRows}
 use Rattle.memory.specs.Stores.{setCosts}
 use Rattle.memory.specs.Frame.{DifferWithin, MarksOnly}
 use Rattle.memory.specs.Laws.Frames.{room-over}
@@ -34,7 +34,7 @@ use Rattle.tree.specs.Enter.{EnterAsked}
 use Rattle.upkeep.specs.Mark.{Once}
 
 -- The rows of sound memory hold every tree that stands in it.
-pub holds-sound : {c d n : ℕ} {m : List ℕ} → SoundAt c d n m → Bytes m → (t : Tree) → Stands m t → RowsHold c d n m t
+pub holds-sound : {c d n : ℕ} {m : List ℕ} → SoundRows c d n m → Bytes m → (t : Tree) → Stands m t → RowsHold c d n m t
 holds-sound {c} {d} {n} {m} s b t stands =
     let line = held-line c d n m s t stands in
     record {
@@ -45,7 +45,7 @@ holds-sound {c} {d} {n} {m} s b t stands =
     }
 
 -- What setting the marks asks.
-pub marks-asked : {c d n : ℕ} {m : List ℕ} → SoundAt c d n m → Bytes m → ReadableRows c d n m × Once c n m
+pub marks-asked : {c d n : ℕ} {m : List ℕ} → SoundRows c d n m → Bytes m → ReadableRows c d n m × Once c n m
 marks-asked {c} {d} {n} {m} s b = (held-readable s, held-once c d n m s b)
 
 module _ {c d n : ℕ} {m : List ℕ} {t : Tree} (h : RowsHold c d n m t) where

@@ -18,7 +18,7 @@ use Rattle.promises.specs.Layout.{numberIn, costsIn, markIn, lineFrom}
 use Rattle.promises.specs.Sound.{Stands}
 use Rattle.promises.specs.Run.{Bytes}
 use Rattle.memory.specs.Room.{Room}
-use Rattle.memory.specs.Held.{SoundAt}
+use Rattle.memory.specs.Held.{SoundRows}
 use Rattle.memory.specs.Stores.{setListed, setCosts}
 use Rattle.memory.specs.Frame.{MovesOnly, MarksOnly, CostsOnly}
 use Rattle.memory.specs.Laws.Frames.{frame-trans}
@@ -29,13 +29,13 @@ use Rattle.memory.specs.Laws.Held.{held-room}
 use Rattle.tree.specs.Hold.{RowsHold}
 use Rattle.tree.specs.Enter.{EnterAsked}
 use Rattle.tree.specs.Withdraw.{Withdrawn}
-use Rattle.upkeep.specs.Change.{dropAt, ChangeAsked}
+use Rattle.upkeep.specs.Change.{dropAt, AskedRows}
 use Rattle.upkeep.specs.Laws.Change.{rest-without}
 use Rattle.upkeep.specs.declared.exchange.Exchange.{Exchange}
 use Rattle.board.specs.Laws.Rows.{holds-sound, holds-moves, holds-over-marks, holds-setCosts, enter-asked}
 
 -- What storing the mark and the costs of a coming move asks, whatever was written before.
-pub coming-asked : {c d n : ℕ} {k : Exchange} {m m₁ : List ℕ} → ChangeAsked c d n k m → k .comes ≡ true → MovesOnly c m m₁ → Room c m₁ × (k .coming .number < c)
+pub coming-asked : {c d n : ℕ} {k : Exchange} {m m₁ : List ℕ} → AskedRows c d n k m → k .comes ≡ true → MovesOnly c m m₁ → Room c m₁ × (k .coming .number < c)
 coming-asked {c} {d} {n} {m = m} asked comes f = (only-room c f (held-room c d n m (asked .sound)), asked .fit comes .number)
 
 -- Its mark, after those of the others.
@@ -68,7 +68,7 @@ module _ {c d n p : ℕ} {m₁ m₂ : List ℕ} (w : Withdrawn c d n p m₁ m₂
   pub gone-mark : (v : ℕ) → v < c → markIn c m₂ v ≡ markIn c m₁ v
   gone-mark v k = mark-over-rows c (w .rows) v ∙ mark-over-work c (w .work) v k
 
-  module _ {m : List ℕ} (s : SoundAt c d n m) (b : Bytes m) (l : p < n) (marked : MarksOnly c m m₁) (t : Tree) (stands : Stands m t) where
+  module _ {m : List ℕ} (s : SoundRows c d n m) (b : Bytes m) (l : p < n) (marked : MarksOnly c m m₁) (t : Tree) (stands : Stands m t) where
     pub gone-holds : RowsHold c d (n - 1) m₂ (withdrawTree d (numberIn c m p) t)
     gone-holds =
         let h = holds-sound s b t stands in

@@ -26,13 +26,13 @@ use Rattle.promises.specs.Layout.{moveIn, placedIn, lineFrom}
 use Rattle.promises.specs.Answers.{resultRow}
 use Rattle.promises.specs.Run.{Bytes}
 use Rattle.dominance.specs.Move.{asMove}
-use Rattle.memory.specs.Held.{SoundAt}
+use Rattle.memory.specs.Held.{SoundRows}
 use Rattle.memory.specs.Search.{looks, looksAt}
 use Rattle.memory.specs.Tests.{isListed}
 use Rattle.memory.specs.declared.sound.Head.{Head}
 use Rattle.memory.specs.Laws.Lines.{getD-line, length-line}
 use Rattle.memory.specs.Laws.Held.{held-dimension, held-order, held-listed, held-fit, held-fit-at, held-once}
-use Rattle.upkeep.specs.Change.{dropAt, movesAfter, stays, placesIn, ChangeAsked, Upkept}
+use Rattle.upkeep.specs.Change.{dropAt, movesAfter, stays, placesIn, AskedRows, UpkeptRows}
 use Rattle.rows.specs.Rows.{moveNumbers}
 use Rattle.rows.specs.Telling.{tellsPlace, rowsAt, comingRows, toldRows}
 use Rattle.rows.specs.declared.telling.Told.{Told}
@@ -76,7 +76,7 @@ rising-places P lt o f t (i ∷ is) es r =
     next)
     (λ _. next)
 
-module _ (c d n : ℕ) (k : Exchange) (m : List ℕ) (s : SoundAt c d n m) (b : Bytes m) (a : ChangeAsked c d n k m)
+module _ (c d n : ℕ) (k : Exchange) (m : List ℕ) (s : SoundRows c d n m) (b : Bytes m) (a : AskedRows c d n k m)
     (other : k .comes ≡ true → k .goes < n → moveIn c d m (k .goes) ≡ asMove (k .coming) → ⊥) where
   abbrev before : List Move
   before = movesIn (lineFrom c d n m)
@@ -236,7 +236,7 @@ module _ (c d n : ℕ) (k : Exchange) (m : List ℕ) (s : SoundAt c d n m) (b : 
         ap (λ (ms : List Move). gone (skyline d after) (skyline d ms)) (line-places c d n m)
         ∙ byCases (k .comes) coming-part plain-part
 
-    module _ (u : Upkeep) (v : Upkept c d n k m u) where
+    module _ (u : Upkeep) (v : UpkeptRows c d n k m u) where
       abbrev head : Head
       head = record { size = c; dimension = d; count = n }
 

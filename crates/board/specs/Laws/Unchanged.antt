@@ -24,13 +24,13 @@ use Rattle.promises.specs.Run.{Bytes}
 use Rattle.promises.specs.Laws.Stands.{stands-dimension, stands-moves, stands-fit, stands-once}
 use Rattle.dominance.specs.Move.{asMove}
 use Rattle.dominance.specs.declared.Move.{Move}
-use Rattle.memory.specs.Held.{SoundAt}
+use Rattle.memory.specs.Held.{SoundRows}
 use Rattle.memory.specs.Laws.Written.{only-refl}
 use Rattle.board.specs.Change.{Made}
 use Rattle.board.specs.Laws.Judge.{board-moves}
 use Rattle.board.specs.Laws.Recost.{costs-board}
 
-module _ {c d n : ℕ} {m : List ℕ} (s : SoundAt c d n m) (b : Bytes m) (x : Move) (fit : Fit c d (asMove x)) (on : onBoard (x .number) (boardIn m .moves) ≡ true)
+module _ {c d n : ℕ} {m : List ℕ} (s : SoundRows c d n m) (b : Bytes m) (x : Move) (fit : Fit c d (asMove x)) (on : onBoard (x .number) (boardIn m .moves) ≡ true)
     (r : equal (x .costs) (costsIn c d m (x .number)) ≡ true) (block : ℕ) where
   abbrev change : calls.Change
   change = calls.recost (x .number) block (x .costs)

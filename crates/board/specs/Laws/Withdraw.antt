@@ -7,7 +7,7 @@ use Rattle.model.specs.Calls as calls
 use Rattle.model.specs.Changing.{changeTree}
 use Rattle.promises.specs.Layout.{numberIn}
 use Rattle.promises.specs.Run.{Bytes}
-use Rattle.memory.specs.Held.{SoundAt}
+use Rattle.memory.specs.Held.{SoundRows}
 use Rattle.memory.specs.Stores.{setCount}
 use Rattle.memory.specs.Laws.Written.{only-trans, marks-written}
 use Rattle.tree.specs.Withdraw as withdraw
@@ -23,7 +23,7 @@ use Rattle.board.specs.Laws.Steps.{gone-written, gone-mark, gone-holds, 
 
 module _ {c d n p : ℕ} {u : Upkeep} {m m₁ : List ℕ} (a : ToWithdraw c d n p u m) (b : Bytes m)
     (set : SetMarks c n (u .changed) m m₁) where
-  abbrev s : SoundAt c d n m
+  abbrev s : SoundRows c d n m
   s = a .asked .sound
 
   pub withdraw-line-asked : withdraw.WithdrawAsked c d n p m₁

@@ -9,7 +9,7 @@ use native.Mathlib.Omega.{arith}
 use lib.Dec.{eqb}
 use lib.ListN.{length, getD, take, drop}
 use lib.Seq.{take-suc, drop-cons}
-use Rattle.upkeep.specs.Laws.Telling.{length-none}
+use Rattle.rows.specs.Laws.Telling.{length-none}
 use Rattle.framing.specs.State.{State}
 use Rattle.framing.specs.Text.{lineEnd}
 use Rattle.framing.specs.Session.{answerTo, after, answersTo, linesFrom, printed, output}

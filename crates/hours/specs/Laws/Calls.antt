@@ -43,9 +43,9 @@ module _ (b : Board) (t : ℕ) (hours : List Hours) where
     hours-right h = by-entries l ∙ f .none h
 
 pub hours-planned : {h : Head} {m : List ℕ} {t blocks lent : ℕ} {hours : List Hours} {found : Found} {p : Plan}
-    → SoundAt (h .size) (h .dimension) (h .count) m
+    → SoundAt h m
     → OpenBlocks t hours blocks
-    → Finds (h .size) (h .count) (shownFor (h .size) (h .dimension) (h .count) blocks m) m found
+    → Finds h (shownFor (h .size) (h .dimension) (h .count) blocks m) m found
     → PlansFound h found 0 lent p
     → queryRefusal (boardIn m) (hoursQuery t hours) ≡ accepted
     → QueryPlanned (hoursQuery t hours) m lent p

@@ -24,7 +24,7 @@ use Rattle.dominance.specs.Lanes.{Lanes, limit, isFirst}
 use Rattle.promises.specs.Layout.{numberIn, blockIn, costsIn, moveIn, lineFrom, lineIn, boardIn}
 use Rattle.promises.specs.Run.{Bytes}
 use Rattle.promises.specs.Laws.Tab.{each-tab}
-use Rattle.memory.specs.Held.{SoundAt}
+use Rattle.memory.specs.Held.{SoundRows}
 use Rattle.memory.specs.Search.{inBlocks, looks, looksAt, seen, seenAt, fits, Some}
 use Rattle.memory.specs.Tests.{anyTo, isListed}
 use Rattle.memory.specs.Laws.Blocks.{block-at, blocks-right}
@@ -40,7 +40,7 @@ use Rattle.hours.specs.Open.{OpenBlocks, movesInBlocks, shownFor}
 
 -- ---- one move
 
-module _ (c d n : ℕ) (m : List ℕ) (s : SoundAt c d n m) (b : Bytes m) (blocks i : ℕ) (l : i < n) where
+module _ (c d n : ℕ) (m : List ℕ) (s : SoundRows c d n m) (b : Bytes m) (blocks i : ℕ) (l : i < n) where
   abbrev openAt : ℕ → Bool
   openAt j = inBlocks blocks c m (numberIn c m j)
 
@@ -139,7 +139,7 @@ module _ (c d n : ℕ) (m : List ℕ) where
       unhidden : Move → Bool
       unhidden x = not (hidden d (movesInBlocks c d n blocks m) x)
 
-  module _ (s : SoundAt c d n m) where
+  module _ (s : SoundRows c d n m) where
     blocks-fit : Each (λ x. blockBad (blocksOn (movesIn (lineFrom c d n m)) (blockIn c m) (x .number)) ≡ false) (movesIn (lineFrom c d n m))
     unfolding boardIn lineIn
     blocks-fit = subst (λ (T : Type 0). T) (λ j. Fit (sym (s .size) j) (sym (s .dimension) j) (sym (s .count) j)) (s .sound .blocks)

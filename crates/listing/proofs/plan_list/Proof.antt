@@ -8,7 +8,7 @@ use Rattle.listing.specs.Laws.List.{list-planned}
 use Rattle.listing.proofs.plan_list.Statement.{statement}
 use Rattle.listing.proofs.plan_list.Tie as tie
 
-sound-at : (c : tie.After-known-told) → SoundAt (c .before .h .given .0 .0 .size) (c .before .h .given .0 .0 .dimension) (c .before .h .given .0 .0 .count) (c .before .before .before .before .before .args .m .now)
+sound-at : (c : tie.After-known-told) → SoundAt (c .before .h .given .0 .0) (c .before .before .before .before .before .args .m .now)
 sound-at c = sound-held (c .before .before .before .sound-head .ensures) (c .before .h .given .1)
 
 sound-head-requires : tie.Need-sound-head-requires

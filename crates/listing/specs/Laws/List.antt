@@ -18,7 +18,7 @@ use Rattle.upkeep.specs.declared.found.Found.{Found}
 use Rattle.rows.specs.Planned.{QueryPlanned, PlansFound}
 use Rattle.rows.specs.declared.plan.Plan.{Plan}
 
-module _ {h : Head} {m : List ℕ} (s : SoundAt (h .size) (h .dimension) (h .count) m) where
+module _ {h : Head} {m : List ℕ} (s : SoundAt h m) where
   list-rows : listedRows (foundMoves (h .size) (h .dimension) (h .count) (isMarked (h .size) m) m) ≡ queryRows (boardIn m) list
   unfolding queryRows listOf keptFrom boardIn
   list-rows =
@@ -28,7 +28,7 @@ module _ {h : Head} {m : List ℕ} (s : SoundAt (h .size) (h .dimension) (h .cou
   unfolding queryRefusal
   accepts = refl
 
-  pub list-planned : {found : Found} → Finds (h .size) (h .count) (isMarked (h .size) m) m found → {opened : ℕ} → Opened (h .dimension) m opened
+  pub list-planned : {found : Found} → Finds h (isMarked (h .size) m) m found → {opened : ℕ} → Opened (h .dimension) m opened
       → {lent : ℕ} {p : Plan} → PlansFound h found opened lent p → QueryPlanned list m lent p
   unfolding queryOpens
   list-planned f {opened} search plan =

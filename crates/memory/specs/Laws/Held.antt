@@ -25,7 +25,7 @@ use Rattle.promises.specs.Sound.{Stands, Sound}
 use Rattle.promises.specs.Run.{Bytes}
 use Rattle.promises.specs.Laws.Stands.{stands-dimension, stands-moves, stands-order, stands-fit, stands-once}
 use Rattle.memory.specs.Room.{Room, Numbers, ReadableRows, Ordered}
-use Rattle.memory.specs.Held.{SoundAt, HeldIn}
+use Rattle.memory.specs.Held.{SoundAt, SoundRows, HeldIn}
 use Rattle.memory.specs.Tests.{anyTo, isListed}
 use Rattle.promises.specs.Laws.Tab.{length-tab, getD-tab, map-tab}
 use Rattle.memory.specs.Laws.Places.{tab-each, any-tab}
@@ -51,7 +51,7 @@ distinct-places (n ∷ ns) r (suc i) zero h k e =
 distinct-places (n ∷ ns) r (suc i) (suc j) h k e =
     ap suc (distinct-places ns (and-right (not (has n ns)) (distinct ns) r) i j (le-of-suc-le-suc h) (le-of-suc-le-suc k) e)
 
-module _ (c d n : ℕ) (m : List ℕ) (s : SoundAt c d n m) where
+module _ (c d n : ℕ) (m : List ℕ) (s : SoundRows c d n m) where
   own : (P : ℕ → ℕ → ℕ → Type 0) → P (sizeIn m) (dimensionIn m) (countIn m) → P c d n
   own P x =
       subst (λ (k : ℕ). P k d n) (sym (s .size))
@@ -145,7 +145,7 @@ module _ (c d n : ℕ) (m : List ℕ) (s : SoundAt c d n m) where
 
 -- ---- what is held, by cases
 
-pub sound-held : {m : List ℕ} {r : Held} {h : Head} → HeldIn m r → r ≡ held.Sound h → SoundAt (h .size) (h .dimension) (h .count) m
+pub sound-held : {m : List ℕ} {r : Held} {h : Head} → HeldIn m r → r ≡ held.Sound h → SoundAt h m
 unfolding HeldIn
 sound-held {m} p e = subst (HeldIn m) e p
 
@@ -154,7 +154,7 @@ unfolding HeldIn
 unsound-held {m} p e = subst (HeldIn m) e p
 
 -- Sound memory can be read.
-pub held-readable : {c d n : ℕ} {m : List ℕ} → SoundAt c d n m → ReadableRows c d n m
+pub held-readable : {c d n : ℕ} {m : List ℕ} → SoundRows c d n m → ReadableRows c d n m
 held-readable {c} {d} {n} {m} s =
     record { room = held-room c d n m s; rows = held-few c d n m s; numbers = held-numbers c d n m s; dimension = held-dimension c d n m s }
 

@@ -13,7 +13,7 @@ use Rattle.dominance.specs.Lanes.{Lanes, limit, isFirst}
 use Rattle.dominance.specs.Laws.Lanes.{limits-first}
 use Rattle.promises.specs.Layout.{numberIn, costsIn, moveIn}
 use Rattle.promises.specs.Run.{Bytes}
-use Rattle.memory.specs.Held.{SoundAt}
+use Rattle.memory.specs.Held.{SoundRows}
 use Rattle.memory.specs.Search.{looks, looksAt, seen, seenAt, fits, None, First}
 use Rattle.memory.specs.Tests.{isListed}
 use Rattle.memory.specs.Laws.Costs.{row-length, words-first, words-small}
@@ -98,7 +98,7 @@ module _ (c d : ℕ) (m : List ℕ) (few : d ≤ rowCosts) (b : Bytes m) (i : �
 
 -- ---- sound memory
 
-module _ {c d n : ℕ} {m : List ℕ} (s : SoundAt c d n m) (b : Bytes m) (i : ℕ) (h : i < n) where
+module _ {c d n : ℕ} {m : List ℕ} (s : SoundRows c d n m) (b : Bytes m) (i : ℕ) (h : i < n) where
   later-dominate-not : None (beatsAt c d All m (moveIn c d m i .costs)) i n
   unfolding beats
   later-dominate-not j a g =

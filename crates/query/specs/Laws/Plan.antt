@@ -50,7 +50,7 @@ module _ (h : Head) (rule : Rule) (most : ℕ) (m : List ℕ) where
       (each-map (λ x. by-number x ≡ by-costs x) (moveIn (h .size) (h .dimension) m) places (each-place (λ i. by-number (moveIn (h .size) (h .dimension) m i) ≡ by-costs (moveIn (h .size) (h .dimension) m i)) (h .count) (λ i _. refl)))
       ∙ ap (select by-costs) (sym (tab-places (moveIn (h .size) (h .dimension) m) (h .count)))
 
-  module _ (s : SoundAt (h .size) (h .dimension) (h .count) m) (found : Found) (f : Finds (h .size) (h .count) (staysFor (h .size) (h .dimension) (h .count) rule most m) m found) where
+  module _ (s : SoundAt h m) (found : Found) (f : Finds h (staysFor (h .size) (h .dimension) (h .count) rule most m) m found) where
     kept-rows : listedRows (foundMoves (h .size) (h .dimension) (h .count) (staysFor (h .size) (h .dimension) (h .count) rule most m) m) ≡ keptRows rule most m
     unfolding keptRows
     kept-rows =

@@ -19,7 +19,7 @@ use Rattle.dominance.specs.Lanes.{Lanes, limit, isChosen}
 use Rattle.dominance.specs.Laws.Lanes.{places-limits}
 use Rattle.promises.specs.Layout.{numberIn, costsIn, moveIn, lineFrom}
 use Rattle.promises.specs.Run.{Bytes}
-use Rattle.memory.specs.Held.{SoundAt}
+use Rattle.memory.specs.Held.{SoundRows}
 use Rattle.memory.specs.Search.{looks, looksAt, seen, seenAt, fits, None}
 use Rattle.memory.specs.Tests.{anyTo, isListed}
 use Rattle.memory.specs.Laws.Costs.{row-length, row-cost, words-small}
@@ -75,7 +75,7 @@ module _ (c d : ℕ) (m : List ℕ) (few : d ≤ rowCosts) (b : Bytes m) (set : 
 pub unlisted-beat-not : (c d : ℕ) (rule : Rule) (m x : List ℕ) {j r : ℕ} → None (isListed c m) j r → None (listedBeats c d rule m x) j r
 unlisted-beat-not c d rule m x none k a g = ap (λ (t : Bool). t && beatsAt c d rule m x k) (none k a g)
 
-module _ {c d n : ℕ} {m : List ℕ} (s : SoundAt c d n m) (b : Bytes m) (rule : Rule) (x : List ℕ) (wide : length x ≡ rowCosts) where
+module _ {c d n : ℕ} {m : List ℕ} (s : SoundRows c d n m) (b : Bytes m) (rule : Rule) (x : List ℕ) (wide : length x ≡ rowCosts) where
   listed-enough : anyTo (beatsAt c d rule m x) n ≡ anyTo (listedBeats c d rule m x) n
   unfolding moveIn
   listed-enough =

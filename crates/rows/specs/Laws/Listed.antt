@@ -29,7 +29,7 @@ unfolding rowsAt resultRow moveNumbers listedRows rowOf
 row-results c d m is =
     map-map resultRow (λ i. moveNumbers listed (moveIn c d m i)) is ∙ sym (map-map (rowOf listed) (moveIn c d m) is)
 
-module _ (h : Head) (test : ℕ → Bool) (m : List ℕ) (r : Found) (f : Finds (h .size) (h .count) test m r) where
+module _ (h : Head) (test : ℕ → Bool) (m : List ℕ) (r : Found) (f : Finds h test m r) where
   abbrev c : ℕ
   c = h .size
 
@@ -63,5 +63,5 @@ module _ (h : Head) (test : ℕ → Bool) (m : List ℕ) (r : Found) (f : Finds 
   unfolding listedRows
   found-count = found-number h test m r f ∙ sym (length-map (foundMoves c d n test m) (rowOf listed))
 
-pub listed-asked : {h : Head} {m : List ℕ} → SoundAt (h .size) (h .dimension) (h .count) m → TellingAsked (listedBy h) m
+pub listed-asked : {h : Head} {m : List ℕ} → SoundAt h m → TellingAsked (listedBy h) m
 listed-asked s = record { readable = held-readable s; place = omega arith }

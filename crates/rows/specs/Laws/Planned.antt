@@ -1,20 +1,19 @@
 -- What is foreseen, for each answer; and what is said once it is told.
 use Prim.Native.Nat.{ℕ, zero, suc, _+_, _≤_, _<_}
-use mathlib.Core.Bool.{Bool, true, false, cond}
+use mathlib.Core.Bool.{Bool, cond}
 use mathlib.Core.List.{List, [], _∷_, _++_, map, map-append, append-assoc}
 use mathlib.Core.Path.{_≡_, refl, sym, ap, ap₂, _∙_, subst}
 use native.Mathlib.Nat.{zero-add, add-zero}
 use native.Mathlib.Omega.{arith}
-use borrow.Author.Tests.{ltb-true, ltb-false, eqb-true, ne-eqb}
+use borrow.Author.Tests.{ltb-false, eqb-true, ne-eqb}
 use lib.Dec.{eqb, ltb}
 use lib.ListN.{length, take, drop, length-map, length-append, take-append-drop}
-use lib.Seq.{paste, take-length, take-at, drop-at, drop-drop}
+use lib.Seq.{take-length, take-at, drop-at, drop-drop}
 use Rattle.model.specs.Moves.{Row}
-use Rattle.model.specs.Lists.{listedRows}
 use Rattle.model.specs.Tree.{Tree}
 use Rattle.model.specs.Calls as calls
 use Rattle.model.specs.Calls.{accepted, refusedWith, orElse, rowsAnswer, Query, queryRefusal, queryRows, queryAnswer}
-use Rattle.model.specs.Laws.Bool.{byCases, both-ways}
+use Rattle.model.specs.Laws.Bool.{byCases}
 use Rattle.model.specs.Laws.Basics.{map-take}
 use Rattle.promises.specs.Layout.{dimensionIn, boardIn}
 use Rattle.model.specs.Opening.{queryOpens}
@@ -26,9 +25,9 @@ use Rattle.promises.specs.declared.Verdict.{Verdict}
 use Rattle.promises.specs.declared.Outcome.{Outcome}
 use Rattle.promises.specs.declared.Outcome.the-variants.{Unsound, BadArgument}
 use Rattle.upkeep.specs.declared.found.Found.{Found}
-use Rattle.rows.specs.Telling.{TellingAsked, toldRows, filledRows, listing}
-use Rattle.rows.specs.Planned.{answerBy, Foreseen, Tells, Plans, QueryPlanned, Refuses, PlansFound, put, answered}
-use Rattle.rows.specs.Laws.Telling.{filled-all}
+use Rattle.rows.specs.Telling.{toldRows, filledRows, listing}
+use Rattle.rows.specs.Planned.{answerBy, Foreseen, Tells, QueryPlanned, Refuses, PlansFound, put, answered}
+use Rattle.rows.specs.Laws.Telling.{filled-all, length-none}
 use Rattle.rows.specs.Laws.Listed.{found-rows, found-count, listed-asked}
 use Rattle.rows.specs.declared.plan.Plan.{Plan}
 use Rattle.rows.specs.declared.telling.Telling.{Telling}
@@ -135,10 +134,6 @@ map-drop f zero xs = refl
 map-drop f (suc k) [] = refl
 map-drop f (suc k) (x ∷ xs) = map-drop f k xs
 
-none-left : {A : Type 0} (l : List A) → length l ≡ 0 → l ≡ []
-none-left [] e = refl
-none-left (x ∷ l) e = absurd (omega arith)
-
 -- Nothing put changes nothing.
 put-none : (from : ℕ) (rows : List Row) → put from [] rows ≡ rows
 unfolding put
@@ -198,7 +193,7 @@ module _ {v : Verdict} {new : List Row} {m : List ℕ} {t : Telling} (tells : Te
       by zero e =
           ap (λ (k : ℕ). map resultRow (filledRows (t .told) (t .numbers) m from k rows)) e
           ∙ sym (put-none from (map resultRow rows))
-          ∙ ap (λ (l : List Row). put from l (map resultRow rows)) (sym (none-left new (sym (tells .count z) ∙ e)))
+          ∙ ap (λ (l : List Row). put from l (map resultRow rows)) (sym (length-none new (sym (tells .count z) ∙ e)))
       by (suc k) e = filled-put rows from h (omega (arith, e))
 
   pub tells-none : (rows : List (List ℕ)) (from : ℕ) → 0 < numberOf v → filledRows (t .told) (t .numbers) m from (t .count) rows ≡ rows

@@ -8,7 +8,7 @@ use native.Mathlib.Nat.{add-suc, zero-add}
 use native.Mathlib.Numerals.{add-one}
 use native.Mathlib.Omega.{arith}
 use borrow.Author.Tests.{ltb-true, ltb-false, lt-ltb, le-ltb, eq-eqb, ne-eqb}
-use lib.Dec.{eqb, ltb}
+use lib.Dec.{ltb}
 use lib.ListN.{length, getD, set, drop, replicate, length-set}
 use lib.Seq.{paste, paste-zero, paste-suc, drop-drop}
 use Rattle.model.specs.Basics.{consIf, select, numbersFrom, firstOr}
@@ -200,6 +200,10 @@ module _ (t : Told) (numbers m : List ℕ) where
   next-row k =
       ap (λ (js : List ℕ). firstOr (replicate (2 + rowCosts) 0) (map (rowAt t m) js)) (position-from t numbers m k)
       ∙ first-drop (rowAt t m) (replicate (2 + rowCosts) 0) k (toldFrom t numbers m 0)
+
+  pub told-row : TellingAsked t m → (k : ℕ) → nextRow t numbers m (position t numbers m k) ≡ getD (toldRows t numbers m) k (replicate (2 + rowCosts) 0)
+  told-row asked k =
+      next-row k ∙ ap (λ (rows : List (List ℕ)). getD rows k (replicate (2 + rowCosts) 0)) (told-all (asked .place))
 
   filled-some : (rows : List (List ℕ)) (from k : ℕ) → k ≤ length told → from + k ≤ length rows → filledRows t numbers m from k rows ≡ paste rows from told k
   unfolding filledRows

@@ -40,7 +40,7 @@ use Rattle.memory.specs.Laws.Lines.{length-line, moveAt-line, heightAt-line}
 use Rattle.tree.specs.Rows.{NodeEnd}
 use Rattle.tree.specs.Laws.Corners.{corner-before}
 use Rattle.tree.specs.Laws.Heights.{end-line}
-use Rattle.tree.specs.Search.{dominatesCorner, cornerDominated, goesWithin, cornerAt, opensPlaces, opensAt, LevelAt, NodesFrom, Passed, LeafFrom, SoundAt, Opened}
+use Rattle.tree.specs.Search.{dominatesCorner, cornerDominated, goesWithin, cornerAt, opensPlaces, opensAt, LevelAt, NodesFrom, Passed, LeafRows, SoundRows, Opened}
 use Rattle.tree.specs.declared.nodes.Leaf.{Leaf}
 
 -- ---- sound memory
@@ -59,14 +59,14 @@ pub record Searchable (c d n : ℕ) (m : List ℕ) : Type 0 where
 stands-whole : (m : List ℕ) (t : Tree) → Stands m t → WholeTree t
 stands-whole m t s = tree-whole t (ruled-filled (dimensionIn m) t (s .rules))
 
-first-held : {c d n : ℕ} {m : List ℕ} → SoundAt c d n m → 0 < n → 0 < heightAt (lineFrom c d n m) 0
+first-held : {c d n : ℕ} {m : List ℕ} → SoundRows c d n m → 0 < n → 0 < heightAt (lineFrom c d n m) 0
 first-held {c} {d} {n} {m} s h =
     let t = s .sound .tree in
     let line = held-line c d n m s t (s .sound .stands) in
     subst (λ (rs : List Placed). 0 < heightAt rs 0) (sym line)
     (first-height t (stands-whole m t (s .sound .stands)) (omega (arith, ap length line, length-line c d n m)))
 
-pub sound-searchable : (c d n : ℕ) (m : List ℕ) → SoundAt c d n m → Bytes m → Searchable c d n m
+pub sound-searchable : (c d n : ℕ) (m : List ℕ) → SoundRows c d n m → Bytes m → Searchable c d n m
 unfolding Bytes lineFrom placedIn heightIn
 sound-searchable c d n m s b =
     record {
@@ -240,7 +240,7 @@ module _ {c d n : ℕ} {m : List ℕ} (s : Searchable c d n m) (goes from : ℕ)
           }
 
       -- A leaf that is opened.
-      pub search-leaf : opens ≡ true → l ≡ 1 → LeafFrom c d goes n m from (record { start = i; end = e; opened = opened + 1 })
+      pub search-leaf : opens ≡ true → l ≡ 1 → LeafRows c d goes n m from (record { start = i; end = e; opened = opened + 1 })
       search-leaf q leaf =
           record {
             next = record {
@@ -259,7 +259,7 @@ module _ {c d n : ℕ} {m : List ℕ} (s : Searchable c d n m) (goes from : ℕ)
               ∙ ap (λ (k : ℕ). suc (openedPast test rs k)) (sym (end-line d f))
 
   -- No leaf is left.
-  pub search-end : (opened i l : ℕ) → Searching c d goes n m from opened i l → n ≤ i → LeafFrom c d goes n m from (record { start = n; end = n; opened = opened })
+  pub search-end : (opened i l : ℕ) → Searching c d goes n m from opened i l → n ≤ i → LeafRows c d goes n m from (record { start = n; end = n; opened = opened })
   search-end opened i l w h =
       record {
         next = record {
@@ -289,14 +289,14 @@ module _ {c d goes n : ℕ} {m : List ℕ} where
         total = sym (zero-add _);
       }
 
-  pub counting-leaf : (opened i : ℕ) (r : Leaf) → Counting c d goes n m opened i → LeafFrom c d goes n m i r → Counting c d goes n m (opened + r .opened) (r .end)
+  pub counting-leaf : (opened i : ℕ) (r : Leaf) → Counting c d goes n m opened i → LeafRows c d goes n m i r → Counting c d goes n m (opened + r .opened) (r .end)
   counting-leaf opened i r w leaf =
       record {
         start = leaf .after;
         total = omega (arith, w .total, leaf .next .total);
       }
 
-  pub counting-few : Searchable c d n m → (opened i : ℕ) (r : Leaf) → Counting c d goes n m opened i → LeafFrom c d goes n m i r → opened + r .opened ≤ 255 * n
+  pub counting-few : Searchable c d n m → (opened i : ℕ) (r : Leaf) → Counting c d goes n m opened i → LeafRows c d goes n m i r → opened + r .opened ≤ 255 * n
   counting-few s opened i r w leaf =
       omega (arith, w .total, leaf .next .total, opened-few (opensAt c d goes n m) (lineFrom c d n m) 0 (s .low), length-line c d n m)
 
@@ -306,13 +306,13 @@ module _ {c d goes n : ℕ} {m : List ℕ} where
       (arith, w .total, opened-end (opensAt c d goes n m) (lineFrom c d n m) i (heightAt (lineFrom c d n m) i) (omega (arith, length-line c d n m)))
 
 -- All of them, for every tree that stands in the memory.
-pub opened-nodes : {c d n : ℕ} {m : List ℕ} (goes : ℕ) → SoundAt c d n m → (t : Tree) → Stands m t
+pub opened-nodes : {c d n : ℕ} {m : List ℕ} (goes : ℕ) → SoundRows c d n m → (t : Tree) → Stands m t
     → openedPast (opensAt c d goes n m) (lineFrom c d n m) 0 ≡ count (opensAt c d goes n m) (nodesOf t)
 opened-nodes {c} {d} {n} {m} goes s t x =
     ap (λ (rs : List Placed). openedPast (opensAt c d goes n m) rs 0) (held-line c d n m s t x)
     ∙ opened-all (opensAt c d goes n m) t (stands-whole m t x)
 
-pub list-opened : {c d n : ℕ} {m : List ℕ} → SoundAt c d n m → Bytes m → (opened i : ℕ) → Counting c d n n m opened i → n ≤ i → Opened d m opened
+pub list-opened : {c d n : ℕ} {m : List ℕ} → SoundRows c d n m → Bytes m → (opened i : ℕ) → Counting c d n n m opened i → n ≤ i → Opened d m opened
 unfolding nodesOpened
 list-opened {c} {d} {n} {m} s b opened i w h =
     record {

@@ -30,12 +30,12 @@ use Rattle.line.specs.Search.{openedPast}
 use Rattle.promises.specs.Layout.{numberIn, moveIn, lineFrom}
 use Rattle.promises.specs.Sound.{Stands}
 use Rattle.promises.specs.Run.{Bytes}
-use Rattle.memory.specs.Held.{SoundAt}
+use Rattle.memory.specs.Held.{SoundRows}
 use Rattle.memory.specs.Tests.{anyTo, isListed}
 use Rattle.memory.specs.Laws.Places.{anyTo-ext}
 use Rattle.memory.specs.Laws.Lines.{moveAt-line}
 use Rattle.memory.specs.Laws.Held.{held-dimension, held-moves, held-order, held-any, held-listed, held-fit, held-fit-at, held-distinct}
-use Rattle.tree.specs.Search.{cornerDominated, goesWithin, opensAt, Passed, LeafFrom}
+use Rattle.tree.specs.Search.{cornerDominated, goesWithin, opensAt, Passed, LeafRows}
 use Rattle.tree.specs.Laws.Search.{Counting, counting-all, opened-nodes}
 use Rattle.tree.specs.declared.nodes.Leaf.{Leaf}
 use Rattle.upkeep.specs.Change.{goesListed, hiddenByOthers, hiddenByComing, comesUp, entersAt, Passing, Entering}
@@ -45,7 +45,7 @@ use Rattle.upkeep.specs.Laws.Passing.{none-passes, passing-join, passing
 use Rattle.upkeep.specs.declared.exchange.Exchange.{Exchange}
 use Rattle.upkeep.specs.declared.entering.Entered.{Entered}
 
-module _ (c d n : ℕ) (m : List ℕ) (s : SoundAt c d n m) (b : Bytes m) where
+module _ (c d n : ℕ) (m : List ℕ) (s : SoundRows c d n m) (b : Bytes m) where
   abbrev before : List Move
   before = movesIn (lineFrom c d n m)
 
@@ -187,7 +187,7 @@ module _ (c d n : ℕ) (m : List ℕ) (s : SoundAt c d n m) (b : Bytes m) where
   -- The places up to the next leaf add nothing.
   pub leaf-enters : (k : Exchange) {ws ws' ws'' : List ℕ} {i entered entered' : ℕ} (r : Leaf)
       → Passing c m (entersAt c d n k m) ws 0 i ws' entered
-      → LeafFrom c d (k .goes) n m i r
+      → LeafRows c d (k .goes) n m i r
       → Passing c m (entersAt c d n k m) ws' (r .start) (r .end) ws'' entered'
       → Passing c m (entersAt c d n k m) ws 0 (r .end) ws'' (entered + entered')
   leaf-enters k {entered = entered} {entered'} r found leaf more =

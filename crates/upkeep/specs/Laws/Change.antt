@@ -25,12 +25,12 @@ use Rattle.promises.specs.Layout.{numberIn, moveIn, lineFrom}
 use Rattle.promises.specs.Sound.{Stands}
 use Rattle.promises.specs.Run.{Bytes}
 use Rattle.dominance.specs.Move.{asMove}
-use Rattle.memory.specs.Held.{SoundAt}
+use Rattle.memory.specs.Held.{SoundRows}
 use Rattle.memory.specs.Tests.{isListed}
 use Rattle.memory.specs.Laws.Lines.{movesIn-line}
 use Rattle.memory.specs.Laws.Held.{held-dimension, held-order, held-listed, held-fit, held-fit-at, held-once}
 use Rattle.numbers.specs.Set.{inSet}
-use Rattle.upkeep.specs.Change.{dropAt, movesAfter, stays, comingListed, goesListed, hiddenByOthers, hiddenByComing, comesUp, leaves, leavesAt, entersAt, Passing, Upkept}
+use Rattle.upkeep.specs.Change.{dropAt, movesAfter, stays, comingListed, goesListed, hiddenByOthers, hiddenByComing, comesUp, leaves, leavesAt, entersAt, Passing, UpkeptRows}
 use Rattle.upkeep.specs.Laws.Places.{place-below, places-all, tab-places, anyTo-places, drop-places}
 use Rattle.upkeep.specs.Laws.Passing.{passing-adds, passing-at}
 use Rattle.upkeep.specs.declared.exchange.Exchange.{Exchange}
@@ -96,14 +96,14 @@ module _ (c d n : ℕ) (m : List ℕ) where
         (λ j _. and-right (not (eqb j g)) (hides d (moveIn c d m j) x)) (sym hidden-rest ∙ e)
 
 -- Two places are the same exactly if their numbers are.
-pub same-place : (c d n : ℕ) (m : List ℕ) → SoundAt c d n m → Bytes m → (i g : ℕ) → i < n → g < n → eqb i g ≡ eqb (numberIn c m i) (numberIn c m g)
+pub same-place : (c d n : ℕ) (m : List ℕ) → SoundRows c d n m → Bytes m → (i g : ℕ) → i < n → g < n → eqb i g ≡ eqb (numberIn c m i) (numberIn c m g)
 same-place c d n m s b i g h l =
     same-test (eqb i g) (eqb (numberIn c m i) (numberIn c m g))
     (λ e. eq-eqb (numberIn c m i) (numberIn c m g) (ap (numberIn c m) (eqb-true i g e)))
     (λ e. eq-eqb i g (held-once c d n m s b i g h l (eqb-true (numberIn c m i) (numberIn c m g) e)))
 
 -- The moves left are those of other numbers.
-pub rest-without : (c d n g : ℕ) (m : List ℕ) → SoundAt c d n m → Bytes m → g < n
+pub rest-without : (c d n g : ℕ) (m : List ℕ) → SoundRows c d n m → Bytes m → g < n
     → dropAt g (movesIn (lineFrom c d n m)) ≡ without (numberIn c m g) (movesIn (lineFrom c d n m))
 unfolding without moveIn
 rest-without c d n g m s b l =
@@ -147,7 +147,7 @@ enters-none c d n k m i e =
     x : Move
     x = moveIn c d m i
 
-module _ (c d n : ℕ) (k : Exchange) (m : List ℕ) (s : SoundAt c d n m) (b : Bytes m) where
+module _ (c d n : ℕ) (k : Exchange) (m : List ℕ) (s : SoundRows c d n m) (b : Bytes m) where
   abbrev before : List Move
   before = movesIn (lineFrom c d n m)
 
@@ -251,7 +251,7 @@ module _ (c d n : ℕ) (k : Exchange) (m : List ℕ) (s : SoundAt c d n m) (b : 
       → Passing c m (entersAt c d n k m) ws' 0 n (u .changed) (u .entered)
       → (k .goes < n → (t : Tree) → Stands m t → u .opened ≡ withdrawOpens d (numberIn c m (k .goes)) t)
       → u .listed ≡ comingListed c d n k m
-      → Upkept c d n k m u
+      → UpkeptRows c d n k m u
   upkept u none out up opens e =
       record {
         changed = λ i h.

@@ -9,10 +9,10 @@ use Rattle.model.specs.Basics.{select, count, numbersFrom}
 use Rattle.model.specs.Laws.Basics.{select-map}
 use Rattle.line.specs.Line.{movesIn}
 use Rattle.promises.specs.Layout.{numberIn, moveIn, lineFrom, lineIn, boardIn}
-use Rattle.memory.specs.Held.{SoundAt}
+use Rattle.memory.specs.Held.{SoundRows}
 use Rattle.memory.specs.declared.sound.Head.{Head}
 use Rattle.numbers.specs.Set.{inSet}
-use Rattle.upkeep.specs.Found.{Finds, foundMoves}
+use Rattle.upkeep.specs.Found.{Finds, FindsRows, foundMoves}
 use Rattle.upkeep.specs.Change.{Passing}
 use Rattle.upkeep.specs.Laws.Places.{places-all}
 use Rattle.upkeep.specs.Laws.Passing.{passing-at}
@@ -25,7 +25,7 @@ use Rattle.upkeep.specs.declared.found.Found.{Found}
 abbrev pub FindsTo : (c : ℕ) (m : List ℕ) → (ℕ → Bool) → List ℕ → ℕ → List ℕ → ℕ → Type 0
 FindsTo c m test ws = Passing c m (λ i. test (numberIn c m i)) ws 0
 
-pub finds-all : (c : ℕ) (m : List ℕ) (test : ℕ → Bool) (n i : ℕ) (r : Found) {ws : List ℕ} → i ≡ n → ((j : ℕ) → inSet ws j ≡ false) → FindsTo c m test ws i (r .numbers) (r .count) → Finds c n test m r
+pub finds-all : (c : ℕ) (m : List ℕ) (test : ℕ → Bool) (n i : ℕ) (r : Found) {ws : List ℕ} → i ≡ n → ((j : ℕ) → inSet ws j ≡ false) → FindsTo c m test ws i (r .numbers) (r .count) → FindsRows c n test m r
 unfolding count
 finds-all c m test n i r e none h =
     let at : ℕ → Bool = λ i. test (numberIn c m i) in
@@ -34,11 +34,11 @@ finds-all c m test n i r e none h =
       counts = h .counts ∙ ap length (places-all at i) ∙ ap (λ (x : ℕ). count at (numbersFrom 0 x)) e;
     }
 
-pub board-line : {c d n : ℕ} {m : List ℕ} → SoundAt c d n m → movesIn (lineFrom c d n m) ≡ boardIn m .moves
+pub board-line : {c d n : ℕ} {m : List ℕ} → SoundRows c d n m → movesIn (lineFrom c d n m) ≡ boardIn m .moves
 unfolding boardIn lineIn
 board-line {m = m} h = λ j. movesIn (lineFrom (h .size j) (h .dimension j) (h .count j) m)
 
-module _ (h : Head) (test : ℕ → Bool) (m : List ℕ) (r : Found) (f : Finds (h .size) (h .count) test m r) where
+module _ (h : Head) (test : ℕ → Bool) (m : List ℕ) (r : Found) (f : Finds h test m r) where
   abbrev c : ℕ
   c = h .size
 

@@ -19,7 +19,7 @@ use Rattle.line.specs.Places.{moveAt}
 use Rattle.line.specs.Enter.{placeFor}
 use Rattle.promises.specs.Layout.{numberIn, moveIn, lineFrom}
 use Rattle.promises.specs.Run.{Bytes}
-use Rattle.memory.specs.Held.{SoundAt}
+use Rattle.memory.specs.Held.{SoundRows}
 use Rattle.memory.specs.Search.{looks, looksAt, seen, seenAt, fits, First}
 use Rattle.memory.specs.Tests.{anyTo}
 use Rattle.memory.specs.Laws.Places.{allTo-all, anyTo-found}
@@ -33,7 +33,7 @@ use Rattle.upkeep.specs.Laws.Place.{place-low, place-high}
 
 -- ---- places that part the moves
 
-module _ (c d n : ℕ) (m : List ℕ) (s : SoundAt c d n m) (b : Bytes m) where
+module _ (c d n : ℕ) (m : List ℕ) (s : SoundRows c d n m) (b : Bytes m) where
   -- What hides stands earlier.
   later-not : (x : Move) → Fit c d x → (j : ℕ) → j < n → moveBefore d (moveIn c d m j) x ≡ false → hides d (moveIn c d m j) x ≡ false
   later-not x fit j l e =

@@ -6,11 +6,10 @@ use mathlib.Core.Logic.{⊎-elim}
 use mathlib.Core.Path.{_≡_, refl, sym, ap, ap₂, _∙_}
 use native.Mathlib.Omega.{arith}
 use borrow.Author.Needs.{needs}
-use borrow.Author.Tests.{ltb-true, ltb-false, le-leb, lt-leb}
+use borrow.Author.Tests.{le-leb, lt-leb}
 use Rattle.zorder.specs.Refusal.{refusal, costPastBad}
 use Rattle.model.specs.Calls.{blockBad}
 use Rattle.model.specs.Laws.Bool.{both-ways}
-use Rattle.model.specs.Laws.Blocks.{block-low, block-high}
 use Rattle.promises.specs.Answers.{outcomeNumber}
 use Rattle.board.specs.Kind.{comes}
 use Rattle.board.specs.Laws.Judge.{judges-by}
@@ -28,14 +27,14 @@ unfolding refusal outcomeNumber
 returns-2 c =
     let a = c .before .before .before .before .before .before .before .args in
     judges-by (a .h) (a .x) (a .on) false true _ _ (lt-leb (a .h .size) (a .x .number) (omega (arith, c .before .before .before .before .if1 .left)))
-    (ap₂ _&&_ (sym (c .before .before .before .comes .ensures) ∙ c .before .before .if2 .taken) (block-high (a .x .block) (ltb-true 63 (a .x .block) (c .if3 .taken))))
+    (ap₂ _&&_ (sym (c .before .before .before .comes .ensures) ∙ c .before .before .if2 .taken) (sym (c .before .block-bad .ensures) ∙ c .if3 .taken))
     refl refl refl
 
 -- Once no block turns the change down, ..
 low : (c : tie.Joined2) → (comes (c .before .before .before .before .before .args .x .kind) && blockBad (c .before .before .before .before .before .args .x .block)) ≡ false
 low c =
     ⊎-elim
-    (λ w. ap₂ _&&_ (sym (c .before .comes .ensures) ∙ w .0 .taken) (block-low (c .before .before .before .before .before .args .x .block) (ltb-false 63 (c .before .before .before .before .before .args .x .block) (w .2 .left))))
+    (λ w. ap₂ _&&_ (sym (c .before .comes .ensures) ∙ w .0 .taken) (sym (w .1 .ensures) ∙ w .2 .left))
     (λ w. ap₂ _&&_ (sym (c .before .comes .ensures) ∙ w .left) refl)
     (c .if2 .came)
 
@@ -103,6 +102,7 @@ judge-spec =
     (tie.spec
     (λ c. search needs)
     returns
+    (λ c κs. search needs)
     (λ c κs. search needs)
     returns-2
     (λ c κs. search needs)

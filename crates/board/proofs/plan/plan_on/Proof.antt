@@ -95,13 +95,13 @@ upkeep-of-requires : tie.Need-upkeep-of-requires
 upkeep-of-requires c κs =
     let made = c .before .before .before in
     let a = made .before .before .before .before .before .before .before .args in
-    (as-exchange made (λ k. ChangeAsked (a .h .size) (a .h .dimension) (a .h .count) k (a .m .now)) (asked (made .before) .asked), c .coming-place .ensures)
+    (as-exchange made (λ k. ChangeAsked (a .h) k (a .m .now)) (asked (made .before) .asked), c .coming-place .ensures)
 
 needed-requires : tie.Need-needed-requires
 needed-requires c κs =
     let made = c .before .before .before .before in
     let a = made .before .before .before .before .before .before .before .args in
-    upkeep-counted (as-exchange made (λ k. ChangeAsked (a .h .size) (a .h .dimension) (a .h .count) k (a .m .now)) (asked (made .before) .asked)) (c .upkeep-of .ensures)
+    upkeep-counted (as-exchange made (λ k. ChangeAsked (a .h) k (a .m .now)) (asked (made .before) .asked)) (c .upkeep-of .ensures)
 
 returns-3 : tie.Need-returns-3
 returns-3 c =
@@ -112,8 +112,8 @@ returns-3 c =
     let up = c .before .before .before .upkeep-of in
     plan-full (own .before .pre) (bytes own) (a .x) (costs (own .before)) (made .before .before .before .before .before .place-of .ensures) (sym (judges (judge turned)) ∙ accepted turned)
     (of-exchange made (λ k. alike (a .h .size) (a .h .dimension) (a .h .count) k (a .m .now) ≡ false) (sym (c .before .before .before .before .before .before .alike .ensures) ∙ c .before .before .before .before .before .if2 .left))
-    (of-exchange made (λ k. Upkept (a .h .size) (a .h .dimension) (a .h .count) k (a .m .now) (up .result)) (up .ensures))
-    (of-exchange made (λ k. ComingPlace (a .h .size) (a .h .dimension) (a .h .count) k (a .m .now) (c .before .before .before .before .coming-place .result)) (c .before .before .before .before .coming-place .ensures))
+    (of-exchange made (λ k. Upkept (a .h) k (a .m .now) (up .result)) (up .ensures))
+    (of-exchange made (λ k. ComingPlace (a .h) k (a .m .now) (c .before .before .before .before .coming-place .result)) (c .before .before .before .before .coming-place .ensures))
     (c .before .before .needed .ensures) (c .before .enough .result) (c .before .enough .ensures)
     (c .reported .ensures ∙ ap (λ (k : Exchange). cond (k .comes) 0 (up .result .opened)) (made .exchange-of .ensures))
 

@@ -1,38 +1,14 @@
 -- `serving::answer` meets its contract. Assumes nothing.
 use borrow.Author.Needs.{needs}
-use mathlib.Core.Bool.{true}
-use mathlib.Core.List.{[], _∷_}
-use mathlib.Core.Path.{_≡_, refl, ap}
-use denote.Enum.Declared.{tagOf}
-use types.Run.{OneOf, miss}
-use Rattle.framing.specs.Laws.Serving.{ready-most, answers-line, asked-now, serve-as, served-early, served-wrong}
+use mathlib.Core.Path.{refl, ap}
+use Rattle.board.specs.Kind.{changeOf}
+use Rattle.board.specs.declared.change.Kind.the-variants as change
+use Rattle.framing.specs.Laws.Serving.{ready-most, answers-line, asked-now, change-frame, serve-as, served-early, served-wrong}
 use Rattle.framing.specs.Reading.{framed, asFrame, calling}
-use Rattle.framing.specs.Serving.{changing}
 use Rattle.framing.specs.declared.frame.Kind.{Kind}
-use Rattle.framing.specs.declared.frame.Kind.the-variants.{Load, Enter, Withdraw, Recost, List, Early, Wrong}
-use Rattle.framing.proofs.frame.Kind.{the-type}
+use Rattle.framing.specs.declared.frame.Kind.the-variants.{Enter, Withdraw, Recost}
 use Rattle.framing.proofs.serving.answer.Statement.{statement}
 use Rattle.framing.proofs.serving.answer.Tie as tie
-
-changes : (k : Kind) → OneOf (1 ∷ 2 ∷ 3 ∷ []) (tagOf the-type k) → changing k ≡ true
-unfolding changing
-changes Load h = absurd (miss (1 ∷ 2 ∷ 3 ∷ []) 0 tt h)
-changes Enter h = refl
-changes Withdraw h = refl
-changes Recost h = refl
-changes List h = absurd (miss (1 ∷ 2 ∷ 3 ∷ []) 4 tt h)
-changes Early h = absurd (miss (1 ∷ 2 ∷ 3 ∷ []) 5 tt h)
-changes Wrong h = absurd (miss (1 ∷ 2 ∷ 3 ∷ []) 6 tt h)
-
-calls : (k : Kind) → OneOf (1 ∷ 2 ∷ 3 ∷ []) (tagOf the-type k) → calling k ≡ true
-unfolding calling
-calls Load h = absurd (miss (1 ∷ 2 ∷ 3 ∷ []) 0 tt h)
-calls Enter h = refl
-calls Withdraw h = refl
-calls Recost h = refl
-calls List h = refl
-calls Early h = absurd (miss (1 ∷ 2 ∷ 3 ∷ []) 5 tt h)
-calls Wrong h = absurd (miss (1 ∷ 2 ∷ 3 ∷ []) 6 tt h)
 
 frame-of-requires : tie.Need-frame-of-requires
 frame-of-requires c κs = ready-most _ _ (c .before .before .pre .0)
@@ -55,16 +31,26 @@ listed-requires c κs =
     let found = c .before .before .before .before .frame-of in
     asked-now (found .result .kind) (start .pre .0) (found .ensures .timely) (start .pre .1) (ap calling (c .before .before .enum-told2 .given .1))
 
-changed-requires : tie.Need-changed-requires
-changed-requires c κs =
+change-requires : tie.Need-change-requires
+unfolding calling
+change-requires c κs =
     let start = c .before .before .before .before .before .before .before .before in
     let found = c .before .before .before .before .before .frame-of in
-    let k = found .result .kind in
-    record {
-      asked = asked-now k (start .pre .0) (found .ensures .timely) (start .pre .1) (calls k (c .before .before .before .before .match .keys5));
-      call = c .before .before .change-plan .ensures .call;
-      planned = c .before .before .change-plan .ensures .planned;
-    }
+    asked-now (found .result .kind) (start .pre .0) (found .ensures .timely) (start .pre .1) (ap calling (c .before .before .before .enum-told5 .given .1))
+
+change-requires-2 : tie.Need-change-requires-2
+unfolding calling
+change-requires-2 c κs =
+    let start = c .before .before .before .before .before .before .before .before in
+    let found = c .before .before .before .before .before .frame-of in
+    asked-now (found .result .kind) (start .pre .0) (found .ensures .timely) (start .pre .1) (ap calling (c .before .before .before .enum-told6 .given .1))
+
+change-requires-3 : tie.Need-change-requires-3
+unfolding calling
+change-requires-3 c κs =
+    let start = c .before .before .before .before .before .before .before .before in
+    let found = c .before .before .before .before .before .frame-of in
+    asked-now (found .result .kind) (start .pre .0) (found .ensures .timely) (start .pre .1) (ap calling (c .before .before .before .enum-told7 .given .1))
 
 returns-2 : tie.Need-returns-2
 unfolding asFrame framed
@@ -100,15 +86,34 @@ returns-4 c =
     (served-wrong _ _ _ _ _ (c .before .before .put-refusal2 .ensures)))
 
 returns-5 : tie.Need-returns-5
+unfolding framed changeOf
 returns-5 c =
     let start = c .before .before .before .before .before .before .before .before .before .before .before .before .before in
     let found = c .before .before .before .before .before .before .before .before .before .before .frame-of in
-    let f = found .result in
-    let plan = c .before .before .before .before .before .before .before .change-plan .ensures in
-    answers-line (start .args .d) (start .args .line) f _ _ _ _ _ (start .pre .0) (found .ensures)
+    answers-line (start .args .d) (start .args .line) (found .result) _ _ _ _ _ (start .pre .0) (found .ensures)
     (serve-as
-    (plan .frame (changes (f .kind) (c .before .before .before .before .before .before .before .before .before .match .keys5)))
-    (c .before .before .before .before .changed .ensures .serves (plan .call) (plan .planned)))
+    (change-frame (found .result) Enter change.Enter (c .before .before .before .before .before .before .before .before .enum-told5 .given .1) (c .before .before .before .before .before .before .asked .ensures) refl)
+    (c .before .before .before .before .change .ensures))
+
+returns-6 : tie.Need-returns-6
+unfolding framed changeOf
+returns-6 c =
+    let start = c .before .before .before .before .before .before .before .before .before .before .before .before .before in
+    let found = c .before .before .before .before .before .before .before .before .before .before .frame-of in
+    answers-line (start .args .d) (start .args .line) (found .result) _ _ _ _ _ (start .pre .0) (found .ensures)
+    (serve-as
+    (change-frame (found .result) Withdraw change.Withdraw (c .before .before .before .before .before .before .before .before .enum-told6 .given .1) (c .before .before .before .before .before .before .asked2 .ensures) refl)
+    (c .before .before .before .before .change2 .ensures))
+
+returns-7 : tie.Need-returns-7
+unfolding framed changeOf
+returns-7 c =
+    let start = c .before .before .before .before .before .before .before .before .before .before .before .before .before in
+    let found = c .before .before .before .before .before .before .before .before .before .before .frame-of in
+    answers-line (start .args .d) (start .args .line) (found .result) _ _ _ _ _ (start .pre .0) (found .ensures)
+    (serve-as
+    (change-frame (found .result) Recost change.Recost (c .before .before .before .before .before .before .before .before .enum-told7 .given .1) (c .before .before .before .before .before .before .asked3 .ensures) refl)
+    (c .before .before .before .before .change3 .ensures))
 
 pub answer-spec : {M : Type 1} → statement M
 answer-spec =
@@ -126,8 +131,15 @@ answer-spec =
     (λ c κs. search needs)
     (λ c. c .match .keys4)
     (λ c κs. search needs)
+    (λ c. c .match .keys5)
     (λ c κs. tt)
-    changed-requires
+    change-requires
+    (λ c. c .match .keys6)
+    (λ c κs. tt)
+    change-requires-2
+    (λ c. c .match .keys7)
+    (λ c κs. tt)
+    change-requires-3
     (λ c. refl)
     (λ c. search needs)
     returns-2
@@ -137,4 +149,10 @@ answer-spec =
     returns-4
     (λ c. search needs)
     (λ c. search needs)
-    returns-5)
+    returns-5
+    (λ c. search needs)
+    (λ c. search needs)
+    returns-6
+    (λ c. search needs)
+    (λ c. search needs)
+    returns-7)

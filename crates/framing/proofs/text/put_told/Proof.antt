@@ -1,16 +1,14 @@
 -- `text::put_told` meets its contract. Assumes nothing.
 use Prim.Native.Nat.{ℕ, _+_, _-_, _*_, _≤_, _<_}
-use mathlib.Core.List.{map, flatMap}
-use mathlib.Core.Path.{_≡_, refl, _∙_}
+use mathlib.Core.List.{flatMap}
+use mathlib.Core.Path.{_≡_, refl}
 use native.Mathlib.Omega.{arith}
-use borrow.Author.Needs.{needs}
 use lib.ListN.{take}
 use Rattle.promises.specs.Answers.{resultRow}
-use Rattle.upkeep.specs.Telling.{toldRows, position}
-use Rattle.upkeep.specs.Laws.Telling.{whole-asked, whole-row, whole-at}
+use Rattle.rows.specs.Telling.{position}
 use Rattle.framing.specs.Reading.{mostDigits}
 use Rattle.framing.specs.Text.{rowText}
-use Rattle.framing.specs.Writing.{TextPut}
+use Rattle.framing.specs.Writing.{TextPut, tellingRows}
 use Rattle.framing.specs.Laws.Put.{put-none, put-both, put-as}
 use Rattle.framing.specs.Laws.Texts.{rowText-most}
 use Rattle.framing.specs.Laws.Told.{position-more, told-more, told-end}
@@ -18,14 +16,14 @@ use Rattle.framing.proofs.text.put_told.Statement.{statement}
 use Rattle.framing.proofs.text.put_told.Tie as tie
 
 abbrev Inv-loop : tie.InvT-loop
-Inv-loop out₀ at d m count t told next₀ i₀ k₀ out next i k =
+Inv-loop out₀ at d m t told count next₀ i₀ k₀ out next i k =
     (k ≤ count)
     × (next ≤ next₀ + mostDigits * k)
-    × (i ≡ position t m k)
-    × TextPut (flatMap (rowText d) (take k (map resultRow (toldRows t m)))) out₀ next₀ out next
+    × (i ≡ position (t .told) (t .numbers) m k)
+    × TextPut (flatMap (rowText d) (take k (tellingRows t m))) out₀ next₀ out next
 
 abbrev μ-loop : tie.MeasureT-loop
-μ-loop out₀ at d m count t told next₀ i₀ k₀ out next i k = count - k
+μ-loop out₀ at d m t told count next₀ i₀ k₀ out next i k = count - k
 
 some : (k count : ℕ) → k < count → 0 < count
 some k count more = omega arith
@@ -39,22 +37,19 @@ loop-holds c = (omega arith, omega arith, refl, put-none _ _)
 
 told-next-requires : tie.Need-told-next-requires Inv-loop μ-loop
 told-next-requires c κs =
-    let start = c .before .before .before .before .before .before .before in
-    let a = start .args in
-    whole-asked (a .t5) (a .m .now) (c .before .before .before .before .told-of .ensures) (start .pre .asked (some _ _ (c .before .before .loop-test .taken)))
+    c .before .before .before .before .before .before .before .pre .asked (some _ _ (c .before .before .loop-test .taken))
 
 loop-again : tie.Need-loop-again Inv-loop μ-loop
 loop-again c =
     let start = c .before .before .before .before .before .before .before .before .before .before .before .before .before in
     let a = start .args in
     let own = c .before .before .before .before .before .before .before .before .before .loop in
-    let parts = c .before .before .before .before .before .before .before .before .before .before .told-of .ensures in
     let told = c .before .before .before .before .before .told-next in (
       omega arith,
       omega (arith, rowText-most (a .d) (resultRow (told .result .row))),
-      position-more (a .t5) (a .m .now) (own .k) (own .inv .2) (told .ensures .1 ∙ whole-at (a .t5) (a .m .now) parts (own .i)),
+      position-more (a .t5) (a .m .now) (own .k) (own .inv .2) (told .ensures .1),
       put-as
-          (told-more (a .t5) (a .m .now) (a .count) (start .pre .rows) (start .pre .asked) (a .d) (own .k) (omega arith) (own .inv .2) (told .ensures .0 ∙ whole-row (a .t5) (a .m .now) parts (own .i)))
+          (told-more (a .t5) (a .m .now) (start .pre) (own .k) (omega arith) (own .inv .2) (told .ensures .0))
           (put-both (own .inv .3) (c .before .before .put-row .ensures)),
     )
 
@@ -63,7 +58,7 @@ returns c =
     let start = c .before .before .before .before .before in
     let a = start .args in
     let own = c .before .loop in
-    put-as (told-end (a .t5) (a .m .now) (a .count) (start .pre .rows) (start .pre .asked) (a .d) {k = own .k} (omega arith)) (own .inv .3)
+    put-as (told-end (a .t5) (a .m .now) (start .pre) {k = own .k} (omega arith)) (own .inv .3)
 
 pub put-told-spec : {M : Type 1} → statement M
 put-told-spec =
@@ -71,7 +66,6 @@ put-told-spec =
     (tie.spec
     Inv-loop
     μ-loop
-    (λ c κs. search needs)
     loop-holds
     told-next-requires
     (λ c κs. omega arith)
