@@ -3,7 +3,8 @@ pub mod ByValue
 pub mod Shared
 pub mod Planning
 pub mod Filled
+pub mod Told
+pub mod Queried
 pub mod Passed
 pub mod Changed
-pub mod Asked
-pub mod Askings
+pub mod Previewed

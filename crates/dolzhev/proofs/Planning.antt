@@ -1,4 +1,4 @@
--- What the walks share of the plan that a call begins with: it is lent the memory, and takes the call's own parameter and the number of rows.
+-- What the walks share of the plan that a call begins with: it is lent the memory, and takes the call's own parameter P and the number of rows. R is the type of the plan.
 --     PlanOf, to-plan      its contract, by what it says, and what its triple binds outside
 --     calls-plan           the call: there is a plan, of which is said what the contract says. The lifetime's token is back
 -- Assumes `Given`.
@@ -28,29 +28,27 @@ use denote.Triple.Spec.{tripleOf}
 use denote.Triple.Statement.{Contract, Triple}
 use denote.Triple.Call.{calls-at}
 use denote.Exit.{yes}
-use Rattle.upkeep.specs.declared.plan.Plan.{Plan}
-use Rattle.upkeep.proofs.plan.Plan as Q
 use Rattle.rows.proofs.Walk.{returned}
 use Rattle.dolzhev.proofs.ByValue.{ByValue, typeOf}
 use Rattle.dolzhev.proofs.Shared.{at-list}
 
-abbrev signatureOf : ByValue → Signature
-signatureOf P = record {
+abbrev signatureOf : ByValue → ByValue → Signature
+signatureOf P R = record {
   lifetimes = 1;
   outlives = [];
   params = SliceRefOf (0 ∷ []) tt (plain (λ κs. u8)) (λ κs. tt) ∷ plain (λ κs. typeOf P) ∷ plain (λ κs. usize) ∷ [];
-  result = plain (λ κs. Q.the-row);
+  result = plain (λ κs. typeOf R);
 }
 
-abbrev endedOf : ByValue → Ended
-endedOf P = record { signature = signatureOf P; kept = (yes, (yes, (yes, tt))) }
+abbrev endedOf : ByValue → ByValue → Ended
+endedOf P R = record { signature = signatureOf P R; kept = (yes, (yes, (yes, tt))) }
 
-module _ (P : ByValue) (Says : P .Denot → List ℕ → ℕ → Plan → Type 0) where
-  abbrev clausesOf : {M : Type 1} (𝓤 : URA M) → Clauses 𝓤 (endedOf P)
+module _ (P R : ByValue) (Says : P .Denot → List ℕ → ℕ → R .Denot → Type 0) where
+  abbrev clausesOf : {M : Type 1} (𝓤 : URA M) → Clauses 𝓤 (endedOf P R)
   clausesOf 𝓤 κs a = record { ghost = Unit {0}; requires = λ _. emp 𝓤; ensures = λ _ r e. fact 𝓤 (Says (a .1 .0) (a .0 .now) (a .1 .1 .0) r) }
 
   abbrev pub PlanOf : {M : Type 1} (𝓤 : URA M) (H : Heap 𝓤) (A : Atoms 𝓤) → Contract 𝓤
-  PlanOf 𝓤 H A = tripleOf 𝓤 H A (signatureOf P) (closing 𝓤 H A (endedOf P) (clausesOf 𝓤))
+  PlanOf 𝓤 H A = tripleOf 𝓤 H A (signatureOf P R) (closing 𝓤 H A (endedOf P R) (clausesOf 𝓤))
 
   module _ {M : Type 1} (𝓤 : URA M) (H : Heap 𝓤) (A : Atoms 𝓤) (κ : Lft) (q : Share) (b o : ℕ) (γ : GName) (m : List ℕ) (x : P .Denot) (rows : ℕ) where
     abbrev pub to-plan : PlanOf 𝓤 H A .Ghost
@@ -67,9 +65,9 @@ module _ (P : ByValue) (Says : P .Denot → List ℕ → ℕ → Plan → Type 0
 
     module _ {K : Type 0} {W : Given 𝓤 H A} {Γ : List (Item 𝓤)} {E : Env 𝓤 H} {C : Calls 𝓤 H} {Λ : Loops 𝓤 H} {g : Post 𝓤 H} {n : Name} {xs : List Operand} {d : Place} {rest : Body} where
       pub calls-plan : K → FmC 𝓤 H (W .laws) C → Triple 𝓤 (C n) (PlanOf 𝓤 H A) → Is (typeOf P) x (P .val x ∷ []) → rows < 2 ^ 64 → Opds K W (raw (PlanOf 𝓤 H A .pre to-plan) ∷ Γ) E xs (PlanOf 𝓤 H A .args to-plan)
-          → ((w : Val) (p : Plan) → Says x m rows p → Is Q.the-row p (w ∷ []) → Seq K W (‵ (flft κ q) ∷ Γ) (lands C Λ E d w rest g))
+          → ((w : Val) (p : R .Denot) → Says x m rows p → Is (typeOf R) p (w ∷ []) → Seq K W (‵ (flft κ q) ∷ Γ) (lands C Λ E d w rest g))
           → Seq K W (‵ (flft κ q) ∷ ‵ (ShrSlice (named 0) κ u8 .own (at-list u8 b o γ m) (sliceVal (b, o) (length m) ∷ [])) ∷ Γ) (runs C Λ E (seq (call n xs d) rest) g)
       calls-plan k fm known x-is fits opds next =
           group k 2 $ use1 W (raw (PlanOf 𝓤 H A .pre to-plan)) (goes-plan W x-is fits) $ calls-at k fm (PlanOf 𝓤 H A) known to-plan opds (λ w.
-          returned (endedOf P) (clausesOf 𝓤) k tt to-plan w (λ p. Says x m rows p) (λ p e. id⊢ 𝓤 _) (λ p e is.
+          returned (endedOf P R) (clausesOf 𝓤) k tt to-plan w (λ p. Says x m rows p) (λ p e. id⊢ 𝓤 _) (λ p e is.
           use1 W (‵ (flft κ q) ⊛ ‵ ftrue) (id⊢ 𝓤 _) $ split k $ move k (1 ∷ []) $ drop k $ next w p e is))

@@ -20,12 +20,16 @@ use Rattle.board.specs.declared.plan.ChangePlan.{ChangePlan}
 use Rattle.dolzhev.specs.declared.answer.Answer.{Answer}
 use Rattle.dolzhev.specs.declared.answer.Move.{Move}
 
--- A verdict handed on: its number and detail, and what is told, zero of a refused call.
-pub record Handed (v : Verdict) (need nodes : ℕ) (r : Answer) : Type 0 where
+-- A verdict handed on: its number and detail, and the counts of rows told and of nodes opened.
+pub record Handed (v : Verdict) (told nodes : ℕ) (r : Answer) : Type 0 where
   pub refusal : r .refusal ≡ numberOf v
   pub detail : r .detail ≡ v .detail
-  pub count : r .count ≡ counted (numberOf v) need
-  pub opened : r .opened ≡ counted (numberOf v) nodes
+  pub count : r .count ≡ told
+  pub opened : r .opened ≡ nodes
+
+-- What is foreseen handed on: of a refused call the counts are zero.
+abbrev pub Answered : Verdict → ℕ → ℕ → Answer → Type 0
+Answered v need opened = Handed v (counted (numberOf v) need) (counted (numberOf v) opened)
 
 -- Lent rows as the definitions speak of them.
 unfoldable pub rowsOf : List Row → List model.Row

@@ -3,7 +3,7 @@ use promises::Verdict;
 use promises::counted;
 use promises::number_of;
 use zorder::COSTS;
-ghost use Rattle.dolzhev.specs.Exported.{Handed};
+ghost use Rattle.dolzhev.specs.Exported.{Handed, Answered};
 
 // A move that enters or gets new costs.
 #[repr(C)]
@@ -23,14 +23,21 @@ pub struct Answer {
     pub opened: usize,
 }
 
-// A verdict handed on, with the counts of rows and nodes, zero of a refused call.
-pub fn handed(verdict: Verdict, need: usize, opened: usize) -> Answer
-    ensures { λ r. ⌜ Handed verdict need opened r ⌝ }
+// A verdict handed on, with the counts of rows and nodes.
+pub fn handed(verdict: Verdict, count: usize, opened: usize) -> Answer
+    ensures { λ r. ⌜ Handed verdict count opened r ⌝ }
 {
     Answer {
         refusal: number_of(verdict) as usize,
         detail: verdict.detail,
-        count: counted(verdict, need),
-        opened: counted(verdict, opened),
+        count,
+        opened,
     }
+}
+
+// What a plan foresees, handed on: the counts are zero of a refused call.
+pub fn answered(verdict: Verdict, need: usize, opened: usize) -> Answer
+    ensures { λ r. ⌜ Answered verdict need opened r ⌝ }
+{
+    handed(verdict, counted(verdict, need), counted(verdict, opened))
 }

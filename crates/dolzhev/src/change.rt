@@ -1,7 +1,7 @@
 // Enter, withdraw and re-cost: planned, then the rows are filled; only then is the memory written.
 use crate::answer::Answer;
 use crate::answer::Move;
-use crate::answer::handed;
+use crate::answer::answered;
 use crate::asked::entering;
 use crate::asked::recosting;
 use crate::asked::withdrawing;
@@ -21,7 +21,7 @@ pub fn change(memory: &mut [u8], x: Change, rows: &mut [Row]) -> Answer
     let p = plan_change(memory, x, rows.len());
     tell(rows, memory, p);
     carry_out(memory, p);
-    handed(p.verdict, p.need, p.opened)
+    answered(p.verdict, p.need, p.opened)
 }
 
 #[no_mangle]

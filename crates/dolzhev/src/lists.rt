@@ -1,6 +1,6 @@
 // The lists: planned, then the rows are filled. The memory is lent for reading only.
 use crate::answer::Answer;
-use crate::answer::handed;
+use crate::answer::answered;
 use listing::plan_list;
 use query::plan_band;
 use query::plan_chosen;
@@ -17,7 +17,7 @@ pub extern "C" fn dolzhev_list(memory: &[u8], rows: &mut [Row]) -> Answer
 {
     let p = plan_list(memory, rows.len());
     fill(rows, memory, p.telling, 0);
-    handed(p.verdict, p.need, p.opened)
+    answered(p.verdict, p.need, p.opened)
 }
 
 // Band (Definition 3): the moves that b others or fewer dominate.
@@ -27,7 +27,7 @@ pub extern "C" fn dolzhev_band(memory: &[u8], b: usize, rows: &mut [Row]) -> Ans
 {
     let p = plan_band(memory, b, rows.len());
     fill(rows, memory, p.telling, 0);
-    handed(p.verdict, p.need, p.opened)
+    answered(p.verdict, p.need, p.opened)
 }
 
 // On k (Definition 6): the moves that none dominates on k of the costs.
@@ -37,7 +37,7 @@ pub extern "C" fn dolzhev_on_k(memory: &[u8], k: usize, rows: &mut [Row]) -> Ans
 {
     let p = plan_on_k(memory, k, rows.len());
     fill(rows, memory, p.telling, 0);
-    handed(p.verdict, p.need, p.opened)
+    answered(p.verdict, p.need, p.opened)
 }
 
 // Chosen costs (Definition 8): the moves that none dominates on them. Bit i of the set stands for cost i.
@@ -47,5 +47,5 @@ pub extern "C" fn dolzhev_chosen(memory: &[u8], set: usize, rows: &mut [Row]) ->
 {
     let p = plan_chosen(memory, set, rows.len());
     fill(rows, memory, p.telling, 0);
-    handed(p.verdict, p.need, p.opened)
+    answered(p.verdict, p.need, p.opened)
 }

@@ -1,6 +1,6 @@
 // Yard block hours (document 02, Card 8): planned, then the rows are filled. The memory is lent for reading only.
 use crate::answer::Answer;
-use crate::answer::handed;
+use crate::answer::answered;
 use hours::HOURS;
 use hours::plan_hours;
 use rows::Row;
@@ -22,5 +22,5 @@ pub extern "C" fn dolzhev_hours(
 {
     let p = plan_hours(memory, minute, hours, rows.len());
     fill(rows, memory, p.telling, 0);
-    handed(p.verdict, p.need, p.opened)
+    answered(p.verdict, p.need, p.opened)
 }

@@ -2,7 +2,7 @@
 // nothing is carried out. The memory is lent for reading only.
 use crate::answer::Answer;
 use crate::answer::Move;
-use crate::answer::handed;
+use crate::answer::answered;
 use crate::asked::entering;
 use crate::asked::recosting;
 use crate::asked::withdrawing;
@@ -20,7 +20,7 @@ pub fn preview(memory: &[u8], x: Change, rows: &mut [Row]) -> Answer
 {
     let p = plan_change(memory, x, rows.len());
     tell(rows, memory, p);
-    handed(p.verdict, p.need, p.opened)
+    answered(p.verdict, p.need, p.opened)
 }
 
 #[no_mangle]

@@ -1,71 +1,61 @@
--- A plan told and carried out, one that is told alone, or a list planned and told, keeps the exported promise.
+-- A planned change told and carried out, one that is told alone, or a list planned and told, keeps the exported promise.
 use Prim.Native.Nat.{ℕ}
-use mathlib.Core.List.{List, _++_, map}
+use mathlib.Core.List.{List, map}
 use mathlib.Core.Path.{_≡_, sym, ap, _∙_, subst}
-use native.Mathlib.Omega.{arith}
-use lib.ListN.{length, drop, length-map}
-use Rattle.model.specs.Moves as model
-use Rattle.model.specs.Tree.{Tree}
+use lib.ListN.{length, length-map}
 use Rattle.model.specs.Calls as calls
 use Rattle.promises.specs.Answers.{resultRow}
-use Rattle.upkeep.specs.Telling.{toldRows, filledRows}
-use Rattle.upkeep.specs.Planned.{answerIn, Plans, QueryPlanned}
-use Rattle.upkeep.specs.Laws.Telling.{filled-all}
-use Rattle.upkeep.specs.Laws.Planned.{put-results, query-promise}
-use Rattle.upkeep.specs.declared.plan.Plan.{Plan}
+use Rattle.rows.specs.Telling.{filledRows}
+use Rattle.rows.specs.Planned.{QueryPlanned, answered}
+use Rattle.rows.specs.Laws.Planned.{query-promise}
 use Rattle.rows.specs.Rows.{rowNumbers}
-use Rattle.rows.specs.declared.Row.{Row}
+use Rattle.rows.specs.declared.plan.Plan.{Plan}
+use Rattle.rows.specs.declared.row.Row.{Row}
+use Rattle.board.specs.Kind.{callOf}
+use Rattle.board.specs.Plan.{Planned, CarriedOut}
 use Rattle.board.specs.Laws.Promise.{plan-said, plan-promise}
-use Rattle.board.specs.Plan.{Planned}
-use Rattle.dolzhev.specs.Exported.{Handed, rowsOf, ChangeExported, PreviewExported, QueryExported, DoneAsked, Done}
+use Rattle.board.specs.declared.change.Change.{Change}
+use Rattle.board.specs.declared.plan.ChangePlan.{ChangePlan}
+use Rattle.dolzhev.specs.Exported.{rowsOf, Answered, ChangeExported, PreviewExported, QueryExported, TellAsked, Noticed}
 use Rattle.dolzhev.specs.declared.answer.Answer.{Answer}
 
-rows-length : (lent : List Row) → length (rowsOf lent) ≡ length lent
-unfolding rowsOf
-rows-length lent = length-map (map rowNumbers lent) resultRow ∙ length-map lent rowNumbers
-
--- The rows of a plan, filled one by one.
-rows-filled : {answer : calls.Answer} {rows : List model.Row} {nodes : Tree → ℕ} {m : List ℕ} (lent lent' : List Row) {p : Plan} → Plans answer rows nodes m (length lent) p
-    → map rowNumbers lent' ≡ filledRows (p .telling) m (p .count) (map rowNumbers lent) → rowsOf lent' ≡ map resultRow (toldRows (p .telling) m) ++ drop (p .count) (rowsOf lent)
-unfolding rowsOf
-rows-filled {m = m} lent lent' {p} plan e =
-    ap (map resultRow)
-    (e ∙ filled-all (p .telling) m (map rowNumbers lent) (p .count) (plan .asked) (plan .told) (omega (arith, plan .answered .enough, length-map lent rowNumbers)))
-    ∙ put-results (toldRows (p .telling) m) (map rowNumbers lent) (p .count)
-
--- The same plan by the rows as the definitions speak of them.
+-- What is said with so many lent rows, by the rows as the definitions speak of them.
 by-rows : (Says : ℕ → Type 0) (lent : List Row) → Says (length lent) → Says (length (rowsOf lent))
-by-rows Says lent = subst Says (sym (rows-length lent))
+unfolding rowsOf
+by-rows Says lent = subst Says (sym (length-map (map rowNumbers lent) resultRow ∙ length-map lent rowNumbers))
 
-module _ {x : calls.Change} {m : List ℕ} {lent : List Row} {p : Plan} (plan : Planned x m (length lent) p) where
-  pub planned-asked : DoneAsked p m lent
-  planned-asked = record { asked = plan .moves .plans .asked; enough = plan .moves .plans .answered .enough; able = plan .able }
+pub tell-asked : {x : Change} {m : List ℕ} {lent : List Row} {p : ChangePlan} → Planned x m (length lent) p → TellAsked p m lent
+tell-asked plan = record { left = plan .leaves .asked; entered = plan .enters .asked; within = plan .within; enough = plan .enough }
 
-  pub planned-exported : {m' : List ℕ} {lent' : List Row} {r : Answer} → Done p m lent r m' lent' → ChangeExported x m (rowsOf lent) r m' (rowsOf lent')
-  planned-exported {lent' = lent'} d =
+module _ {x : Change} {m : List ℕ} (lent lent' : List Row) {p : ChangePlan} {r : Answer} (plan : Planned x m (length lent) p) (told : Noticed p m lent lent') (handed : Answered (p .verdict) (p .need) (p .opened) r) where
+  abbrev planned : Planned x m (length (rowsOf lent)) p
+  planned = by-rows (λ n. Planned x m n p) lent plan
+
+  pub change-exported : {m' : List ℕ} → CarriedOut p m m' → ChangeExported (callOf x) m (rowsOf lent) r m' (rowsOf lent')
+  unfolding rowsOf
+  change-exported out =
       record {
-        answer = answerIn p;
-        handed = d .handed;
-        promise =
-            plan-promise plan (d .out) (rowsOf lent) (rowsOf lent') (sym (rows-length lent))
-            (rows-filled lent lent' (plan .moves .plans) (d .tells));
+        answer = answered (p .verdict) (p .need) (p .opened);
+        handed = handed;
+        promise = plan-promise (map rowNumbers lent) planned out (ap (map resultRow) told);
       }
 
-module _ {m : List ℕ} (lent lent' : List Row) {p : Plan} {r : Answer} where
-  pub preview-exported : {x : calls.Change} → Planned x m (length lent) p → map rowNumbers lent' ≡ filledRows (p .telling) m (p .count) (map rowNumbers lent)
-      → Handed (p .verdict) (p .count) (p .opened) r → PreviewExported x m (rowsOf lent) r (rowsOf lent')
-  preview-exported {x} plan e h =
+  pub preview-exported : PreviewExported (callOf x) m (rowsOf lent) r (rowsOf lent')
+  unfolding rowsOf
+  preview-exported =
       record {
-        answer = answerIn p;
-        handed = h;
-        promise = plan-said (rowsOf lent) (rowsOf lent') (by-rows (λ n. Planned x m n p) lent plan) (rows-filled lent lent' (plan .moves .plans) e);
+        answer = answered (p .verdict) (p .need) (p .opened);
+        handed = handed;
+        promise = plan-said (map rowNumbers lent) planned (ap (map resultRow) told);
       }
 
-  pub query-exported : {q : calls.Query} → QueryPlanned q m (length lent) p → map rowNumbers lent' ≡ filledRows (p .telling) m (p .count) (map rowNumbers lent)
-      → Handed (p .verdict) (p .count) (p .opened) r → QueryExported q m (rowsOf lent) r (rowsOf lent')
-  query-exported {q} plan e h =
-      record {
-        answer = answerIn p;
-        handed = h;
-        promise = query-promise (rowsOf lent) (rowsOf lent') (by-rows (λ n. QueryPlanned q m n p) lent plan) (rows-filled lent lent' plan e);
-      }
+pub query-exported : {q : calls.Query} {m : List ℕ} (lent lent' : List Row) {p : Plan} {r : Answer} → QueryPlanned q m (length lent) p
+    → map rowNumbers lent' ≡ filledRows (p .telling .told) (p .telling .numbers) m 0 (p .telling .count) (map rowNumbers lent)
+    → Answered (p .verdict) (p .need) (p .opened) r → QueryExported q m (rowsOf lent) r (rowsOf lent')
+unfolding rowsOf
+query-exported {q} {m} lent lent' {p} plan told handed =
+    record {
+      answer = answered (p .verdict) (p .need) (p .opened);
+      handed = handed;
+      promise = query-promise (map rowNumbers lent) (by-rows (λ n. QueryPlanned q m n p) lent plan) (ap (map resultRow) told);
+    }

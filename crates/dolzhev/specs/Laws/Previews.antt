@@ -5,7 +5,7 @@ use mathlib.Core.List.{List}
 use mathlib.Core.Path.{_≡_, sym, ap, _∙_}
 use Rattle.model.specs.Moves.{Row}
 use Rattle.model.specs.Calls.{Change}
-use Rattle.promises.specs.Answers.{numberOf, detailOf}
+use Rattle.promises.specs.Answers.{numberOf}
 use Rattle.promises.specs.Run.{Bytes}
 use Rattle.promises.specs.declared.Answer as said
 use Rattle.memory.specs.Laws.Answers.{preview-equal}
@@ -16,7 +16,7 @@ use Rattle.dolzhev.specs.declared.answer.Answer.{Answer}
 handed-same : {a b : said.Answer} {r s : Answer} → a ≡ b → Handed (a .verdict) (a .count) (a .opened) r → Handed (b .verdict) (b .count) (b .opened) s → r ≡ s
 handed-same e h k =
     let refusal = h .refusal ∙ ap (λ (a : said.Answer). numberOf (a .verdict)) e ∙ sym (k .refusal) in
-    let detail = h .detail ∙ ap (λ (a : said.Answer). detailOf (a .verdict)) e ∙ sym (k .detail) in
+    let detail = h .detail ∙ ap (λ (a : said.Answer). a .verdict .detail) e ∙ sym (k .detail) in
     let count = h .count ∙ ap (λ (a : said.Answer). a .count) e ∙ sym (k .count) in
     let opened = h .opened ∙ ap (λ (a : said.Answer). a .opened) e ∙ sym (k .opened) in
     (λ i. record { refusal = refusal i; detail = detail i; count = count i; opened = opened i })

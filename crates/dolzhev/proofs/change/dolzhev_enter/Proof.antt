@@ -4,16 +4,15 @@ use contract.Running.{givenOf, tables, tablesOf}
 use denote.Triple.Spec.{tripleOf}
 use denote.Triple.Table.{entered, cited}
 use Rattle.dolzhev.specs.Exported.{entering}
-use Rattle.dolzhev.proofs.plans.plan_entering.Symbol as plan-def
-use Rattle.dolzhev.proofs.plans.plan_entering.Symbol.{name as #dolzhev·plans·plan-entering}
-use Rattle.dolzhev.proofs.plans.plan_entering.Met as plan-thm
+use Rattle.dolzhev.proofs.asked.entering.Symbol as ask-def
+use Rattle.dolzhev.proofs.asked.entering.Symbol.{name as #dolzhev·asked·entering}
+use Rattle.dolzhev.proofs.asked.entering.Met as ask-thm
+use Rattle.dolzhev.proofs.change.change.Symbol as change-def
+use Rattle.dolzhev.proofs.change.change.Symbol.{name as #dolzhev·change·change}
+use Rattle.dolzhev.proofs.change.change.Met as change-thm
 use Rattle.dolzhev.proofs.ByValue.{given}
-use Rattle.dolzhev.proofs.Planning.{PlanOf}
-use Rattle.dolzhev.proofs.Passed.{DoneC}
-use Rattle.dolzhev.proofs.Changed.{planned, change-meets}
-use Rattle.dolzhev.proofs.change.done.Symbol as done-def
-use Rattle.dolzhev.proofs.change.done.Symbol.{name as #dolzhev·change·done}
-use Rattle.dolzhev.proofs.change.done.Met as done-thm
+use Rattle.dolzhev.proofs.Passed.{AskOf, ChangeC}
+use Rattle.dolzhev.proofs.Changed.{changed-meets}
 use Rattle.dolzhev.proofs.change.dolzhev_enter.Key.{name as #dolzhev·change·dolzhev-enter}
 use Rattle.dolzhev.proofs.change.dolzhev_enter as f
 use Rattle.dolzhev.proofs.change.dolzhev_enter.Statement as stated
@@ -24,6 +23,6 @@ unfolding code.routine tablesOf
 dolzhev-enter-spec 𝓤 H 𝓜 𝓖 𝓡 =
     entered 𝓤 H (tripleOf 𝓤 H (𝓖 .A) f.signature (f.spec 𝓤 H (𝓖 .A) (𝓜 .mem) (𝓡 .run)))
     (tables 𝓤 H 𝓜 𝓡 code.env .C) (tables 𝓤 H 𝓜 𝓡 code.env .Λ) #dolzhev·change·dolzhev-enter code.function (code.unfolded 𝓤 H 𝓜 𝓡)
-    (change-meets 𝓤 H (𝓖 .A) (givenOf 𝓤 H 𝓜 𝓖) (𝓜 .mem) (𝓡 .run) given entering (tablesOf 𝓤 H 𝓜 (tables 𝓤 H 𝓜 𝓡 code.env)) #dolzhev·plans·plan-entering
-    (cited 𝓤 H (PlanOf given (planned given entering) 𝓤 H (𝓖 .A)) 𝓜 𝓡 code.env #dolzhev·plans·plan-entering plan-def.routine code.calls-dolzhev·plans·plan-entering (plan-thm.met 𝓤 H 𝓜 𝓖 𝓡))
-    (cited 𝓤 H (DoneC 𝓤 H (𝓖 .A) (𝓜 .mem) (𝓡 .run)) 𝓜 𝓡 code.env #dolzhev·change·done done-def.routine code.calls-dolzhev·change·done (done-thm.met 𝓤 H 𝓜 𝓖 𝓡)))
+    (changed-meets 𝓤 H (𝓖 .A) (givenOf 𝓤 H 𝓜 𝓖) (𝓜 .mem) (𝓡 .run) given entering (tablesOf 𝓤 H 𝓜 (tables 𝓤 H 𝓜 𝓡 code.env)) #dolzhev·asked·entering
+    (cited 𝓤 H (AskOf given entering 𝓤 H (𝓖 .A)) 𝓜 𝓡 code.env #dolzhev·asked·entering ask-def.routine code.calls-dolzhev·asked·entering (ask-thm.met 𝓤 H 𝓜 𝓖 𝓡))
+    (cited 𝓤 H (ChangeC 𝓤 H (𝓖 .A) (𝓜 .mem) (𝓡 .run)) 𝓜 𝓡 code.env #dolzhev·change·change change-def.routine code.calls-dolzhev·change·change (change-thm.met 𝓤 H 𝓜 𝓖 𝓡)))

@@ -1,37 +1,28 @@
--- `dolzhev_preview_enter` meets its contract, by the walk that it shares with the other previews and the lists.
+-- `dolzhev_preview_enter` meets its contract, by the walk that the three previews share.
 -- Assumes nothing.
+use contract.Running.{givenOf, tables, tablesOf}
 use denote.Triple.Spec.{tripleOf}
 use denote.Triple.Table.{entered, cited}
-use contract.Running.{givenOf, tables, tablesOf}
 use Rattle.dolzhev.specs.Exported.{entering}
-use Rattle.dolzhev.proofs.plans.plan_entering.Symbol as plan-def
-use Rattle.dolzhev.proofs.plans.plan_entering.Symbol.{name as #dolzhev·plans·plan-entering}
-use Rattle.dolzhev.proofs.plans.plan_entering.Met as plan-thm
-use Rattle.rows.proofs.fill.Symbol as fill-def
-use Rattle.rows.proofs.fill.Symbol.{name as #rows·fill}
-use Rattle.rows.proofs.fill.Met as fill-thm
-use Rattle.dolzhev.proofs.answer.handed.Symbol as handed-def
-use Rattle.dolzhev.proofs.answer.handed.Symbol.{name as #dolzhev·answer·handed}
-use Rattle.dolzhev.proofs.answer.handed.Met as handed-thm
+use Rattle.dolzhev.proofs.asked.entering.Symbol as ask-def
+use Rattle.dolzhev.proofs.asked.entering.Symbol.{name as #dolzhev·asked·entering}
+use Rattle.dolzhev.proofs.asked.entering.Met as ask-thm
+use Rattle.dolzhev.proofs.preview.preview.Symbol as preview-def
+use Rattle.dolzhev.proofs.preview.preview.Symbol.{name as #dolzhev·preview·preview}
+use Rattle.dolzhev.proofs.preview.preview.Met as preview-thm
 use Rattle.dolzhev.proofs.ByValue.{given}
-use Rattle.dolzhev.proofs.Filled.{FillC, HandC}
-use Rattle.dolzhev.proofs.Planning.{PlanOf}
-use Rattle.dolzhev.proofs.Asked.{Asking, asked-meets}
-use Rattle.dolzhev.proofs.Askings.{previewing}
+use Rattle.dolzhev.proofs.Passed.{AskOf, PreviewC}
+use Rattle.dolzhev.proofs.Previewed.{previewed-meets}
 use Rattle.dolzhev.proofs.preview.dolzhev_preview_enter.Key.{name as #dolzhev·preview·dolzhev-preview-enter}
 use Rattle.dolzhev.proofs.preview.dolzhev_preview_enter as f
 use Rattle.dolzhev.proofs.preview.dolzhev_preview_enter.Statement as stated
 use Rattle.dolzhev.proofs.preview.dolzhev_preview_enter.Code as code
-
-abbrev asking : Asking given
-asking = previewing entering
 
 pub dolzhev-preview-enter-spec : {M : Type 1} → stated.statement M
 unfolding code.routine tablesOf
 dolzhev-preview-enter-spec 𝓤 H 𝓜 𝓖 𝓡 =
     entered 𝓤 H (tripleOf 𝓤 H (𝓖 .A) f.signature (f.spec 𝓤 H (𝓖 .A) (𝓜 .mem) (𝓡 .run)))
     (tables 𝓤 H 𝓜 𝓡 code.env .C) (tables 𝓤 H 𝓜 𝓡 code.env .Λ) #dolzhev·preview·dolzhev-preview-enter code.function (code.unfolded 𝓤 H 𝓜 𝓡)
-    (asked-meets 𝓤 H (𝓖 .A) (givenOf 𝓤 H 𝓜 𝓖) (𝓜 .mem) (𝓡 .run) asking (tablesOf 𝓤 H 𝓜 (tables 𝓤 H 𝓜 𝓡 code.env)) #dolzhev·plans·plan-entering
-    (cited 𝓤 H (PlanOf given (asking .Planned) 𝓤 H (𝓖 .A)) 𝓜 𝓡 code.env #dolzhev·plans·plan-entering plan-def.routine code.calls-dolzhev·plans·plan-entering (plan-thm.met 𝓤 H 𝓜 𝓖 𝓡))
-    (cited 𝓤 H (FillC 𝓤 H (𝓖 .A) (𝓜 .mem) (𝓡 .run)) 𝓜 𝓡 code.env #rows·fill fill-def.routine code.calls-rows·fill (fill-thm.met 𝓤 H 𝓜 𝓖 𝓡))
-    (cited 𝓤 H (HandC 𝓤 H (𝓖 .A) (𝓜 .mem) (𝓡 .run)) 𝓜 𝓡 code.env #dolzhev·answer·handed handed-def.routine code.calls-dolzhev·answer·handed (handed-thm.met 𝓤 H 𝓜 𝓖 𝓡)))
+    (previewed-meets 𝓤 H (𝓖 .A) (givenOf 𝓤 H 𝓜 𝓖) (𝓜 .mem) (𝓡 .run) given entering (tablesOf 𝓤 H 𝓜 (tables 𝓤 H 𝓜 𝓡 code.env)) #dolzhev·asked·entering
+    (cited 𝓤 H (AskOf given entering 𝓤 H (𝓖 .A)) 𝓜 𝓡 code.env #dolzhev·asked·entering ask-def.routine code.calls-dolzhev·asked·entering (ask-thm.met 𝓤 H 𝓜 𝓖 𝓡))
+    (cited 𝓤 H (PreviewC 𝓤 H (𝓖 .A) (𝓜 .mem) (𝓡 .run)) 𝓜 𝓡 code.env #dolzhev·preview·preview preview-def.routine code.calls-dolzhev·preview·preview (preview-thm.met 𝓤 H 𝓜 𝓖 𝓡)))
