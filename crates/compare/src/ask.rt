@@ -6,28 +6,27 @@ use crate::plain::hear;
 use crate::table::Row;
 use crate::table::TOLD;
 use crate::table::Table;
-use crate::table::WANT;
-use crate::table::same_rows;
 use crate::told::spoken;
 use crate::told::told;
+use crate::told::with_rows;
 use crate::week::bad_block;
 use crate::week::entries;
 use crate::week::minute_of;
 use loading::INPUT;
 use promises::Verdict;
-use upkeep::Plan;
+use rows::Plan;
 ghost use Prim.Native.Nat.{_<_, _≤_};
-ghost use Rattle.upkeep.specs.Telling.{TellingAsked};
+ghost use Rattle.rows.specs.Telling.{TellingAsked};
 
 fn plan_hours(m: &[u8], k: Call) -> Plan
-    ensures { λ r. ⌜ (0 < r .count → TellingAsked (r .telling) (now (m .entry))) ⌝ }
+    ensures { λ r. ⌜ (0 < r .telling .count → TellingAsked (r .telling .told) (now (m .entry))) ⌝ }
 {
     let all = entries(bad_block(k.argument));
     hours::plan_hours(m, minute_of(k.argument), &all, k.lent)
 }
 
 fn plan_query(m: &[u8], k: Call) -> Plan
-    ensures { λ r. ⌜ (0 < r .count → TellingAsked (r .telling) (now (m .entry))) ⌝ }
+    ensures { λ r. ⌜ (0 < r .telling .count → TellingAsked (r .telling .told) (now (m .entry))) ⌝ }
 {
     let letter = k.letter;
     match letter {
@@ -53,9 +52,8 @@ fn rank(m: &[u8], k: Call, b: Plain, rows: &mut [Row]) -> Plain {
 }
 
 fn ranked(m: &[u8], k: Call, t: &mut Table, b: Plain) -> Plain {
-    let mut said = rank(m, k, b, t);
-    said.right = same_rows(t, TOLD, WANT, said.count);
-    said
+    let said = rank(m, k, b, t);
+    with_rows(said, t, TOLD, said.count)
 }
 
 // The first n rows loaded.
@@ -88,8 +86,8 @@ fn asked(m: &mut [u8], k: Call, t: &mut Table, b: Plain) -> Plain {
     }
 }
 
-// The call on the memory of the board b; what it said, and how many rows the holder then holds. He listens to notices; before
-// there is one, a list is read.
+// The call on the memory of the board b; what it said, and how many rows the holder then holds. He
+// listens to notices; before there is one, a list is read.
 pub fn ask(m: &mut [u8], k: Call, t: &mut Table, b: Plain) -> Plain {
     let mut said = asked(m, k, t, b);
     let listens = if b.holding {

@@ -6,12 +6,12 @@ use crate::table::SEEN;
 use crate::table::TOLD;
 use crate::table::Table;
 use crate::table::same_rows;
-use crate::told::told;
-use upkeep::Plan;
+use crate::told::noticed;
+use board::Change;
+use board::Kind;
+use board::carry_out;
+use board::plan_change;
 use zorder::COSTS;
-ghost use Prim.Native.Nat.{_<_};
-ghost use Rattle.upkeep.specs.Telling.{TellingAsked};
-ghost use Rattle.board.specs.Plan.{Able};
 
 fn costs_of(r: Row) -> [u16; COSTS] {
     let mut costs = [0u16; COSTS];
@@ -23,28 +23,35 @@ fn costs_of(r: Row) -> [u16; COSTS] {
     costs
 }
 
-fn planned(m: &[u8], k: Call) -> Plan
-    ensures { λ r. ⌜ Able r (now (m .entry)) × (0 < r .count → TellingAsked (r .telling) (now (m .entry))) ⌝ }
-{
-    let letter = k.letter;
-    let r = k.row;
+fn kind_of(letter: u8) -> Kind {
     match letter {
-        b'w' => board::plan_withdraw(m, k.number, k.lent),
-        b'e' => board::plan_enter(m, k.number, k.block, costs_of(r), k.lent),
-        _ => board::plan_recost(m, k.number, k.block, costs_of(r), k.lent),
+        b'w' => Kind::Withdraw,
+        b'e' => Kind::Enter,
+        _ => Kind::Recost,
+    }
+}
+
+fn change_of(k: Call) -> Change {
+    let r = k.row;
+    Change {
+        kind: kind_of(k.letter),
+        number: k.number,
+        block: k.block,
+        costs: costs_of(r),
     }
 }
 
 // What the change would say, with its rows.
 pub fn preview(m: &[u8], k: Call, t: &mut Table, b: Plain) -> Plain {
-    told(m, planned(m, k), t, b, SEEN)
+    let p = plan_change(m, change_of(k), k.lent);
+    noticed(m, p, t, b, SEEN)
 }
 
 // The change; its rows are held against those of the preview before it, too.
 pub fn change(m: &mut [u8], k: Call, t: &mut Table, b: Plain) -> Plain {
-    let p = planned(m, k);
-    let mut said = told(m, p, t, b, TOLD);
+    let p = plan_change(m, change_of(k), k.lent);
+    let mut said = noticed(m, p, t, b, TOLD);
     said.right = said.right & same_rows(t, TOLD, SEEN, said.count);
-    board::carry_out(m, p);
+    carry_out(m, p);
     said
 }

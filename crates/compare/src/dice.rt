@@ -1,5 +1,5 @@
-// Numbers that look random, the same at each run; costs made of them, and the calls that the runs make: most are accepted,
-// some are to be refused.
+// Numbers that look random, the same at each run; costs made of them, and the calls that the runs
+// make: most are accepted, some are to be refused.
 use crate::expect::Call;
 use crate::plain::Plain;
 use crate::plain::find;
@@ -11,7 +11,7 @@ use crate::table::mark_of;
 use crate::table::number_of;
 use crate::table::row_at;
 use crate::week::block_of;
-use upkeep::ROW;
+use rows::ROW;
 use zorder::COSTS;
 
 // The number after s.
@@ -19,8 +19,8 @@ pub fn next(s: usize) -> usize {
     s % 4294967296 * 4294957665 + s / 4294967296 % 4294967296
 }
 
-// The kinds of draws: any cost; of four values, so that many moves are equal; every second one makes up for the one before it,
-// so that few moves dominate; the ends of the range and its middle.
+// The kinds of draws: any cost; of four values, so that many moves are equal; every second one
+// makes up for the one before it, so that few moves dominate; the ends of the range and its middle.
 fn cost(s: usize, style: usize, second: bool, last: u16) -> u16 {
     let n = (s % 65536) as u16;
     match style {
@@ -127,8 +127,8 @@ pub fn looked_at(b: Plain, t: &Table, s: usize, i: usize) -> Call {
     change(b, t, next(s ^ 54321), is_growing(i))
 }
 
-// The argument is mostly small, at times at the ends of the range and past them; of chosen costs any set, none or one too many;
-// of hours a minute and a block.
+// The argument is mostly small, at times at the ends of the range and past them; of chosen costs
+// any set, none or one too many; of hours a minute and a block.
 fn argument(b: Plain, n: usize, letter: u8) -> usize {
     if letter == b'Y' {
         n % 4096000

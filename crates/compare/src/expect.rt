@@ -19,10 +19,11 @@ use crate::table::row_at;
 use crate::week;
 use crate::week::bad_block;
 use crate::week::minute_of;
-use upkeep::ROW;
+use rows::ROW;
 
-// A call: e enter, w withdraw, c re-cost, with the block and the row that is to stand; Q list, B band, R rank, K on k, S chosen,
-// Y hours, and L a load to be refused, with an argument. Then the rows lent.
+// A call: e enter, w withdraw, c re-cost, with the block and the row that is to stand; Q list, B
+// band, R rank, K on k, S chosen, Y hours, and L a load to be refused, with an argument. Then the
+// rows lent.
 pub struct Call {
     pub letter: u8,
     pub number: u16,
@@ -93,8 +94,8 @@ fn change(b: Plain, t: &mut Table, k: Call) -> Plain {
     }
 }
 
-// What a preview is to answer: that of the change, made and undone. The row past the last is put back too, since the dice may
-// read it.
+// What a preview is to answer: that of the change, made and undone. The row past the last is put
+// back too, since the dice may read it.
 pub fn foreseen(b: Plain, t: &mut Table, k: Call) -> Plain {
     let new = k.row;
     let old = find(t, b.n, k.number);

@@ -17,7 +17,8 @@ pub fn alike(p: Plain, q: Plain) -> bool {
         & (p.opened == q.opened)
 }
 
-// The plain board after a call that is to tell so many nodes if it is accepted, with what the board said of it.
+// The plain board after a call that is to tell so many nodes if it is accepted, with what the board
+// said of it.
 pub fn judged(want: Plain, said: Plain, t: &Table, letter: u8, opened: usize) -> Plain {
     let mut wanted = want;
     wanted.opened = if want.refusal == 0 { opened } else { 0 };

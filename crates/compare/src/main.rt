@@ -1,8 +1,9 @@
-// The board beside a plain all-pairs program: many boards, loaded and then changed and read through the public calls, each
-// answer held against one that is made from document 01's words alone, each change also against its preview, and a holder who
-// follows the notices and passes previews by. Prints what was compared, and each call where the two disagree. The word `long`
-// makes a longer run.
-use upkeep::ROW;
+// The board beside a plain all-pairs program: many boards, loaded and then changed and read through
+// the public calls, each answer held against one that is made from document 01's words alone, each
+// change also against its preview, and a holder who follows the notices and passes previews by.
+// Prints what was compared, and each call where the two disagree. The word `long` makes a longer
+// run.
+use rows::ROW;
 
 mod ask;
 mod boards;

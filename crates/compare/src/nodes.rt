@@ -1,5 +1,5 @@
-// The nodes that a call is to tell as opened, from the words of document 01 and of Card 1: every node that the heights in the
-// board's memory make is held against all rows of the plain board.
+// The nodes that a call is to tell as opened, from the words of document 01 and of Card 1: every
+// node that the heights in the board's memory make is held against all rows of the plain board.
 use crate::expect::Call;
 use crate::plain::Plain;
 use crate::plain::find;
@@ -16,11 +16,11 @@ use crate::table::Table;
 use crate::table::mark_of;
 use crate::table::row_at;
 use crate::table::unlike;
-use upkeep::ROW;
+use rows::ROW;
 use zorder::COSTS;
 
-// What opens a node: of these rows only the going one may beat its near corner, and that one is nowhere greater than its far
-// corner, so that it beats or equals it. For a list none goes.
+// What opens a node: of these rows only the going one may beat its near corner, and that one is
+// nowhere greater than its far corner, so that it beats or equals it. For a list none goes.
 pub struct Opening {
     pub against: Part,
     pub goes: Row,
@@ -44,7 +44,8 @@ fn last(m: &[u8], b: Plain, i: usize, level: u8) -> usize {
     last
 }
 
-// The bits of a cost that the square of two rows leaves open: from the first group on in which their addresses differ.
+// The bits of a cost that the square of two rows leaves open: from the first group on in which
+// their addresses differ.
 fn open_bits(p: Row, q: Row) -> u16 {
     ((65535usize >> (unlike(p, q) / COSTS % 64)) % 65536) as u16
 }

@@ -13,8 +13,9 @@ use zorder::COSTS;
 // The set of all costs.
 pub const ALL: usize = (1 << COSTS) - 1;
 
-// How one row stands to another: it beats it on a set of costs, bit i for cost i; on some k of the first d costs; it keeps
-// it out of the list; it keeps it out of the list over open blocks at a minute; it is beaten; it is the same.
+// How one row stands to another: it beats it on a set of costs, bit i for cost i; on some k of the
+// first d costs; it keeps it out of the list; it keeps it out of the list over open blocks at a
+// minute; it is beaten; it is the same.
 pub enum Test {
     Beats(usize),
     BeatsOn(u32, usize),
@@ -94,7 +95,8 @@ pub fn count(t: &Table, part: Part, test: Test, r: Row, most: usize) -> usize {
     k
 }
 
-// The rows to which `most` or fewer of `against` stand so, with a mark, put after the first `at` of an area.
+// The rows to which `most` or fewer of `against` stand so, with a mark, put after the first `at` of
+// an area.
 pub struct Pick {
     pub against: Part,
     pub test: Test,

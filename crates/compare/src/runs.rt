@@ -1,5 +1,6 @@
-// The mixed run of calls on a board, each made on both: a change after its preview, the list, another list or at times a load to
-// be refused; before some of them a preview of a change that is not made.
+// The mixed run of calls on a board, each made on both: a change after its preview, the list,
+// another list or at times a load to be refused; before some of them a preview of a change that is
+// not made.
 use crate::ask::ask;
 use crate::change;
 use crate::dice;

@@ -1,4 +1,5 @@
-// What was compared, counted in cells: one for each letter, digit or sign that a line of the names begins with.
+// What was compared, counted in cells: one for each letter, digit or sign that a line of the names
+// begins with.
 use crate::plain::Plain;
 use libc::STDOUT_FILENO;
 
@@ -16,7 +17,8 @@ fn put(n: u64) {
     io::print_decimal(STDOUT_FILENO, n);
 }
 
-// The cell of a call by its answer; its rows have the cell of the other case, which may be one without a line.
+// The cell of a call by its answer; its rows have the cell of the other case, which may be one
+// without a line.
 fn cell(letter: u8, refusal: usize) -> u8 {
     if 0 < refusal {
         48 + (refusal % 16) as u8
@@ -52,7 +54,8 @@ pub fn count(u: Tally, letter: u8, b: Plain) -> Tally {
     judge(heard, letter, b.right)
 }
 
-// Previews have cells of their own, and no holder hears them. Where one is wrong its letter is a capital.
+// Previews have cells of their own, and no holder hears them. Where one is wrong its letter is a
+// capital.
 pub fn count_preview(u: Tally, letter: u8, b: Plain) -> Tally {
     let called = add(u, if b.refusal == 0 { b'p' } else { b'x' }, 1);
     let told = add(called, b'P', b.count);
@@ -89,18 +92,22 @@ pub fn put_all(u: &Tally) {
     );
     put_named(
         u,
-        b"qrows listed\nonodes opened\nwnodes opened on withdrawals\nBbands\nRranks\nKon k\nSchosen\nYhours\n",
+        b"qrows listed\nonodes opened\nwnodes opened on withdrawals\nBbands\nRranks\nKon k\n",
     );
     put_named(
         u,
-        b"ppreviews\naof changes not made\nProws of previews\nvnodes opened on previews\nxpreviews refused\n",
+        b"Schosen\nYhours\nppreviews\naof changes not made\nProws of previews\n",
     );
     put_named(
         u,
-        b"hlists of the holder\n1refused 1\n2refused 2\n3refused 3\n4refused 4\n",
+        b"vnodes opened on previews\nxpreviews refused\nhlists of the holder\n",
     );
     put_named(
         u,
-        b"5refused 5\n6refused 6\n7refused 7\n8refused 8\n;refused 11\n<refused 12\n!disagreements\n",
+        b"1refused 1\n2refused 2\n3refused 3\n4refused 4\n5refused 5\n6refused 6\n",
+    );
+    put_named(
+        u,
+        b"7refused 7\n8refused 8\n;refused 11\n<refused 12\n!disagreements\n",
     );
 }

@@ -1,5 +1,6 @@
-// Yard block hours: a block for each row, which blocks are open at a minute, and the entries that say so. Every eighth block has no
-// window; the others have one, of half a week, and may be made bad by an end equal to the start.
+// Yard block hours: a block for each row, which blocks are open at a minute, and the entries that
+// say so. Every eighth block has no window; the others have one, of half a week, and may be made
+// bad by an end equal to the start.
 use crate::table::Row;
 use crate::table::number_of;
 use hours::HOURS;
@@ -30,7 +31,8 @@ pub fn is_open(minute: usize, r: Row) -> bool {
     !is_shut(k) & (since < 5040)
 }
 
-// What the argument of an hours call says: the minute, at times too large, and at times a block with bad hours.
+// What the argument of an hours call says: the minute, at times too large, and at times a block
+// with bad hours.
 pub fn minute_of(x: usize) -> usize {
     x % 10240
 }

@@ -1,6 +1,6 @@
 // A load.
-use crate::rows::put_verdict;
 use crate::said::Said;
+use crate::told::put_verdict;
 use crate::values::Given;
 use crate::values::ROWS;
 use crate::values::at_most;

@@ -1,8 +1,8 @@
 // The hours call. An entry of the line is a block, a count and so many windows, at most four. As
 // many entries are lent as the last block named asks for: of those not named the count is 0. What
 // stands past a count nobody looks at.
-use crate::rows::put_plan;
 use crate::said::Said;
+use crate::told::put_list;
 use crate::values::VALUES;
 use crate::values::at_most;
 use crate::values::narrow;
@@ -70,7 +70,7 @@ fn tell(memory: &[u8], entries: &[[u16; HOURS]], lent: usize, values: &[u64], s:
     let k = at_most(lent, entries.len());
     let minute = value(values, 0) as usize;
     let p = hours::plan_hours(memory, minute, &entries[..k], value(values, 1) as usize);
-    put_plan(memory, p, false, values, s)
+    put_list(memory, p, false, values, s)
 }
 
 pub fn hours_at(memory: &[u8], values: &[u64], s: Said) -> Said {
