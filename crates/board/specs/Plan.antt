@@ -20,7 +20,7 @@ use Rattle.memory.specs.declared.sound.Head.{Head}
 use Rattle.upkeep.specs.Change.{AskedRows}
 use Rattle.upkeep.specs.declared.exchange.Upkeep.{Upkeep}
 use Rattle.upkeep.specs.declared.exchange.Exchange.{Exchange}
-use Rattle.rows.specs.Telling.{nobody}
+use Rattle.rows.specs.Telling.{nobody, filledRows}
 use Rattle.rows.specs.Planned.{Foreseen, Tells}
 use Rattle.rows.specs.declared.telling.Coming.{Coming}
 use Rattle.rows.specs.declared.telling.Told.{Told}
@@ -105,6 +105,12 @@ enteredOf p =
       numbers = p .upkeep .changed;
       count = counted (numberOf (p .verdict)) (p .need - p .upkeep .left);
     }
+
+-- The rows afterwards: first those that leave were put, then those that enter.
+abbrev pub rowsFilled : ChangePlan → List ℕ → List (List ℕ) → List (List ℕ)
+rowsFilled p m rows =
+    filledRows (enteredOf p .told) (enteredOf p .numbers) m (leftOf p .count) (enteredOf p .count)
+    (filledRows (leftOf p .told) (leftOf p .numbers) m 0 (leftOf p .count) rows)
 
 -- ---- the plan of a change
 

@@ -10,10 +10,10 @@ use Rattle.promises.specs.Promise.{LoadPromise, ChangePromise, PreviewPromise, 
 use Rattle.promises.specs.declared.Answer as said
 use Rattle.promises.specs.declared.Verdict.{Verdict}
 use Rattle.zorder.specs.Address.{rowCosts}
-use Rattle.rows.specs.Telling.{TellingAsked, filledRows}
+use Rattle.rows.specs.Telling.{TellingAsked}
 use Rattle.rows.specs.Rows.{rowNumbers}
 use Rattle.rows.specs.declared.row.Row.{Row}
-use Rattle.board.specs.Plan.{leftOf, enteredOf}
+use Rattle.board.specs.Plan.{leftOf, enteredOf, rowsFilled}
 use Rattle.board.specs.declared.change.Change.{Change}
 use Rattle.board.specs.declared.change.Kind.the-variants.{Enter, Withdraw, Recost}
 use Rattle.board.specs.declared.plan.ChangePlan.{ChangePlan}
@@ -76,9 +76,6 @@ pub record TellAsked (p : ChangePlan) (m : List ℕ) (lent : List Row) : Type 0 
   pub within : p .upkeep .left ≤ p .need
   pub enough : leftOf p .count + enteredOf p .count ≤ length lent
 
--- First the rows that leave are put, then those that enter.
+-- The rows of the notice are put into the lent ones.
 abbrev pub Noticed : ChangePlan → List ℕ → List Row → List Row → Type 0
-Noticed p m lent lent' =
-    map rowNumbers lent'
-    ≡ filledRows (enteredOf p .told) (enteredOf p .numbers) m (leftOf p .count) (enteredOf p .count)
-    (filledRows (leftOf p .told) (leftOf p .numbers) m 0 (leftOf p .count) (map rowNumbers lent))
+Noticed p m lent lent' = map rowNumbers lent' ≡ rowsFilled p m (map rowNumbers lent)

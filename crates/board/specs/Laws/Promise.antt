@@ -24,18 +24,12 @@ use Rattle.rows.specs.Laws.Telling.{filled-length}
 use Rattle.rows.specs.Laws.Planned.{foreseen-said, foreseen-unsaid, tells-put, tells-none, put-both}
 use Rattle.board.specs.Kind.{callOf, comes}
 use Rattle.board.specs.Change.{Made}
-use Rattle.board.specs.Plan.{CarriedOut, Planned, leftOf, enteredOf}
+use Rattle.board.specs.Plan.{CarriedOut, Planned, leftOf, enteredOf, rowsFilled}
 use Rattle.board.specs.Laws.Give.{kept-given, given-alone, given-again}
 use Rattle.board.specs.declared.change.Change.{Change}
 use Rattle.board.specs.declared.plan.ChangePlan.{ChangePlan}
 
 -- ---- the rows
-
--- The rows afterwards: first those that leave were put, then those that enter.
-abbrev pub rowsFilled : ChangePlan → List ℕ → List (List ℕ) → List (List ℕ)
-rowsFilled p m rows =
-    filledRows (enteredOf p .told) (enteredOf p .numbers) m (leftOf p .count) (enteredOf p .count)
-    (filledRows (leftOf p .told) (leftOf p .numbers) m 0 (leftOf p .count) rows)
 
 module _ {x : Change} {m : List ℕ} {p : ChangePlan} (rows : List (List ℕ)) (plan : Planned x m (length (map resultRow rows)) p) where
   lent : length (map resultRow rows) ≡ length rows
