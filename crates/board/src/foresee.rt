@@ -53,7 +53,8 @@ pub fn needed(u: Upkeep) -> usize
     u.left + u.entered
 }
 
-// The nodes that a change reports as opened: a withdrawal those opened while looking for moves that come up, the others none.
+// The nodes that a change reports as opened: a withdrawal those opened while looking for moves that
+// come up, the others none.
 pub fn reported(comes: bool, opened: usize) -> usize
     ensures { λ r. ⌜ r ≡ cond comes 0 opened ⌝ }
 {
@@ -81,7 +82,8 @@ pub fn alike(m: &[u8], h: Head, k: Exchange) -> bool
     )
 }
 
-// The place that a coming move gets among the moves before the change; past the last where none comes.
+// The place that a coming move gets among the moves before the change; past the last where none
+// comes.
 pub fn coming_place(m: &[u8], h: Head, k: Exchange) -> usize
     requires { ⌜ Readable h (now m) ⌝ }
     requires { ⌜ InOrder h (now m) ⌝ }

@@ -1,4 +1,5 @@
-// Addresses and regions for C and Rust: the calls of `zorder` with plain structs. They refuse as those do.
+// Addresses and regions for C and Rust: the calls of `zorder` with plain structs. They refuse as
+// those do.
 use zorder::COSTS;
 use zorder::Verdict;
 use zorder::Words;
@@ -11,7 +12,8 @@ pub struct Costs {
     pub costs: [u16; COSTS],
 }
 
-// Each answer: document 01's number of the refusal and its detail, then what is told, zero where refused.
+// Each answer: document 01's number of the refusal and its detail, then what is told, zero where
+// refused.
 #[repr(C)]
 pub struct AddressOf {
     pub refusal: usize,

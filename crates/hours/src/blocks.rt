@@ -1,5 +1,5 @@
-// The blocks by their entries: the lowest that is refused, and those that are open. A block past the last entry is shut; entries
-// past the 64th are not read.
+// The blocks by their entries: the lowest that is refused, and those that are open. A block past
+// the last entry is shut; entries past the 64th are not read.
 use crate::BLOCKS;
 use crate::HOURS;
 use crate::windows::hours_bad;

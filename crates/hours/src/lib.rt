@@ -1,4 +1,5 @@
-// Yard block hours (Card 8): the list over the moves in open blocks, planned without writing. It has no `requires`: it refuses.
+// Yard block hours (Card 8): the list over the moves in open blocks, planned without writing. It
+// has no `requires`: it refuses.
 mod blocks;
 mod open;
 mod plan;

@@ -1,5 +1,6 @@
-// The list over the moves in open blocks: each is held against those in open blocks that stand before it only. An earlier move
-// that is nowhere greater hides: of equal costs the lower number stands first.
+// The list over the moves in open blocks: each is held against those in open blocks that stand
+// before it only. An earlier move that is nowhere greater hides: of equal costs the lower number
+// stands first.
 use dominance::limits_of;
 use memory::Among;
 use memory::Head;
@@ -26,8 +27,9 @@ ghost use Rattle.memory.specs.declared.search.Among.the-variants.{InBlocks};
 ghost use Rattle.upkeep.specs.Found.{Finds};
 ghost use Rattle.hours.specs.Open.{shownFor};
 
-// Of a move in an open block, a place before it with one that hides it, `last` if that does; its own place i if there is none,
-// as for every listed one. Of a move in a shut block the number of moves, which is no place.
+// Of a move in an open block, a place before it with one that hides it, `last` if that does; its
+// own place i if there is none, as for every listed one. Of a move in a shut block the number of
+// moves, which is no place.
 fn hider_of(
     m: &[u8],
     h: Head,

@@ -1,4 +1,5 @@
-// The hours call planned: 3, then 7 for the minute, then 12 for the lowest block with bad hours, then the list, and 8.
+// The hours call planned: 3, then 7 for the minute, then 12 for the lowest block with bad hours,
+// then the list, and 8.
 use crate::BLOCKS;
 use crate::HOURS;
 use crate::blocks::first_bad;

@@ -46,6 +46,7 @@ fn open_in(entry: [u16; HOURS], i: usize, minute: u16) -> bool
     (start <= minute) & (minute < end)
 }
 
+// Says whether there are more windows than four, or a bad one.
 pub(crate) fn hours_bad(entry: [u16; HOURS]) -> bool
     ensures { λ r. ⌜ r ≡ hoursBad (blockHours entry) ⌝ }
 {
@@ -63,6 +64,7 @@ pub(crate) fn hours_bad(entry: [u16; HOURS]) -> bool
     false
 }
 
+// Says whether a window is open at this minute.
 pub(crate) fn open_at(entry: [u16; HOURS], minute: u16) -> bool
     ensures { λ r. ⌜ r ≡ any (openIn minute) (windowsOf (blockHours entry)) ⌝ }
 {

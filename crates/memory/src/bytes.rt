@@ -10,6 +10,7 @@ fn wide(b: u8) -> u16
     b as u16
 }
 
+// Reads the number at an offset.
 pub(crate) fn word(m: &[u8], o: usize) -> u16
     requires { ⌜ o + 1 < length (now m) ⌝ }
     ensures { λ r. ⌜ r ≡ wordAt o (now (m .entry)) ⌝ }
@@ -17,6 +18,7 @@ pub(crate) fn word(m: &[u8], o: usize) -> u16
     wide(m[o]) + 256 * wide(m[o + 1])
 }
 
+// Writes a number at an offset.
 pub(crate) fn set_word(m: &mut [u8], o: usize, v: u16)
     requires { ⌜ o + 1 < length (now m) ⌝ }
     ensures { λ _. ⌜ now (m .exit) ≡ setWord o v (now (m .entry)) ⌝ }

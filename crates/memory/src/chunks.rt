@@ -1,4 +1,5 @@
-// Whether no listed move is hidden: the listed moves are held against each other in chunks of 64, as columns.
+// Whether no listed move is hidden: the listed moves are held against each other in chunks of 64,
+// as columns.
 use crate::columns::CELLS;
 use crate::columns::COLUMNS;
 use crate::columns::fill;
@@ -23,7 +24,8 @@ ghost use Rattle.memory.specs.Room.{Readable, InOrder};
 ghost use Rattle.memory.specs.Chunks as spec;
 ghost use Rattle.memory.specs.Tests as tests;
 
-// The listed moves from one place up to another, the least of each of their costs, and whether none of them hides another.
+// The listed moves from one place up to another, the least of each of their costs, and whether none
+// of them hides another.
 pub struct Chunk {
     pub from: usize,
     pub to: usize,
@@ -31,8 +33,9 @@ pub struct Chunk {
     pub unhidden: bool,
 }
 
-// The next 64 listed moves from place `from` on, or as many as there are, each held against those before it in the chunk. The first
-// becomes every column, so that whichever of them fits is a move of the chunk.
+// The next 64 listed moves from place `from` on, or as many as there are, each held against those
+// before it in the chunk. The first becomes every column, so that whichever of them fits is a move
+// of the chunk.
 fn next_chunk(m: &[u8], h: Head, from: usize, columns: &mut [u16; CELLS]) -> Chunk
     requires { ⌜ Readable h (now m) × (from < h .count) ⌝ }
     ensures { λ r. ⌜ spec.NextChunk h (now (m .entry)) from (now (columns .exit)) r ⌝ }
@@ -102,7 +105,8 @@ fn run_unhidden(
     true
 }
 
-// The same for all places after the chunk. A run is passed by where the chunk's least costs exceed what its moves are held to.
+// The same for all places after the chunk. A run is passed by where the chunk's least costs exceed
+// what its moves are held to.
 fn later_unhidden(
     m: &[u8],
     h: Head,

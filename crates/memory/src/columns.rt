@@ -1,5 +1,5 @@
-// Sixty-four moves as columns, cost by cost: cost k of column j stands at 64 k + j, and one question to all of them takes eight
-// columns a vector.
+// Sixty-four moves as columns, cost by cost: cost k of column j stands at 64 k + j, and one
+// question to all of them takes eight columns a vector.
 use dominance::less;
 use dominance::over;
 use zorder::COSTS;
@@ -35,7 +35,8 @@ pub(crate) fn fits_column(columns: &[u16; CELLS], w: usize, j: usize, q: [u16; C
     zero(worse)
 }
 
-// How many columns are nowhere greater than q in the first w costs. Where w is a number, the compiler takes eight columns at once.
+// How many columns are nowhere greater than q in the first w costs. Where w is a number, the
+// compiler takes eight columns at once.
 fn fitting(columns: &[u16; CELLS], w: usize, q: [u16; COSTS]) -> u16
     requires { ⌜ w ≤ rowCosts ⌝ }
     ensures { λ r. ⌜ r ≡ spec.fitting w (now (columns .entry)) q ⌝ }

@@ -1,4 +1,5 @@
-// Whether the heights are those of a tree: the first is the highest, and at each level every node has entries in number.
+// Whether the heights are those of a tree: the first is the highest, and at each level every node
+// has entries in number.
 use crate::fields::height_at;
 ghost use mathlib.Core.Path.{_≡_};
 ghost use Prim.Native.Nat.{_≤_, _<_};
@@ -65,6 +66,7 @@ fn least_entries(top: u8, l: u8) -> usize
     }
 }
 
+// Says whether the heights of n places are those of a tree.
 pub(crate) fn heights_right(m: &[u8], c: usize, n: usize) -> bool
     requires { ⌜ Room c (now m) × (n ≤ c) ⌝ }
     ensures { λ r. ⌜ r ≡ definition.heightsRight (heightsFrom c n (now (m .entry))) ⌝ }

@@ -1,5 +1,5 @@
-// Whether each move that is not listed is hidden by a listed one before it. What hid one often hides the next, or one of the last
-// eight hiders does: these are tried before the search is asked.
+// Whether each move that is not listed is hidden by a listed one before it. What hid one often
+// hides the next, or one of the last eight hiders does: these are tried before the search is asked.
 use crate::columns::CELLS;
 use crate::columns::fits_column;
 use crate::columns::put;
@@ -35,7 +35,8 @@ fn fitting_hiders(columns: &[u16; CELLS], q: [u16; COSTS]) -> u16 {
     fitting
 }
 
-// Where the first hider stands that is nowhere greater than q, or any of them. Nothing is promised: what it says is tried.
+// Where the first hider stands that is nowhere greater than q, or any of them. Nothing is promised:
+// what it says is tried.
 fn guess(columns: &[u16; CELLS], places: &[usize; HIDERS], q: [u16; COSTS]) -> usize {
     let first = (u16::trailing_zeros(fitting_hiders(columns, q)) % 8) as usize;
     places[first]
@@ -52,7 +53,8 @@ fn tried(m: &[u8], h: Head, k: usize, i: usize, q: [u16; COSTS]) -> bool
     false
 }
 
-// A place before i with a listed move that is nowhere greater than q, of the last hiders; i if none of those tried is.
+// A place before i with a listed move that is nowhere greater than q, of the last hiders; i if none
+// of those tried is.
 fn guessed(
     m: &[u8],
     h: Head,
@@ -75,7 +77,8 @@ fn guessed(
     i
 }
 
-// A place before i with a listed move that is nowhere greater than q, `first` if that is one; i if there is none.
+// A place before i with a listed move that is nowhere greater than q, `first` if that is one; i if
+// there is none.
 pub(crate) fn found_from(
     m: &[u8],
     h: Head,

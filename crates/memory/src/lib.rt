@@ -1,4 +1,5 @@
-// The lent memory: its fields read and written, and whether it is sound. Above this crate nothing names a byte.
+// The lent memory: its fields read and written, and whether it is sound. Above this crate nothing
+// names a byte.
 mod bytes;
 mod chunks;
 mod columns;

@@ -1,5 +1,6 @@
-// One search for everything. Places go in runs of 64, and each run has a corner, the least of each cost over its moves: where
-// the corner is somewhere greater than what is looked for, every move of the run is, and the run is passed by.
+// One search for everything. Places go in runs of 64, and each run has a corner, the least of each
+// cost over its moves: where the corner is somewhere greater than what is looked for, every move of
+// the run is, and the run is passed by.
 use crate::fields::block_of;
 use crate::fields::costs_of;
 use crate::fields::is_listed;
@@ -20,8 +21,9 @@ pub const RUN: usize = 64;
 
 pub const RUNS: usize = 64;
 
-// Which moves a search looks at. Hidden ones are seen from above, each cost as what it lacks of 65535: what is nowhere less
-// than a move is found as what is nowhere greater. Of blocks, bit k of the number stands for block k.
+// Which moves a search looks at. Hidden ones are seen from above, each cost as what it lacks of
+// 65535: what is nowhere less than a move is found as what is nowhere greater. Of blocks, bit k of
+// the number stands for block k.
 pub enum Among {
     All,
     Listed,
@@ -29,6 +31,7 @@ pub enum Among {
     InBlocks(u64),
 }
 
+// Says whether the move of a number lies in one of these blocks.
 pub fn in_blocks(m: &[u8], c: usize, number: u16, blocks: u64) -> bool
     requires { ⌜ Room c (now m) × (number < c) ⌝ }
     ensures { λ r. ⌜ r ≡ spec.inBlocks blocks c (now (m .entry)) number ⌝ }
@@ -87,6 +90,7 @@ pub(crate) fn seen_at(m: &[u8], h: Head, i: usize, among: Among) -> [u16; COSTS]
     seen(among, costs_of(m, h.size, COSTS, number_at(m, h.size, i)))
 }
 
+// Says whether a search looks at the move at place i.
 pub(crate) fn looks_at(m: &[u8], h: Head, i: usize, among: Among) -> bool
     requires { ⌜ Readable h (now m) × (i < h .count) ⌝ }
     ensures { λ r. ⌜ r ≡ spec.looksAt among (h .size) (now (m .entry)) i ⌝ }
@@ -144,6 +148,7 @@ pub(crate) fn run_end(i: usize, to: usize) -> usize
     if end < to { end } else { to }
 }
 
+// Makes the corner of each run, 65535 in every cost where none of its moves is looked at.
 pub fn corners_of(m: &[u8], h: Head, among: Among) -> [[u16; COSTS]; RUNS]
     requires { ⌜ Readable h (now m) ⌝ }
     ensures { λ r. ⌜ spec.Corners among (h .size) (now (m .entry)) (h .count) r ⌝ }
@@ -160,8 +165,8 @@ pub fn corners_of(m: &[u8], h: Head, among: Among) -> [[u16; COSTS]; RUNS]
     corners
 }
 
-// Whether the search looks at the move at place i, and that is nowhere greater than q. Most moves are greater: the costs are asked
-// first.
+// Whether the search looks at the move at place i, and that is nowhere greater than q. Most moves
+// are greater: the costs are asked first.
 pub fn fits_at(m: &[u8], h: Head, i: usize, among: Among, q: [u16; COSTS]) -> bool
     requires { ⌜ Readable h (now m) × (i < h .count) ⌝ }
     ensures { λ r. ⌜ r ≡ spec.fits among (h .size) (now (m .entry)) q i ⌝ }

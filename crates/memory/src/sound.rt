@@ -39,7 +39,8 @@ fn head_of(m: &[u8]) -> Head
     }
 }
 
-// Whether the memory has this layout, C, d and the number of moves are in range and it is long enough for C.
+// Whether the memory has this layout, C, d and the number of moves are in range and it is long
+// enough for C.
 fn head_right(m: &[u8], h: Head) -> bool
     requires { ⌜ HeadOf h (now m) ⌝ }
     ensures { λ r. ⌜ r ≡ tests.headRight (now (m .entry)) ⌝ }

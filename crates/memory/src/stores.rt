@@ -19,6 +19,7 @@ pub fn set_head(m: &mut [u8], c: usize, d: usize, n: usize)
     set_word(m, 4, n as u16);
 }
 
+// Writes the number of moves.
 pub fn set_count(m: &mut [u8], n: usize)
     requires { ⌜ (16 ≤ length (now m)) × (n < 65536) ⌝ }
     ensures { λ _. ⌜ now (m .exit) ≡ stores.setCount n (now (m .entry)) ⌝ }
@@ -26,6 +27,7 @@ pub fn set_count(m: &mut [u8], n: usize)
     set_word(m, 4, n as u16);
 }
 
+// Writes the number of the move at place i.
 pub fn set_number(m: &mut [u8], c: usize, i: usize, number: u16)
     requires { ⌜ Room c (now m) × (i < c) ⌝ }
     ensures { λ _. ⌜ now (m .exit) ≡ stores.setNumber c i number (now (m .entry)) ⌝ }
@@ -33,6 +35,7 @@ pub fn set_number(m: &mut [u8], c: usize, i: usize, number: u16)
     set_word(m, 16 + 2 * i, number);
 }
 
+// Writes the highest level of the nodes that start at place i.
 pub fn set_height(m: &mut [u8], c: usize, i: usize, height: u8)
     requires { ⌜ Room c (now m) × (i < c) ⌝ }
     ensures { λ _. ⌜ now (m .exit) ≡ stores.setHeight c i height (now (m .entry)) ⌝ }
@@ -40,6 +43,7 @@ pub fn set_height(m: &mut [u8], c: usize, i: usize, height: u8)
     m[16 + 2 * c + i] = height;
 }
 
+// Marks the move of a number as listed or hidden.
 pub fn set_listed(m: &mut [u8], c: usize, number: u16, listed: bool)
     requires { ⌜ Room c (now m) × (number < c) ⌝ }
     ensures { λ _. ⌜ now (m .exit) ≡ stores.setListed c number listed (now (m .entry)) ⌝ }
@@ -47,6 +51,7 @@ pub fn set_listed(m: &mut [u8], c: usize, number: u16, listed: bool)
     m[16 + 3 * c + (number as usize)] = if listed { 1 } else { 0 };
 }
 
+// Writes the block of a number's move.
 pub fn set_block(m: &mut [u8], c: usize, number: u16, block: u16)
     requires { ⌜ Room c (now m) × (number < c) × (block < 256) ⌝ }
     ensures { λ _. ⌜ now (m .exit) ≡ stores.setBlock c number block (now (m .entry)) ⌝ }
@@ -54,6 +59,7 @@ pub fn set_block(m: &mut [u8], c: usize, number: u16, block: u16)
     m[16 + 4 * c + (number as usize)] = block as u8;
 }
 
+// Writes the costs of a number's move, all words of the row.
 pub fn set_costs(m: &mut [u8], c: usize, number: u16, costs: [u16; COSTS])
     requires { ⌜ Room c (now m) × (number < c) ⌝ }
     ensures { λ _. ⌜ now (m .exit) ≡ stores.setCosts c number costs (now (m .entry)) ⌝ }
@@ -66,6 +72,7 @@ pub fn set_costs(m: &mut [u8], c: usize, number: u16, costs: [u16; COSTS])
     }
 }
 
+// Writes number i of the work area.
 pub fn set_work(m: &mut [u8], c: usize, i: usize, number: u16)
     requires { ⌜ Room c (now m) × (i < c) ⌝ }
     ensures { λ _. ⌜ now (m .exit) ≡ stores.setWork c i number (now (m .entry)) ⌝ }

@@ -6,12 +6,14 @@ ghost use Rattle.numbers.specs.Set.{inSet, With};
 
 pub const WORDS: usize = 64;
 
+// Makes the set that has no number.
 pub fn empty() -> [u64; WORDS]
     ensures { λ r. ⌜ ((n : ℕ) → inSet r n ≡ false) ⌝ }
 {
     [0u64; WORDS]
 }
 
+// Says whether n is in the set.
 pub fn has(set: &[u64; WORDS], n: u16) -> bool
     requires { ⌜ n < 4096 ⌝ }
     ensures { λ r. ⌜ r ≡ inSet (now (set .entry)) n ⌝ }

@@ -1,5 +1,6 @@
-// The answers of the board's calls and the limits of a board; in specs/ the layout of the lent memory,
-// when it is sound, what each call promises, and the theorem of demand 3 over these promises.
+// The answers of the board's calls and the limits of a board; in specs/ the layout of the lent
+// memory, when it is sound, what each call promises, and the theorem of demand 3 over these
+// promises.
 mod answers;
 mod limits;
 

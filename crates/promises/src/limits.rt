@@ -3,6 +3,7 @@ ghost use mathlib.Core.Bool.{false};
 ghost use mathlib.Core.Path.{_≡_};
 ghost use Rattle.model.specs.Calls.{sizeBad, memoryNeed, blockBad};
 
+// Says whether no board has this size.
 pub fn size_bad(c: usize) -> bool
     ensures { λ r. ⌜ r ≡ sizeBad c ⌝ }
 {
@@ -17,6 +18,7 @@ pub fn memory_need(c: usize) -> usize
     64 * c + 1024
 }
 
+// Says whether no block has this number.
 pub fn block_bad(block: u16) -> bool
     ensures { λ r. ⌜ r ≡ blockBad block ⌝ }
 {

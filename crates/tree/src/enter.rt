@@ -16,8 +16,8 @@ ghost use Prim.Native.Nat.{_<_};
 ghost use Rattle.dominance.specs.Move.{asMove};
 ghost use Rattle.tree.specs.Enter as enter;
 
-// Whether x becomes the first of the nodes that start at place p: before the first move always, in a gap if the later
-// neighbour gets the lesser side.
+// Whether x becomes the first of the nodes that start at place p: before the first move always, in
+// a gap if the later neighbour gets the lesser side.
 fn takes_over(m: &[u8], h: Head, p: usize, x: Move) -> bool
     requires { ⌜ enter.PlaceAsked (h .size) (h .dimension) (h .count) p (now m) ⌝ }
     ensures { λ r. ⌜ enter.TakesOver (h .size) (h .dimension) (h .count) p (asMove x) (now (m .entry)) r ⌝ }

@@ -1,4 +1,5 @@
-// The tree in the lent memory: the flat operations of `line` on its rows. Only rows and the work area are written here.
+// The tree in the lent memory: the flat operations of `line` on its rows. Only rows and the work
+// area are written here.
 mod enter;
 mod insert;
 mod nodes;

@@ -60,7 +60,8 @@ fn widened(m: &[u8], c: usize, n: usize, p: usize) -> Range
     Range { from, to }
 }
 
-// The numbers of the rows from `from` up to `to`, but for one, put into the work area; how many they are.
+// The numbers of the rows from `from` up to `to`, but for one, put into the work area; how many
+// they are.
 fn save(m: &mut [u8], c: usize, from: usize, to: usize, number: u16) -> usize
     requires { ⌜ withdraw.SaveAsked c from to (now m) ⌝ }
     ensures { λ r. ⌜ withdraw.Saved c from to number (now (m .entry)) (now (m .exit)) r ⌝ }

@@ -27,7 +27,8 @@ pub struct Entered {
     pub opened: usize,
 }
 
-// Whether the move at place i, which is not listed, comes up: that can be only where the going one, which is listed, hides it.
+// Whether the move at place i, which is not listed, comes up: that can be only where the going one,
+// which is listed, hides it.
 fn comes_up(m: &[u8], h: Head, k: Exchange, corners: &[[u16; COSTS]; RUNS], i: usize) -> bool
     requires { ⌜ spec.GoesListed h k (now m) × spec.AllCorners h (now m) (now corners) × (i < h .count) ⌝ }
     ensures { λ r. ⌜ r ≡ spec.comesUp (h .size) (h .dimension) (h .count) k (moveIn (h .size) (h .dimension) (now (m .entry)) i) (now (m .entry)) ⌝ }
@@ -94,7 +95,8 @@ fn find_in_leaf(
     entered
 }
 
-// The moves that enter the list, where a listed one goes: they are looked for in the leaves that are opened, and nowhere else.
+// The moves that enter the list, where a listed one goes: they are looked for in the leaves that
+// are opened, and nowhere else.
 fn find_in_leaves(
     m: &[u8],
     h: Head,

@@ -35,8 +35,8 @@ pub struct Upkeep {
     pub listed: bool,
 }
 
-// Whether a move other than that at place `goes` hides x, whose place is i: only earlier moves can, and they do where they are
-// nowhere greater.
+// Whether a move other than that at place `goes` hides x, whose place is i: only earlier moves can,
+// and they do where they are nowhere greater.
 pub fn hidden_by_others(
     m: &[u8],
     h: Head,

@@ -52,7 +52,8 @@ fn find_leaving(m: &[u8], h: Head, k: Exchange, changed: &mut [u64; WORDS]) -> u
     left
 }
 
-// Whether a move comes and is listed afterwards; its place is that among the moves before the change.
+// Whether a move comes and is listed afterwards; its place is that among the moves before the
+// change.
 fn coming_listed(
     m: &[u8],
     h: Head,
@@ -71,6 +72,7 @@ fn coming_listed(
     !hidden_by_others(m, h, k.goes, place, corners, x)
 }
 
+// Finds who leaves the list and who enters it; a coming move gets `place`.
 pub fn upkeep_of(m: &[u8], h: Head, k: Exchange, place: usize) -> Upkeep
     requires { ⌜ spec.ChangeAsked h k (now m) ⌝ }
     requires { ⌜ spec.ComingPlace h k (now m) place ⌝ }

@@ -1,7 +1,8 @@
 // Addresses and regions in Z-order, without the tree (document 01, "Moves, addresses, regions").
 //
-// The calls `address`, `costs` and `region` have no `requires`: they refuse. The functions of `between` serve the crates
-// above, which name no address: a wider address changes this crate alone. So do `zero_past` and `cost_count_bad`.
+// The calls `address`, `costs` and `region` have no `requires`: they refuse. The functions of
+// `between` serve the crates above, which name no address: a wider address changes this crate
+// alone. So do `zero_past` and `cost_count_bad`.
 mod between;
 mod corners;
 mod interleave;
