@@ -1,8 +1,8 @@
--- What the walks of enter, withdraw and re-cost share: all of them but the parameter between memory and rows, the name of what makes the change of it, and that change. The memory and the rows are given up for good.
+-- What the walks of enter, withdraw and re-cost share: all of them but the parameter between memory and rows, the name of what makes the change of it, that change, and the definitions' change that it asks for. The memory and the rows are given up for good.
 --     function             their MIR, by parameter and name
 --     changed-meets        the MIR meets the contract
 -- Assumes `Given`.
-use mathlib.Core.Path.{_≡_, refl}
+use mathlib.Core.Path.{_≡_, refl, subst}
 use Prim.Native.Nat.{ℕ}
 use mathlib.Core.List.{[], _∷_, List}
 use lib.ListN.{length}
@@ -36,6 +36,7 @@ use denote.Triple.Spec.{Meets}
 use denote.Triple.Statement.{Triple}
 use denote.Triple.Walked.{says, Stays, stay-none, gave-slice, walkOf, goes-none, goes-gave-slice, Walks, ends-at, walked, walk-meets}
 use denote.Exit.{yes}
+use Rattle.model.specs.Calls as calls
 use Rattle.board.specs.Kind.{callOf}
 use Rattle.board.specs.declared.change.Change.{Change}
 use Rattle.board.proofs.change.Change.Laws as X′
@@ -90,10 +91,10 @@ endedOf P = record { signature = signatureOf P; kept = (yes, (yes, (yes, tt))) }
 abbrev stayed : (P : ByValue) → Stays (endedOf P .signature .params) (endedOf P .kept)
 stayed P = (gave-slice (0 ∷ []) tt (plain (λ _. u8)), (stay-none (λ _. typeOf P) yes, (gave-slice (1 ∷ []) tt (plain (λ _. T.the-row)), tt)))
 
-abbrev clausesOf : {M : Type 1} (𝓤 : URA M) (P : ByValue) → (P .Denot → Change) → Clauses 𝓤 (endedOf P)
-clausesOf 𝓤 P ask κs a = record { ghost = Unit {0}; requires = λ _. emp 𝓤; ensures = λ _ r e. fact 𝓤 (ChangeExported (callOf (ask (a .1 .0))) (a .0 .now) (rowsOf (a .1 .1 .0 .now)) r (e .0 .now) (rowsOf (e .1 .1 .0 .now))) }
+abbrev clausesOf : {M : Type 1} (𝓤 : URA M) (P : ByValue) → (P .Denot → calls.Change) → Clauses 𝓤 (endedOf P)
+clausesOf 𝓤 P does κs a = record { ghost = Unit {0}; requires = λ _. emp 𝓤; ensures = λ _ r e. fact 𝓤 (ChangeExported (does (a .1 .0)) (a .0 .now) (rowsOf (a .1 .1 .0 .now)) r (e .0 .now) (rowsOf (e .1 .1 .0 .now))) }
 
-module _ {M : Type 1} (𝓤 : URA M) (H : Heap 𝓤) (A : Atoms 𝓤) (W : Given 𝓤 H A) (mem : Memory → SProp 𝓤) (run : Routine → Fun 𝓤) (P : ByValue) (ask : P .Denot → Change) (κ κr : Lft) (q qr : Share) (b o br or : ℕ) (γ γr : GName) (m : List ℕ) (x : P .Denot) (ys : List Row) (x-is : Is (typeOf P) x (P .val x ∷ [])) where
+module _ {M : Type 1} (𝓤 : URA M) (H : Heap 𝓤) (A : Atoms 𝓤) (W : Given 𝓤 H A) (mem : Memory → SProp 𝓤) (run : Routine → Fun 𝓤) (P : ByValue) (ask : P .Denot → Change) (does : P .Denot → calls.Change) (ties : (x : P .Denot) → callOf (ask x) ≡ does x) (κ κr : Lft) (q qr : Share) (b o br or : ℕ) (γ γr : GName) (m : List ℕ) (x : P .Denot) (ys : List Row) (x-is : Is (typeOf P) x (P .val x ∷ [])) where
   abbrev s : Val
   s = sliceVal (b, o) (length m)
 
@@ -110,13 +111,13 @@ module _ {M : Type 1} (𝓤 : URA M) (H : Heap 𝓤) (A : Atoms 𝓤) (W : Given
   vals = (s ∷ [], (P .val x ∷ [], (sr ∷ [], tt)))
 
   abbrev Post : Val → SProp 𝓤
-  Post = walkOf 𝓤 H A (endedOf P) (stayed P) (clausesOf 𝓤 P ask) .post (((κ, (κr, tt)), (q, (qr, tt)), tt, a, vals), tt)
+  Post = walkOf 𝓤 H A (endedOf P) (stayed P) (clausesOf 𝓤 P does) .post (((κ, (κr, tt)), (q, (qr, tt)), tt, a, vals), tt)
 
-  exits : (r : Answer) (w : Val) (ms : List ℕ) (zs : List Row) → ChangeExported (callOf (ask x)) m (rowsOf ys) r ms (rowsOf zs) → length ms ≡ length m → length zs ≡ length ys → Is N.the-row r (w ∷ [])
+  exits : (r : Answer) (w : Val) (ms : List ℕ) (zs : List Row) → ChangeExported (does x) m (rowsOf ys) r ms (rowsOf zs) → length ms ≡ length m → length zs ≡ length ys → Is N.the-row r (w ∷ [])
       → ent 𝓤 (⋆ 𝓤 H A (‵ (flft κ q) ∷ ‵ (flft κr qr) ∷ ‵ (finally u8 γ ms) ∷ ‵ (finally T.the-row γr zs) ∷ [])) (Post w)
   exits r w ms zs e l lr is =
       qed W (‵ (flft κ q) ∷ ‵ (flft κr qr) ∷ ‵ (finally u8 γ ms) ∷ ‵ (finally T.the-row γr zs) ∷ []) ∵
-      suffices ! _ (ends-at 𝓤 H A (endedOf P) (stayed P) (clausesOf 𝓤 P ask) W (((κ, (κr, tt)), (q, (qr, tt)), tt, a, vals), tt) w r (ms, (tt, (zs, tt))) (l, (tt, (lr, tt)))) $ says ! e $
+      suffices ! _ (ends-at 𝓤 H A (endedOf P) (stayed P) (clausesOf 𝓤 P does) W (((κ, (κr, tt)), (q, (qr, tt)), tt, a, vals), tt) w r (ms, (tt, (zs, tt))) (l, (tt, (lr, tt)))) $ says ! e $
       nothing ! $ move ! (2 ∷ 0 ∷ []) $ join ! $ move ! (1 ∷ 0 ∷ []) $ join ! $ frame ! $
       nothing ! $ move ! (2 ∷ 0 ∷ []) $ fjoin ! $ owned ! (typeOf P) (Is (typeOf P)) (P .makes 𝓤 H A W) x _ x-is $ fjoin ! $ move ! (1 ∷ 0 ∷ []) $ fjoin ! $
       owned ! N.the-row (Is N.the-row) (LL.makes N.the-type N′.the-plain 𝓤 H A) r _ is $ move ! (1 ∷ 0 ∷ []) $ done !
@@ -145,17 +146,17 @@ module _ {M : Type 1} (𝓤 : URA M) (H : Heap 𝓤) (A : Atoms 𝓤) (W : Given
         land ! (from ! (stop !)) (init ! 20 refl (LL.lawful N.the-type N′.the-laws 𝓤 H A W .typed r _ is₁ .0)) $
         returns ! (look ! 20 refl) $ forget ! 4 refl $ forget ! 6 refl $ forget ! 8 refl $ forget ! 10 refl $ forget ! 12 refl $ forget ! 14 refl $ forget ! 16 refl $ forget ! 18 refl $ forget ! 20 refl $
         move ! (20 ∷ 21 ∷ 18 ∷ 19 ∷ 16 ∷ 17 ∷ 14 ∷ 15 ∷ 12 ∷ 13 ∷ 10 ∷ 11 ∷ 8 ∷ 9 ∷ 6 ∷ 7 ∷ 4 ∷ 5 ∷ []) $ free-all ! (envOf 𝓤 H (function P name .locals) (l₀ ∷ l₁ ∷ l₂ ∷ l₃ ∷ l₄ ∷ l₅ ∷ l₆ ∷ l₇ ∷ l₈ ∷ [])) $
-        by ! (exits r w₁ ms zs e₁ l lr is₁))))))))))))
+        by ! (exits r w₁ ms zs (subst (λ c. ChangeExported c m (rowsOf ys) r ms (rowsOf zs)) (ties x) e₁) l lr is₁))))))))))))
 
-module _ {M : Type 1} (𝓤 : URA M) (H : Heap 𝓤) (A : Atoms 𝓤) (W : Given 𝓤 H A) (mem : Memory → SProp 𝓤) (run : Routine → Fun 𝓤) (P : ByValue) (ask : P .Denot → Change) (𝓣 : Tables 𝓤 H) (name : Name) (known-ask : Triple 𝓤 (𝓣 .C name) (AskOf P ask 𝓤 H A)) (known-change : Triple 𝓤 (𝓣 .C #dolzhev·change·change) (ChangeC 𝓤 H A mem run)) where
-  changed-walks : Walks 𝓤 H A (endedOf P) (stayed P) (WpFn 𝓤 H (𝓣 .C) (𝓣 .Λ) (function P name)) (clausesOf 𝓤 P ask)
-  changed-walks = walked 𝓤 H A (endedOf P) (stayed P) (clausesOf 𝓤 P ask) (WpFn 𝓤 H (𝓣 .C) (𝓣 .Λ) (function P name))
+module _ {M : Type 1} (𝓤 : URA M) (H : Heap 𝓤) (A : Atoms 𝓤) (W : Given 𝓤 H A) (mem : Memory → SProp 𝓤) (run : Routine → Fun 𝓤) (P : ByValue) (ask : P .Denot → Change) (does : P .Denot → calls.Change) (ties : (x : P .Denot) → callOf (ask x) ≡ does x) (𝓣 : Tables 𝓤 H) (name : Name) (known-ask : Triple 𝓤 (𝓣 .C name) (AskOf P ask 𝓤 H A)) (known-change : Triple 𝓤 (𝓣 .C #dolzhev·change·change) (ChangeC 𝓤 H A mem run)) where
+  changed-walks : Walks 𝓤 H A (endedOf P) (stayed P) (WpFn 𝓤 H (𝓣 .C) (𝓣 .Λ) (function P name)) (clausesOf 𝓤 P does)
+  changed-walks = walked 𝓤 H A (endedOf P) (stayed P) (clausesOf 𝓤 P does) (WpFn 𝓤 H (𝓣 .C) (𝓣 .Λ) (function P name))
       (λ κs. (slice-vals, ((λ x. P .val x ∷ []), (slice-vals, tt)))) (λ κs. (mut-slice-tells (named 0) (κs .0) u8, (P .tells, (mut-slice-tells (named 1) (κs .1 .0) T.the-row, tt))))
       (λ κs qs bounds a g are. via 𝓤 _ (fst∗ 𝓤 _ (emp 𝓤))
-      (walk 𝓤 H A W mem run P ask (κs .0) (κs .1 .0) (qs .0) (qs .1 .0) (a .0 .ptr .0) (a .0 .ptr .1) (a .1 .1 .0 .ptr .0) (a .1 .1 .0 .ptr .1) (a .0 .name) (a .1 .1 .0 .name) (a .0 .now) (a .1 .0) (a .1 .1 .0 .now) (are .1 .0) 𝓣 (fmOf 𝓤 H (W .laws) 𝓣) name known-ask known-change
+      (walk 𝓤 H A W mem run P ask does ties (κs .0) (κs .1 .0) (qs .0) (qs .1 .0) (a .0 .ptr .0) (a .0 .ptr .1) (a .1 .1 .0 .ptr .0) (a .1 .1 .0 .ptr .1) (a .0 .name) (a .1 .1 .0 .name) (a .0 .now) (a .1 .0) (a .1 .1 .0 .now) (are .1 .0) 𝓣 (fmOf 𝓤 H (W .laws) 𝓣) name known-ask known-change
       (are .0 .0 .1) (are .1 .1 .0 .0 .1)))
 
-  pub changed-meets : Meets 𝓤 H A (signatureOf P) (WpFn 𝓤 H (𝓣 .C) (𝓣 .Λ) (function P name)) (closing 𝓤 H A (endedOf P) (clausesOf 𝓤 P ask))
+  pub changed-meets : Meets 𝓤 H A (signatureOf P) (WpFn 𝓤 H (𝓣 .C) (𝓣 .Λ) (function P name)) (closing 𝓤 H A (endedOf P) (clausesOf 𝓤 P does))
   changed-meets =
-      walk-meets 𝓤 H A (endedOf P) (stayed P) W (goes-gave-slice 𝓤 H A W 2 0 tt (plain (λ _. u8)), (goes-none 𝓤 H A W 2 (λ _. typeOf P) yes (λ κs x f. refl), (goes-gave-slice 𝓤 H A W 2 1 tt (plain (λ _. T.the-row)), tt))) (clausesOf 𝓤 P ask)
+      walk-meets 𝓤 H A (endedOf P) (stayed P) W (goes-gave-slice 𝓤 H A W 2 0 tt (plain (λ _. u8)), (goes-none 𝓤 H A W 2 (λ _. typeOf P) yes (λ κs x f. refl), (goes-gave-slice 𝓤 H A W 2 1 tt (plain (λ _. T.the-row)), tt))) (clausesOf 𝓤 P does)
       (WpFn 𝓤 H (𝓣 .C) (𝓣 .Λ) (function P name)) (WpFn-mono 𝓤 H (W .laws) 𝓣 (function P name)) changed-walks

@@ -1,8 +1,8 @@
--- What the walks of the previews share: all of them but the parameter between memory and rows, the name of what makes the change of it, and that change. The memory is lent shared to `preview`; the rows are given up for good.
+-- What the walks of the previews share: all of them but the parameter between memory and rows, the name of what makes the change of it, that change, and the definitions' change that it asks for. The memory is lent shared to `preview`; the rows are given up for good.
 --     function             their MIR, by parameter and name
 --     previewed-meets      the MIR meets the contract
 -- Assumes `Given`.
-use mathlib.Core.Path.{_≡_, refl}
+use mathlib.Core.Path.{_≡_, refl, subst}
 use Prim.Native.Nat.{ℕ}
 use mathlib.Core.List.{[], _∷_, List}
 use lib.ListN.{length}
@@ -36,6 +36,7 @@ use denote.Triple.Spec.{Meets}
 use denote.Triple.Statement.{Triple}
 use denote.Triple.Walked.{says, Stays, stay-none, stay-none-slice, gave-slice, walkOf, goes-none, goes-none-slice, goes-gave-slice, Walks, ends-at, walked, walk-meets}
 use denote.Exit.{yes}
+use Rattle.model.specs.Calls as calls
 use Rattle.board.specs.Kind.{callOf}
 use Rattle.board.specs.declared.change.Change.{Change}
 use Rattle.board.proofs.change.Change.Laws as X′
@@ -88,10 +89,10 @@ endedOf P = record { signature = signatureOf P; kept = (yes, (yes, (yes, tt))) }
 abbrev stayed : (P : ByValue) → Stays (endedOf P .signature .params) (endedOf P .kept)
 stayed P = (stay-none-slice (0 ∷ []) tt (plain (λ _. u8)) yes, (stay-none (λ _. typeOf P) yes, (gave-slice (1 ∷ []) tt (plain (λ _. T.the-row)), tt)))
 
-abbrev clausesOf : {M : Type 1} (𝓤 : URA M) (P : ByValue) → (P .Denot → Change) → Clauses 𝓤 (endedOf P)
-clausesOf 𝓤 P ask κs a = record { ghost = Unit {0}; requires = λ _. emp 𝓤; ensures = λ _ r e. fact 𝓤 (PreviewExported (callOf (ask (a .1 .0))) (a .0 .now) (rowsOf (a .1 .1 .0 .now)) r (rowsOf (e .1 .1 .0 .now))) }
+abbrev clausesOf : {M : Type 1} (𝓤 : URA M) (P : ByValue) → (P .Denot → calls.Change) → Clauses 𝓤 (endedOf P)
+clausesOf 𝓤 P does κs a = record { ghost = Unit {0}; requires = λ _. emp 𝓤; ensures = λ _ r e. fact 𝓤 (PreviewExported (does (a .1 .0)) (a .0 .now) (rowsOf (a .1 .1 .0 .now)) r (rowsOf (e .1 .1 .0 .now))) }
 
-module _ {M : Type 1} (𝓤 : URA M) (H : Heap 𝓤) (A : Atoms 𝓤) (W : Given 𝓤 H A) (mem : Memory → SProp 𝓤) (run : Routine → Fun 𝓤) (P : ByValue) (ask : P .Denot → Change) (κ κr : Lft) (q qr : Share) (b o br or : ℕ) (γ γr : GName) (m : List ℕ) (x : P .Denot) (ys : List Row) (x-is : Is (typeOf P) x (P .val x ∷ [])) where
+module _ {M : Type 1} (𝓤 : URA M) (H : Heap 𝓤) (A : Atoms 𝓤) (W : Given 𝓤 H A) (mem : Memory → SProp 𝓤) (run : Routine → Fun 𝓤) (P : ByValue) (ask : P .Denot → Change) (does : P .Denot → calls.Change) (ties : (x : P .Denot) → callOf (ask x) ≡ does x) (κ κr : Lft) (q qr : Share) (b o br or : ℕ) (γ γr : GName) (m : List ℕ) (x : P .Denot) (ys : List Row) (x-is : Is (typeOf P) x (P .val x ∷ [])) where
   abbrev s : Val
   s = sliceVal (b, o) (length m)
 
@@ -108,16 +109,16 @@ module _ {M : Type 1} (𝓤 : URA M) (H : Heap 𝓤) (A : Atoms 𝓤) (W : Given
   vals = (s ∷ [], (P .val x ∷ [], (sr ∷ [], tt)))
 
   abbrev Post : Val → SProp 𝓤
-  Post = walkOf 𝓤 H A (endedOf P) (stayed P) (clausesOf 𝓤 P ask) .post (((κ, (κr, tt)), (q, (qr, tt)), tt, a, vals), tt)
+  Post = walkOf 𝓤 H A (endedOf P) (stayed P) (clausesOf 𝓤 P does) .post (((κ, (κr, tt)), (q, (qr, tt)), tt, a, vals), tt)
 
   abbrev Bytes : Item 𝓤
   Bytes = ‵ (ShrSlice (named 0) κ u8 .own (at-list u8 b o γ m) (s ∷ []))
 
-  exits : (r : Answer) (w : Val) (zs : List Row) → PreviewExported (callOf (ask x)) m (rowsOf ys) r (rowsOf zs) → length zs ≡ length ys → Is N.the-row r (w ∷ [])
+  exits : (r : Answer) (w : Val) (zs : List Row) → PreviewExported (does x) m (rowsOf ys) r (rowsOf zs) → length zs ≡ length ys → Is N.the-row r (w ∷ [])
       → ent 𝓤 (⋆ 𝓤 H A (‵ (flft κ q) ∷ ‵ (flft κr qr) ∷ ‵ (finally T.the-row γr zs) ∷ Bytes ∷ [])) (Post w)
   exits r w zs e lr is =
       qed W (‵ (flft κ q) ∷ ‵ (flft κr qr) ∷ ‵ (finally T.the-row γr zs) ∷ Bytes ∷ []) ∵
-      suffices ! _ (ends-at 𝓤 H A (endedOf P) (stayed P) (clausesOf 𝓤 P ask) W (((κ, (κr, tt)), (q, (qr, tt)), tt, a, vals), tt) w r (tt, (tt, (zs, tt))) (tt, (tt, (lr, tt)))) $ says ! e $
+      suffices ! _ (ends-at 𝓤 H A (endedOf P) (stayed P) (clausesOf 𝓤 P does) W (((κ, (κr, tt)), (q, (qr, tt)), tt, a, vals), tt) w r (tt, (tt, (zs, tt))) (tt, (tt, (lr, tt)))) $ says ! e $
       nothing ! $ move ! (2 ∷ 0 ∷ []) $ join ! $ move ! (1 ∷ 0 ∷ []) $ join ! $ frame ! $
       nothing ! $ move ! (1 ∷ 0 ∷ []) $ fjoin ! $ owned ! (typeOf P) (Is (typeOf P)) (P .makes 𝓤 H A W) x _ x-is $ fjoin ! $ move ! (1 ∷ 0 ∷ []) $ fjoin ! $
       owned ! N.the-row (Is N.the-row) (LL.makes N.the-type N′.the-plain 𝓤 H A) r _ is $ move ! (1 ∷ 0 ∷ []) $ done !
@@ -144,17 +145,17 @@ module _ {M : Type 1} (𝓤 : URA M) (H : Heap 𝓤) (A : Atoms 𝓤) (W : Given
         land ! (from ! (stop !)) (init ! 16 refl (LL.lawful N.the-type N′.the-laws 𝓤 H A W .typed r _ is₁ .0)) $
         returns ! (look ! 16 refl) $ forget ! 4 refl $ forget ! 6 refl $ forget ! 8 refl $ forget ! 10 refl $ forget ! 12 refl $ forget ! 14 refl $ forget ! 16 refl $
         move ! (16 ∷ 17 ∷ 14 ∷ 15 ∷ 12 ∷ 13 ∷ 10 ∷ 11 ∷ 8 ∷ 9 ∷ 6 ∷ 7 ∷ 4 ∷ 5 ∷ []) $ free-all ! (envOf 𝓤 H (function P name .locals) (l₀ ∷ l₁ ∷ l₂ ∷ l₃ ∷ l₄ ∷ l₅ ∷ l₆ ∷ [])) $
-        by ! (exits r w₁ zs e₁ lr is₁))))))))))
+        by ! (exits r w₁ zs (subst (λ c. PreviewExported c m (rowsOf ys) r (rowsOf zs)) (ties x) e₁) lr is₁))))))))))
 
-module _ {M : Type 1} (𝓤 : URA M) (H : Heap 𝓤) (A : Atoms 𝓤) (W : Given 𝓤 H A) (mem : Memory → SProp 𝓤) (run : Routine → Fun 𝓤) (P : ByValue) (ask : P .Denot → Change) (𝓣 : Tables 𝓤 H) (name : Name) (known-ask : Triple 𝓤 (𝓣 .C name) (AskOf P ask 𝓤 H A)) (known-preview : Triple 𝓤 (𝓣 .C #dolzhev·preview·preview) (PreviewC 𝓤 H A mem run)) where
-  previewed-walks : Walks 𝓤 H A (endedOf P) (stayed P) (WpFn 𝓤 H (𝓣 .C) (𝓣 .Λ) (function P name)) (clausesOf 𝓤 P ask)
-  previewed-walks = walked 𝓤 H A (endedOf P) (stayed P) (clausesOf 𝓤 P ask) (WpFn 𝓤 H (𝓣 .C) (𝓣 .Λ) (function P name))
+module _ {M : Type 1} (𝓤 : URA M) (H : Heap 𝓤) (A : Atoms 𝓤) (W : Given 𝓤 H A) (mem : Memory → SProp 𝓤) (run : Routine → Fun 𝓤) (P : ByValue) (ask : P .Denot → Change) (does : P .Denot → calls.Change) (ties : (x : P .Denot) → callOf (ask x) ≡ does x) (𝓣 : Tables 𝓤 H) (name : Name) (known-ask : Triple 𝓤 (𝓣 .C name) (AskOf P ask 𝓤 H A)) (known-preview : Triple 𝓤 (𝓣 .C #dolzhev·preview·preview) (PreviewC 𝓤 H A mem run)) where
+  previewed-walks : Walks 𝓤 H A (endedOf P) (stayed P) (WpFn 𝓤 H (𝓣 .C) (𝓣 .Λ) (function P name)) (clausesOf 𝓤 P does)
+  previewed-walks = walked 𝓤 H A (endedOf P) (stayed P) (clausesOf 𝓤 P does) (WpFn 𝓤 H (𝓣 .C) (𝓣 .Λ) (function P name))
       (λ κs. (slice-vals, ((λ x. P .val x ∷ []), (slice-vals, tt)))) (λ κs. (shr-slice-tells (named 0) (κs .0) u8, (P .tells, (mut-slice-tells (named 1) (κs .1 .0) T.the-row, tt))))
       (λ κs qs bounds a g are. via 𝓤 _ (fst∗ 𝓤 _ (emp 𝓤))
-      (walk 𝓤 H A W mem run P ask (κs .0) (κs .1 .0) (qs .0) (qs .1 .0) (a .0 .ptr .0) (a .0 .ptr .1) (a .1 .1 .0 .ptr .0) (a .1 .1 .0 .ptr .1) (a .0 .name) (a .1 .1 .0 .name) (a .0 .now) (a .1 .0) (a .1 .1 .0 .now) (are .1 .0) 𝓣 (fmOf 𝓤 H (W .laws) 𝓣) name known-ask known-preview
+      (walk 𝓤 H A W mem run P ask does ties (κs .0) (κs .1 .0) (qs .0) (qs .1 .0) (a .0 .ptr .0) (a .0 .ptr .1) (a .1 .1 .0 .ptr .0) (a .1 .1 .0 .ptr .1) (a .0 .name) (a .1 .1 .0 .name) (a .0 .now) (a .1 .0) (a .1 .1 .0 .now) (are .1 .0) 𝓣 (fmOf 𝓤 H (W .laws) 𝓣) name known-ask known-preview
       (are .0 .0 .1) (are .1 .1 .0 .0 .1)))
 
-  pub previewed-meets : Meets 𝓤 H A (signatureOf P) (WpFn 𝓤 H (𝓣 .C) (𝓣 .Λ) (function P name)) (closing 𝓤 H A (endedOf P) (clausesOf 𝓤 P ask))
+  pub previewed-meets : Meets 𝓤 H A (signatureOf P) (WpFn 𝓤 H (𝓣 .C) (𝓣 .Λ) (function P name)) (closing 𝓤 H A (endedOf P) (clausesOf 𝓤 P does))
   previewed-meets =
-      walk-meets 𝓤 H A (endedOf P) (stayed P) W (goes-none-slice 𝓤 H A W 2 (0 ∷ []) tt (plain (λ _. u8)) yes, (goes-none 𝓤 H A W 2 (λ _. typeOf P) yes (λ κs x f. refl), (goes-gave-slice 𝓤 H A W 2 1 tt (plain (λ _. T.the-row)), tt))) (clausesOf 𝓤 P ask)
+      walk-meets 𝓤 H A (endedOf P) (stayed P) W (goes-none-slice 𝓤 H A W 2 (0 ∷ []) tt (plain (λ _. u8)) yes, (goes-none 𝓤 H A W 2 (λ _. typeOf P) yes (λ κs x f. refl), (goes-gave-slice 𝓤 H A W 2 1 tt (plain (λ _. T.the-row)), tt))) (clausesOf 𝓤 P does)
       (WpFn 𝓤 H (𝓣 .C) (𝓣 .Λ) (function P name)) (WpFn-mono 𝓤 H (W .laws) 𝓣 (function P name)) previewed-walks

@@ -1,7 +1,7 @@
 -- The exported calls keep the promises of `promises`, with rows as structs and the verdict by number and detail.
 use Prim.Native.Nat.{ℕ, _+_, _<_, _≤_}
 use mathlib.Core.List.{List, map}
-use mathlib.Core.Path.{_≡_}
+use mathlib.Core.Path.{_≡_, refl}
 use lib.ListN.{length, replicate}
 use Rattle.model.specs.Moves as model
 use Rattle.model.specs.Calls as calls
@@ -13,6 +13,7 @@ use Rattle.zorder.specs.Address.{rowCosts}
 use Rattle.rows.specs.Telling.{TellingAsked}
 use Rattle.rows.specs.Rows.{rowNumbers}
 use Rattle.rows.specs.declared.row.Row.{Row}
+use Rattle.board.specs.Kind.{changeOf, callOf}
 use Rattle.board.specs.Plan.{leftOf, enteredOf, rowsFilled}
 use Rattle.board.specs.declared.change.Change.{Change}
 use Rattle.board.specs.declared.change.Kind.the-variants.{Enter, Withdraw, Recost}
@@ -35,15 +36,34 @@ Answered v need opened = Handed v (counted (numberOf v) need) (counted (numberOf
 unfoldable pub rowsOf : List Row → List model.Row
 rowsOf rows = map resultRow (map rowNumbers rows)
 
--- What the changes are asked, from what the calls are given.
-abbrev pub entering : Move → Change
-entering given = record { kind = Enter; number = given .number; block = given .block; costs = given .costs }
+-- The changes of the definitions, from the move that a call is given.
+abbrev pub entering : Move → calls.Change
+entering given = calls.enter (given .number) (given .block) (given .costs)
 
-abbrev pub withdrawing : ℕ → Change
-withdrawing number = record { kind = Withdraw; number = number; block = 0; costs = replicate rowCosts 0 }
+abbrev pub recosting : Move → calls.Change
+recosting given = calls.recost (given .number) (given .block) (given .costs)
 
-abbrev pub recosting : Move → Change
-recosting given = record { kind = Recost; number = given .number; block = given .block; costs = given .costs }
+-- The same as the code asks for them.
+abbrev pub askedEnter : Move → Change
+askedEnter given = record { kind = Enter; number = given .number; block = given .block; costs = given .costs }
+
+abbrev pub askedWithdraw : ℕ → Change
+askedWithdraw number = record { kind = Withdraw; number = number; block = 0; costs = replicate rowCosts 0 }
+
+abbrev pub askedRecost : Move → Change
+askedRecost given = record { kind = Recost; number = given .number; block = given .block; costs = given .costs }
+
+pub enter-asked : (given : Move) → callOf (askedEnter given) ≡ entering given
+unfolding changeOf
+enter-asked given = refl
+
+pub withdraw-asked : (number : ℕ) → callOf (askedWithdraw number) ≡ calls.withdraw number
+unfolding changeOf
+withdraw-asked number = refl
+
+pub recost-asked : (given : Move) → callOf (askedRecost given) ≡ recosting given
+unfolding changeOf
+recost-asked given = refl
 
 -- ---- what is promised
 

@@ -8,7 +8,7 @@ ghost use Rattle.dolzhev.specs.Exported as spec;
 
 // A move enters.
 pub fn entering(given: Move) -> Change
-    ensures { λ r. ⌜ r ≡ spec.entering given ⌝ }
+    ensures { λ r. ⌜ r ≡ spec.askedEnter given ⌝ }
 {
     let costs = given.costs;
     Change {
@@ -21,7 +21,7 @@ pub fn entering(given: Move) -> Change
 
 // The move of a number is withdrawn.
 pub fn withdrawing(number: u16) -> Change
-    ensures { λ r. ⌜ r ≡ spec.withdrawing number ⌝ }
+    ensures { λ r. ⌜ r ≡ spec.askedWithdraw number ⌝ }
 {
     Change {
         kind: Kind::Withdraw,
@@ -33,7 +33,7 @@ pub fn withdrawing(number: u16) -> Change
 
 // A move gets new costs and a block.
 pub fn recosting(given: Move) -> Change
-    ensures { λ r. ⌜ r ≡ spec.recosting given ⌝ }
+    ensures { λ r. ⌜ r ≡ spec.askedRecost given ⌝ }
 {
     let costs = given.costs;
     Change {

@@ -10,6 +10,7 @@ use board::Change;
 use board::carry_out;
 use board::plan_change;
 use rows::Row;
+ghost use Rattle.model.specs.Calls.{withdraw};
 ghost use Rattle.board.specs.Kind.{callOf};
 ghost use Rattle.dolzhev.specs.Exported as spec;
 ghost use Rattle.dolzhev.specs.Exported.{rowsOf, ChangeExported};
@@ -26,21 +27,21 @@ pub fn change(memory: &mut [u8], x: Change, rows: &mut [Row]) -> Answer
 
 #[no_mangle]
 pub extern "C" fn dolzhev_enter(memory: &mut [u8], given: Move, rows: &mut [Row]) -> Answer
-    ensures { λ r. ⌜ ChangeExported (callOf (spec.entering given)) (now (memory .entry)) (rowsOf (now (rows .entry))) r (now (memory .exit)) (rowsOf (now (rows .exit))) ⌝ }
+    ensures { λ r. ⌜ ChangeExported (spec.entering given) (now (memory .entry)) (rowsOf (now (rows .entry))) r (now (memory .exit)) (rowsOf (now (rows .exit))) ⌝ }
 {
     change(memory, entering(given), rows)
 }
 
 #[no_mangle]
 pub extern "C" fn dolzhev_withdraw(memory: &mut [u8], number: u16, rows: &mut [Row]) -> Answer
-    ensures { λ r. ⌜ ChangeExported (callOf (spec.withdrawing number)) (now (memory .entry)) (rowsOf (now (rows .entry))) r (now (memory .exit)) (rowsOf (now (rows .exit))) ⌝ }
+    ensures { λ r. ⌜ ChangeExported (withdraw number) (now (memory .entry)) (rowsOf (now (rows .entry))) r (now (memory .exit)) (rowsOf (now (rows .exit))) ⌝ }
 {
     change(memory, withdrawing(number), rows)
 }
 
 #[no_mangle]
 pub extern "C" fn dolzhev_recost(memory: &mut [u8], given: Move, rows: &mut [Row]) -> Answer
-    ensures { λ r. ⌜ ChangeExported (callOf (spec.recosting given)) (now (memory .entry)) (rowsOf (now (rows .entry))) r (now (memory .exit)) (rowsOf (now (rows .exit))) ⌝ }
+    ensures { λ r. ⌜ ChangeExported (spec.recosting given) (now (memory .entry)) (rowsOf (now (rows .entry))) r (now (memory .exit)) (rowsOf (now (rows .exit))) ⌝ }
 {
     change(memory, recosting(given), rows)
 }

@@ -10,6 +10,7 @@ use crate::notice::tell;
 use board::Change;
 use board::plan_change;
 use rows::Row;
+ghost use Rattle.model.specs.Calls.{withdraw};
 ghost use Rattle.board.specs.Kind.{callOf};
 ghost use Rattle.dolzhev.specs.Exported as spec;
 ghost use Rattle.dolzhev.specs.Exported.{rowsOf, PreviewExported};
@@ -25,21 +26,21 @@ pub fn preview(memory: &[u8], x: Change, rows: &mut [Row]) -> Answer
 
 #[no_mangle]
 pub extern "C" fn dolzhev_preview_enter(memory: &[u8], given: Move, rows: &mut [Row]) -> Answer
-    ensures { λ r. ⌜ PreviewExported (callOf (spec.entering given)) (now (memory .entry)) (rowsOf (now (rows .entry))) r (rowsOf (now (rows .exit))) ⌝ }
+    ensures { λ r. ⌜ PreviewExported (spec.entering given) (now (memory .entry)) (rowsOf (now (rows .entry))) r (rowsOf (now (rows .exit))) ⌝ }
 {
     preview(memory, entering(given), rows)
 }
 
 #[no_mangle]
 pub extern "C" fn dolzhev_preview_withdraw(memory: &[u8], number: u16, rows: &mut [Row]) -> Answer
-    ensures { λ r. ⌜ PreviewExported (callOf (spec.withdrawing number)) (now (memory .entry)) (rowsOf (now (rows .entry))) r (rowsOf (now (rows .exit))) ⌝ }
+    ensures { λ r. ⌜ PreviewExported (withdraw number) (now (memory .entry)) (rowsOf (now (rows .entry))) r (rowsOf (now (rows .exit))) ⌝ }
 {
     preview(memory, withdrawing(number), rows)
 }
 
 #[no_mangle]
 pub extern "C" fn dolzhev_preview_recost(memory: &[u8], given: Move, rows: &mut [Row]) -> Answer
-    ensures { λ r. ⌜ PreviewExported (callOf (spec.recosting given)) (now (memory .entry)) (rowsOf (now (rows .entry))) r (rowsOf (now (rows .exit))) ⌝ }
+    ensures { λ r. ⌜ PreviewExported (spec.recosting given) (now (memory .entry)) (rowsOf (now (rows .entry))) r (rowsOf (now (rows .exit))) ⌝ }
 {
     preview(memory, recosting(given), rows)
 }
