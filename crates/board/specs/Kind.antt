@@ -8,7 +8,7 @@ use Rattle.model.specs.Calls.{Board, onBoard, changeRefusal}
 use Rattle.promises.specs.Answers.{outcomeNumber}
 use Rattle.promises.specs.declared.Outcome.{Outcome}
 use Rattle.dominance.specs.declared.Move.{Move}
-use Rattle.memory.specs.declared.sound.Head.{Head}
+use Rattle.memory.specs.declared.head.Head.{Head}
 use Rattle.upkeep.specs.declared.exchange.Exchange.{Exchange}
 use Rattle.board.specs.declared.change.Change.{Change}
 use Rattle.board.specs.declared.change.Kind.{Kind}

@@ -15,8 +15,8 @@ use Rattle.promises.specs.Answers.{numberOf, counted, refusedBy}
 use Rattle.promises.specs.declared.Outcome.{Outcome}
 use Rattle.memory.specs.Room.{Room}
 use Rattle.memory.specs.Stores.{setBlock}
-use Rattle.memory.specs.declared.search.Among.the-variants.{Listed, Hidden}
-use Rattle.memory.specs.declared.sound.Head.{Head}
+use Rattle.search.specs.declared.search.Among.the-variants.{Listed, Hidden}
+use Rattle.memory.specs.declared.head.Head.{Head}
 use Rattle.upkeep.specs.Change.{AskedRows}
 use Rattle.upkeep.specs.declared.exchange.Upkeep.{Upkeep}
 use Rattle.upkeep.specs.declared.exchange.Exchange.{Exchange}

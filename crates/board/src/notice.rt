@@ -1,12 +1,12 @@
 // What a plan of a change tells: the rows that leave the list, then those that enter it.
 use crate::change::coming_of;
 use crate::plan::ChangePlan;
-use memory::Among;
 use promises::counted;
 use rows::Coming;
 use rows::Telling;
 use rows::Told;
 use rows::nobody;
+use search::Among;
 ghost use mathlib.Core.Path.{_≡_};
 ghost use Prim.Native.Nat.{_≤_};
 ghost use Rattle.board.specs.Plan.{leftOf, enteredOf};

@@ -12,7 +12,7 @@ use Rattle.model.specs.Hours.{Hours, blockCount, blockOpen}
 use Rattle.model.specs.Calls.{accepted, hoursRefusal}
 use Rattle.line.specs.Line.{movesIn}
 use Rattle.promises.specs.Layout.{costsIn, lineFrom}
-use Rattle.memory.specs.Search.{inBlocks}
+use Rattle.search.specs.Search.{inBlocks}
 
 -- The lowest block whose hours are refused, or one past the last.
 pub record FirstBad (hours : List Hours) (r : ℕ) : Type 0 where

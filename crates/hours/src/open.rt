@@ -2,19 +2,19 @@
 // before it only. An earlier move that is nowhere greater hides: of equal costs the lower number
 // stands first.
 use dominance::limits_of;
-use memory::Among;
 use memory::Head;
-use memory::RUNS;
-use memory::corners_of;
 use memory::costs_of;
-use memory::fits_at;
-use memory::in_blocks;
 use memory::is_listed;
-use memory::kept;
-use memory::next_within;
 use memory::number_at;
 use numbers::add;
 use numbers::empty;
+use search::Among;
+use search::RUNS;
+use search::corners_of;
+use search::fits_at;
+use search::in_blocks;
+use search::kept;
+use search::next_within;
 use upkeep::Found;
 use zorder::COSTS;
 ghost use mathlib.Core.Path.{_≡_};
@@ -22,8 +22,8 @@ ghost use Prim.Native.Nat.{_<_};
 ghost use lib.Dec.{eqb};
 ghost use Rattle.promises.specs.Layout.{numberIn};
 ghost use Rattle.memory.specs.Held.{SoundAt};
-ghost use Rattle.memory.specs.Search.{Corners};
-ghost use Rattle.memory.specs.declared.search.Among.the-variants.{InBlocks};
+ghost use Rattle.search.specs.Search.{Corners};
+ghost use Rattle.search.specs.declared.search.Among.the-variants.{InBlocks};
 ghost use Rattle.upkeep.specs.Found.{Finds};
 ghost use Rattle.hours.specs.Open.{shownFor};
 

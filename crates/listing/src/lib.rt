@@ -1,10 +1,10 @@
 // List: the list, read off the marks, and the nodes opened. It is planned without writing.
-use memory::Held;
-use memory::sound_head;
 use promises::Outcome;
 use rows::Plan;
 use rows::plan_found;
 use rows::refused;
+use soundness::Held;
+use soundness::sound_head;
 use tree::nodes_opened;
 use upkeep::find_listed;
 ghost use Rattle.model.specs.Calls.{list};

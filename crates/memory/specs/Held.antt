@@ -5,9 +5,7 @@ use mathlib.Core.List.{List}
 use lib.ListN.{length}
 use Rattle.promises.specs.Layout.{sizeIn, dimensionIn, countIn}
 use Rattle.promises.specs.Sound.{Sound}
-use Rattle.memory.specs.declared.sound.Head.{Head}
-use Rattle.memory.specs.declared.sound.Held.{Held}
-use Rattle.memory.specs.declared.sound.Held.the-variants as held
+use Rattle.memory.specs.declared.head.Head.{Head}
 
 -- The memory is long enough for a head, and this is its own.
 pub record HeadOf (h : Head) (m : List ℕ) : Type 0 where
@@ -26,8 +24,3 @@ pub record SoundRows (c d n : ℕ) (m : List ℕ) : Type 0 where
 -- The same for a head as one value.
 abbrev pub SoundAt : Head → List ℕ → Type 0
 SoundAt h = SoundRows (h .size) (h .dimension) (h .count)
-
--- The memory is sound with this head, or it is not sound.
-unfoldable pub HeldIn : List ℕ → Held → Type 0
-HeldIn m (held.Sound h) = SoundAt h m
-HeldIn m held.Unsound = Sound m → ⊥

@@ -1,4 +1,4 @@
--- What the stores leave of each field, and that the tests decide `Sound`.
+-- What the stores leave of each field, and what sound memory gives.
 pub mod Frames
 pub mod Written
 pub mod Fields
@@ -8,21 +8,6 @@ pub mod Lines
 pub mod Blocks
 pub mod Places
 pub mod Turns
-pub mod Levels
-pub mod Head
 pub mod Marks
 pub mod Ordered
-pub mod Search
-pub mod Hiders
-pub mod Counts
-pub mod Columns
-pub mod Chunks
-pub mod Unhidden
-pub mod Highs
-pub mod Halves
-pub mod Decide
-pub mod Used
-pub mod Front
-pub mod Alike
-pub mod Answers
 pub mod Held

@@ -4,7 +4,4 @@ pub mod Held
 pub mod Stores
 pub mod Frame
 pub mod Tests
-pub mod Search
-pub mod Columns
-pub mod Chunks
 pub mod Laws

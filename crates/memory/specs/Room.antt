@@ -7,7 +7,7 @@ use lib.ListN.{length}
 use Rattle.zorder.specs.Address.{rowCosts}
 use Rattle.model.specs.Moves.{moveBefore}
 use Rattle.promises.specs.Layout.{numberIn, moveIn}
-use Rattle.memory.specs.declared.sound.Head.{Head}
+use Rattle.memory.specs.declared.head.Head.{Head}
 
 -- The memory is long enough for a board of size c, and c is small enough for offsets not to wrap.
 abbrev pub Room : ℕ → List ℕ → Type 0

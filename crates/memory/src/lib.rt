@@ -1,44 +1,21 @@
-// The lent memory: its fields read and written, and whether it is sound. Above this crate nothing
-// names a byte.
+// The lent memory: its fields read and written. Above this crate nothing names a byte.
 mod bytes;
-mod chunks;
-mod columns;
 mod fields;
-mod heights;
-mod hiders;
-mod highs;
-mod marks;
+mod head;
 mod order;
-mod search;
-mod sound;
 mod stores;
 
 pub use fields::block_of;
 pub use fields::costs_of;
-pub use fields::count;
-pub use fields::dimension;
+pub use fields::has_format;
 pub use fields::height_at;
 pub use fields::is_listed;
 pub use fields::move_at;
 pub use fields::number_at;
-pub use fields::size;
 pub use fields::work_at;
-pub use marks::hider_before;
+pub use head::Head;
+pub use head::head_of;
 pub use order::stands_before;
-pub use search::Among;
-pub use search::RUN;
-pub use search::RUNS;
-pub use search::corner_with;
-pub use search::corners_of;
-pub use search::fits_at;
-pub use search::in_blocks;
-pub use search::kept;
-pub use search::looks;
-pub use search::next_within;
-pub use search::seen;
-pub use sound::Head;
-pub use sound::Held;
-pub use sound::sound_head;
 pub use stores::set_block;
 pub use stores::set_costs;
 pub use stores::set_count;

@@ -2,12 +2,12 @@
 use crate::band::find_band;
 use crate::rule::Rule;
 use crate::unbeaten::find_unbeaten;
-use memory::Held;
-use memory::sound_head;
 use promises::Outcome;
 use rows::Plan;
 use rows::plan_found;
 use rows::refused;
+use soundness::Held;
+use soundness::sound_head;
 ghost use Rattle.model.specs.Calls.{bandQuery, onKQuery, chosenQuery};
 ghost use Rattle.rows.specs.Planned.{QueryPlanned};
 

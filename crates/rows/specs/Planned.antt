@@ -17,7 +17,7 @@ use Rattle.promises.specs.declared.Verdict.{Verdict}
 use Rattle.promises.specs.declared.Outcome.the-variants.{Unsound}
 use Rattle.promises.specs.declared.Answer.{Answer}
 use Rattle.memory.specs.Held.{SoundAt}
-use Rattle.memory.specs.declared.sound.Head.{Head}
+use Rattle.memory.specs.declared.head.Head.{Head}
 use Rattle.upkeep.specs.Found.{Finds, foundMoves}
 use Rattle.upkeep.specs.declared.found.Found.{Found}
 use Rattle.rows.specs.Telling.{TellingAsked, toldRows}

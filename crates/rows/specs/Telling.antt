@@ -11,9 +11,9 @@ use Rattle.model.specs.Moves.{listed}
 use Rattle.promises.specs.Layout.{numberIn, moveIn}
 use Rattle.dominance.specs.Move.{asMove}
 use Rattle.memory.specs.Room.{Readable}
-use Rattle.memory.specs.Search.{looksAt}
-use Rattle.memory.specs.declared.search.Among.the-variants.{All}
-use Rattle.memory.specs.declared.sound.Head.{Head}
+use Rattle.search.specs.Search.{looksAt}
+use Rattle.search.specs.declared.search.Among.the-variants.{All}
+use Rattle.memory.specs.declared.head.Head.{Head}
 use Rattle.numbers.specs.Set.{inSet}
 use Rattle.upkeep.specs.Change.{placesIn}
 use Rattle.rows.specs.Rows.{moveNumbers}

@@ -2,14 +2,14 @@
 use crate::row::ROW;
 use crate::row::row_of;
 use dominance::Move;
-use memory::Among;
 use memory::Head;
-use memory::looks;
 use memory::move_at;
 use memory::number_at;
 use numbers::WORDS;
 use numbers::empty;
 use numbers::has;
+use search::Among;
+use search::looks;
 use zorder::COSTS;
 ghost use mathlib.Core.Path.{_≡_};
 ghost use Prim.Native.Nat.{_≤_};

@@ -17,7 +17,7 @@ use Rattle.promises.specs.Layout.{heightIn, moveIn, lineFrom}
 use Rattle.promises.specs.Sound.{Stands}
 use Rattle.memory.specs.Tests.{anyTo, isListed}
 use Rattle.tree.specs.declared.nodes.Leaf.{Leaf}
-use Rattle.memory.specs.declared.sound.Head.{Head}
+use Rattle.memory.specs.declared.head.Head.{Head}
 pub use Rattle.memory.specs.Held.{SoundAt, SoundRows}
 
 -- Whether the move at place j is listed, is not the going one, and dominates a corner.

@@ -11,14 +11,14 @@ use Rattle.model.specs.Moves.{Move, moveBefore}
 use Rattle.model.specs.Dominance.{hides}
 use Rattle.promises.specs.Layout.{numberIn, markIn, costsIn, moveIn}
 use Rattle.memory.specs.Room.{Room, Numbers, ReadableRows, Readable, Ordered}
-use Rattle.memory.specs.Search.{looks, looksAt, seen, seenAt, Below, Corners, ListedCorners, CornerWith}
+use Rattle.search.specs.Search.{looks, looksAt, seen, seenAt, Below, Corners, ListedCorners, CornerWith}
 use Rattle.memory.specs.Stores.{setListed}
 use Rattle.memory.specs.Frame.{MarksOnly}
 use Rattle.memory.specs.Tests.{allTo, anyTo, isListed, hiddenBefore, hiddenAt, marksRight}
 use Rattle.memory.specs.Laws.Frames.{room-over, frame-refl, frame-trans}
-use Rattle.memory.specs.Laws.Search.{corners-more}
-use Rattle.memory.specs.declared.search.Among.the-variants.{Listed}
-use Rattle.memory.specs.declared.sound.Head.{Head}
+use Rattle.search.specs.Laws.Search.{corners-more}
+use Rattle.search.specs.declared.search.Among.the-variants.{Listed}
+use Rattle.memory.specs.declared.head.Head.{Head}
 use Rattle.memory.specs.Laws.Fields.{number-over-marks, costs-over-marks}
 use Rattle.memory.specs.Laws.Stored.{setListed-marks, listed-setListed, mark-setListed-other}
 use Rattle.memory.specs.Laws.Lines.{move-ext}

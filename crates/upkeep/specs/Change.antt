@@ -21,9 +21,9 @@ use Rattle.promises.specs.Layout.{numberIn, moveIn, lineFrom}
 use Rattle.promises.specs.Sound.{Stands}
 use Rattle.memory.specs.Tests.{anyTo, isListed}
 use Rattle.memory.specs.Held.{SoundAt, SoundRows}
-use Rattle.memory.specs.Search.{Corners}
-use Rattle.memory.specs.declared.search.Among.the-variants.{All}
-use Rattle.memory.specs.declared.sound.Head.{Head}
+use Rattle.search.specs.Search.{Corners}
+use Rattle.search.specs.declared.search.Among.the-variants.{All}
+use Rattle.memory.specs.declared.head.Head.{Head}
 use Rattle.dominance.specs.Move.{asMove}
 use Rattle.numbers.specs.Set.{inSet}
 use Rattle.upkeep.specs.declared.exchange.Exchange.{Exchange}

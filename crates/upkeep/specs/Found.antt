@@ -7,7 +7,7 @@ use Rattle.model.specs.Basics.{select, count, numbersFrom}
 use Rattle.model.specs.Moves.{Move}
 use Rattle.line.specs.Line.{movesIn}
 use Rattle.promises.specs.Layout.{numberIn, lineFrom}
-use Rattle.memory.specs.declared.sound.Head.{Head}
+use Rattle.memory.specs.declared.head.Head.{Head}
 use Rattle.numbers.specs.Set.{inSet}
 use Rattle.upkeep.specs.declared.found.Found.{Found}
 

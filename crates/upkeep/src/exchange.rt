@@ -3,11 +3,11 @@
 use dominance::Move;
 use dominance::hides;
 use dominance::limits_of;
-use memory::Among;
 use memory::Head;
-use memory::RUNS;
-use memory::next_within;
 use numbers::WORDS;
+use search::Among;
+use search::RUNS;
+use search::next_within;
 use zorder::COSTS;
 ghost use mathlib.Core.Path.{_≡_};
 ghost use Prim.Native.Nat.{_≤_};

@@ -18,7 +18,7 @@ use Rattle.promises.specs.declared.Outcome.{Outcome}
 use Rattle.memory.specs.Held.{SoundRows}
 use Rattle.memory.specs.Laws.Lines.{length-line, lineIn-line}
 use Rattle.tree.specs.Withdraw.{PlaceOf}
-use Rattle.memory.specs.declared.sound.Head.{Head}
+use Rattle.memory.specs.declared.head.Head.{Head}
 use Rattle.board.specs.Kind.{changeOf, callOf, comes, isNew, JudgesBy}
 use Rattle.board.specs.declared.change.Change.{Change}
 use Rattle.board.specs.declared.change.Kind.{Kind}

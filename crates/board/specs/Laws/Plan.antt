@@ -28,7 +28,7 @@ use Rattle.promises.specs.declared.Outcome.the-variants.{Unsound}
 use Rattle.dominance.specs.declared.Move.{Move}
 use Rattle.memory.specs.Held.{SoundRows}
 use Rattle.memory.specs.Laws.Held.{held-room, held-readable}
-use Rattle.memory.specs.declared.sound.Head.{Head}
+use Rattle.memory.specs.declared.head.Head.{Head}
 use Rattle.tree.specs.Withdraw.{PlaceOf}
 use Rattle.upkeep.specs.Change.{UpkeptRows, PlaceRows}
 use Rattle.upkeep.specs.declared.exchange.Exchange.{Exchange}

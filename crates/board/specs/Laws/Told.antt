@@ -27,9 +27,9 @@ use Rattle.promises.specs.Answers.{resultRow}
 use Rattle.promises.specs.Run.{Bytes}
 use Rattle.dominance.specs.Move.{asMove}
 use Rattle.memory.specs.Held.{SoundRows}
-use Rattle.memory.specs.Search.{looks, looksAt}
+use Rattle.search.specs.Search.{looks, looksAt}
 use Rattle.memory.specs.Tests.{isListed}
-use Rattle.memory.specs.declared.sound.Head.{Head}
+use Rattle.memory.specs.declared.head.Head.{Head}
 use Rattle.memory.specs.Laws.Lines.{getD-line, length-line}
 use Rattle.memory.specs.Laws.Held.{held-dimension, held-order, held-listed, held-fit, held-fit-at, held-once}
 use Rattle.upkeep.specs.Change.{dropAt, movesAfter, stays, placesIn, AskedRows, UpkeptRows}

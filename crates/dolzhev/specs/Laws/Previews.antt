@@ -8,7 +8,7 @@ use Rattle.model.specs.Calls.{Change}
 use Rattle.promises.specs.Answers.{numberOf}
 use Rattle.promises.specs.Run.{Bytes}
 use Rattle.promises.specs.declared.Answer as said
-use Rattle.memory.specs.Laws.Answers.{preview-equal}
+use Rattle.soundness.specs.Laws.Answers.{preview-equal}
 use Rattle.dolzhev.specs.Exported.{Handed, ChangeExported, PreviewExported}
 use Rattle.dolzhev.specs.declared.answer.Answer.{Answer}
 

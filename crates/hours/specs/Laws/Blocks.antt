@@ -15,7 +15,7 @@ use Rattle.model.specs.Hours.{Hours, blockCount, windowsOf, hoursBad, openIn, n
 use Rattle.model.specs.Calls.{accepted, hoursRefusal}
 use Rattle.model.specs.Laws.Hours.{past-shut}
 use Rattle.promises.specs.Answers.{blockHours}
-use Rattle.memory.specs.Search.{None}
+use Rattle.search.specs.Search.{None}
 use Rattle.hours.specs.Open.{FirstBad, OpenBlocks}
 
 -- ---- the hours of block k

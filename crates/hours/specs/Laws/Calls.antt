@@ -13,7 +13,7 @@ use Rattle.promises.specs.Answers.{answerOf, outcomeNumber, refusedBy}
 use Rattle.promises.specs.Layout.{boardIn}
 use Rattle.promises.specs.declared.Outcome.the-variants.{BadHours}
 use Rattle.memory.specs.Held.{SoundAt}
-use Rattle.memory.specs.declared.sound.Head.{Head}
+use Rattle.memory.specs.declared.head.Head.{Head}
 use Rattle.upkeep.specs.Found.{Finds}
 use Rattle.upkeep.specs.declared.found.Found.{Found}
 use Rattle.rows.specs.Planned.{QueryPlanned, PlansFound}

@@ -25,15 +25,15 @@ use Rattle.promises.specs.Layout.{numberIn, blockIn, costsIn, moveIn, lineFrom,
 use Rattle.promises.specs.Run.{Bytes}
 use Rattle.promises.specs.Laws.Tab.{each-tab}
 use Rattle.memory.specs.Held.{SoundRows}
-use Rattle.memory.specs.Search.{inBlocks, looks, looksAt, seen, seenAt, fits, Some}
+use Rattle.search.specs.Search.{inBlocks, looks, looksAt, seen, seenAt, fits, Some}
 use Rattle.memory.specs.Tests.{anyTo, isListed}
 use Rattle.memory.specs.Laws.Blocks.{block-at, blocks-right}
 use Rattle.memory.specs.Laws.Costs.{row-length, words-first}
 use Rattle.memory.specs.Laws.Held.{held-dimension, held-ordered, held-listed}
-use Rattle.memory.specs.Laws.Hiders.{some-any, some-ext, words-within}
+use Rattle.search.specs.Laws.Hiders.{some-any, some-ext, words-within}
 use Rattle.memory.specs.Laws.Lines.{movesIn-line}
 use Rattle.memory.specs.Laws.Places.{any-tab, anyTo-past, anyTo-mono}
-use Rattle.memory.specs.declared.search.Among.the-variants.{InBlocks}
+use Rattle.search.specs.declared.search.Among.the-variants.{InBlocks}
 use Rattle.upkeep.specs.Found.{foundMoves}
 use Rattle.upkeep.specs.Laws.Others.{own-place}
 use Rattle.hours.specs.Open.{OpenBlocks, movesInBlocks, shownFor}

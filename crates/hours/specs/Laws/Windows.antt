@@ -15,8 +15,8 @@ use Rattle.model.specs.Hours.{Window, windowsOf, minuteBad, windowBad, hoursBad
 use Rattle.model.specs.Laws.Tree.{within-true, within-false}
 use Rattle.promises.specs.Layout.{tab}
 use Rattle.promises.specs.Answers.{windowAt, blockHours}
-use Rattle.memory.specs.Search.{None}
-use Rattle.memory.specs.Laws.Hiders.{none-any}
+use Rattle.search.specs.Search.{None}
+use Rattle.search.specs.Laws.Hiders.{none-any}
 use Rattle.memory.specs.Laws.Places.{any-tab, anyTo-found}
 
 -- ---- the slots that hold a window

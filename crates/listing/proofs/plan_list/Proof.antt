@@ -2,7 +2,8 @@
 use borrow.Author.Needs.{needs}
 use Rattle.model.specs.Calls.{list}
 use Rattle.memory.specs.Held.{SoundAt}
-use Rattle.memory.specs.Laws.Held.{held-readable, sound-held, unsound-held}
+use Rattle.memory.specs.Laws.Held.{held-readable}
+use Rattle.soundness.specs.Laws.Held.{sound-held, unsound-held}
 use Rattle.rows.specs.Laws.Planned.{query-unsound}
 use Rattle.listing.specs.Laws.List.{list-planned}
 use Rattle.listing.proofs.plan_list.Statement.{statement}

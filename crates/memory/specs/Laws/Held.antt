@@ -25,15 +25,12 @@ use Rattle.promises.specs.Sound.{Stands, Sound}
 use Rattle.promises.specs.Run.{Bytes}
 use Rattle.promises.specs.Laws.Stands.{stands-dimension, stands-moves, stands-order, stands-fit, stands-once}
 use Rattle.memory.specs.Room.{Room, Numbers, ReadableRows, Ordered}
-use Rattle.memory.specs.Held.{SoundAt, SoundRows, HeldIn}
+use Rattle.memory.specs.Held.{SoundRows}
 use Rattle.memory.specs.Tests.{anyTo, isListed}
 use Rattle.promises.specs.Laws.Tab.{length-tab, getD-tab, map-tab}
 use Rattle.memory.specs.Laws.Places.{tab-each, any-tab}
 use Rattle.memory.specs.Laws.Lines.{movesIn-line, lineIn-line}
 use Rattle.memory.specs.Laws.Ordered.{line-ordered}
-use Rattle.memory.specs.declared.sound.Head.{Head}
-use Rattle.memory.specs.declared.sound.Held.{Held}
-use Rattle.memory.specs.declared.sound.Held.the-variants as held
 
 no-other : (n : ℕ) (ns : List ℕ) → has n ns ≡ false → (i : ℕ) → i < length ns → n ≡ getD ns i 0 → ⊥
 unfolding has
@@ -142,16 +139,6 @@ module _ (c d n : ℕ) (m : List ℕ) (s : SoundRows c d n m) where
         (omega (arith, length-tab (numberIn c m) n))
         (omega (arith, length-tab (numberIn c m) n))
         (getD-tab (numberIn c m) 0 n i h ∙ e ∙ sym (getD-tab (numberIn c m) 0 n j k))
-
--- ---- what is held, by cases
-
-pub sound-held : {m : List ℕ} {r : Held} {h : Head} → HeldIn m r → r ≡ held.Sound h → SoundAt h m
-unfolding HeldIn
-sound-held {m} p e = subst (HeldIn m) e p
-
-pub unsound-held : {m : List ℕ} {r : Held} → HeldIn m r → r ≡ held.Unsound → Sound m → ⊥
-unfolding HeldIn
-unsound-held {m} p e = subst (HeldIn m) e p
 
 -- Sound memory can be read.
 pub held-readable : {c d n : ℕ} {m : List ℕ} → SoundRows c d n m → ReadableRows c d n m

@@ -14,10 +14,10 @@ use Rattle.dominance.specs.Laws.Lanes.{limits-first}
 use Rattle.promises.specs.Layout.{numberIn, costsIn, moveIn}
 use Rattle.promises.specs.Run.{Bytes}
 use Rattle.memory.specs.Held.{SoundRows}
-use Rattle.memory.specs.Search.{looks, looksAt, seen, seenAt, fits, None, First}
+use Rattle.search.specs.Search.{looks, looksAt, seen, seenAt, fits, None, First}
 use Rattle.memory.specs.Tests.{isListed}
 use Rattle.memory.specs.Laws.Costs.{row-length, words-first, words-small}
-use Rattle.memory.specs.declared.search.Among.the-variants as among
+use Rattle.search.specs.declared.search.Among.the-variants as among
 use Rattle.query.specs.Rule.{beats}
 use Rattle.query.specs.Kept.{movesTo, stays, beatsAt}
 use Rattle.query.specs.Laws.Counting.{count-none, count-more, stays-over, stays-within}

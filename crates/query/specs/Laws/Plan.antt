@@ -14,7 +14,7 @@ use Rattle.promises.specs.Sound.{Sound}
 use Rattle.memory.specs.Held.{SoundAt}
 use Rattle.memory.specs.Room.{Readable}
 use Rattle.memory.specs.Laws.Held.{held-readable}
-use Rattle.memory.specs.declared.sound.Head.{Head}
+use Rattle.memory.specs.declared.head.Head.{Head}
 use Rattle.memory.specs.Laws.Lines.{movesIn-line}
 use Rattle.upkeep.specs.Found.{Finds, foundMoves}
 use Rattle.upkeep.specs.Laws.Places.{tab-places}

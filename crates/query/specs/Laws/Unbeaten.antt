@@ -20,13 +20,13 @@ use Rattle.dominance.specs.Laws.Lanes.{places-limits}
 use Rattle.promises.specs.Layout.{numberIn, costsIn, moveIn, lineFrom}
 use Rattle.promises.specs.Run.{Bytes}
 use Rattle.memory.specs.Held.{SoundRows}
-use Rattle.memory.specs.Search.{looks, looksAt, seen, seenAt, fits, None}
+use Rattle.search.specs.Search.{looks, looksAt, seen, seenAt, fits, None}
 use Rattle.memory.specs.Tests.{anyTo, isListed}
 use Rattle.memory.specs.Laws.Costs.{row-length, row-cost, words-small}
 use Rattle.memory.specs.Laws.Held.{held-dimension, held-order, held-fit, held-any}
 use Rattle.memory.specs.Laws.Lines.{movesIn-line}
 use Rattle.memory.specs.Laws.Places.{any-tab, anyTo-found, allTo-all}
-use Rattle.memory.specs.declared.search.Among.the-variants as among
+use Rattle.search.specs.declared.search.Among.the-variants as among
 use Rattle.upkeep.specs.Laws.Places.{below-place}
 use Rattle.query.specs.Rule.{beats}
 use Rattle.query.specs.Kept.{beatsAt, listedBeats}

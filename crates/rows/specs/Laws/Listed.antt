@@ -13,9 +13,9 @@ use Rattle.model.specs.Laws.Range.{each-place}
 use Rattle.promises.specs.Layout.{numberIn, moveIn}
 use Rattle.promises.specs.Answers.{resultRow}
 use Rattle.memory.specs.Held.{SoundAt}
-use Rattle.memory.specs.Search.{looks, looksAt}
+use Rattle.search.specs.Search.{looks, looksAt}
 use Rattle.memory.specs.Laws.Held.{held-readable}
-use Rattle.memory.specs.declared.sound.Head.{Head}
+use Rattle.memory.specs.declared.head.Head.{Head}
 use Rattle.numbers.specs.Set.{inSet}
 use Rattle.upkeep.specs.Change.{placesIn}
 use Rattle.upkeep.specs.Found.{Finds, foundMoves}

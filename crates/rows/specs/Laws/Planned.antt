@@ -17,7 +17,7 @@ use Rattle.model.specs.Laws.Bool.{byCases}
 use Rattle.model.specs.Laws.Basics.{map-take}
 use Rattle.promises.specs.Layout.{dimensionIn, boardIn}
 use Rattle.model.specs.Opening.{queryOpens}
-use Rattle.memory.specs.declared.sound.Head.{Head}
+use Rattle.memory.specs.declared.head.Head.{Head}
 use Rattle.promises.specs.Sound.{Stands, Sound}
 use Rattle.promises.specs.Answers.{answerOf, numberOf, counted, rowsAfter, resultRow, refusedBy, outcomeNumber}
 use Rattle.promises.specs.Promise.{Said, UnsoundSaid, QueryPromise}

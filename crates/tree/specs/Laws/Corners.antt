@@ -20,13 +20,13 @@ use Rattle.dominance.specs.Lanes.{Lanes, limit, isFirst}
 use Rattle.promises.specs.Layout.{numberIn, costsIn, moveIn}
 use Rattle.promises.specs.Run.{Bytes}
 use Rattle.memory.specs.Room.{Ordered}
-use Rattle.memory.specs.Search.{fits, None, First}
+use Rattle.search.specs.Search.{fits, None, First}
 use Rattle.memory.specs.Tests.{anyTo, isListed}
-use Rattle.memory.specs.declared.search.Among.the-variants.{Listed}
-use Rattle.memory.specs.Laws.Hiders.{none-any, listed-fits}
+use Rattle.search.specs.declared.search.Among.the-variants.{Listed}
+use Rattle.search.specs.Laws.Hiders.{none-any, listed-fits}
 use Rattle.memory.specs.Laws.Ordered.{ordered-place}
 use Rattle.memory.specs.Laws.Places.{anyTo-found, anyTo-past}
-use Rattle.memory.specs.Laws.Search.{none-empty, none-more, none-join}
+use Rattle.search.specs.Laws.Search.{none-empty, none-more, none-join}
 use Rattle.tree.specs.Search.{dominatesCorner, cornerDominated, goesWithin, cornerAt, opensPlaces}
 
 -- ---- the search

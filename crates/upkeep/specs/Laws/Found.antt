@@ -10,7 +10,7 @@ use Rattle.model.specs.Laws.Basics.{select-map}
 use Rattle.line.specs.Line.{movesIn}
 use Rattle.promises.specs.Layout.{numberIn, moveIn, lineFrom, lineIn, boardIn}
 use Rattle.memory.specs.Held.{SoundRows}
-use Rattle.memory.specs.declared.sound.Head.{Head}
+use Rattle.memory.specs.declared.head.Head.{Head}
 use Rattle.numbers.specs.Set.{inSet}
 use Rattle.upkeep.specs.Found.{Finds, FindsRows, foundMoves}
 use Rattle.upkeep.specs.Change.{Passing}

@@ -20,14 +20,14 @@ use Rattle.line.specs.Enter.{placeFor}
 use Rattle.promises.specs.Layout.{numberIn, moveIn, lineFrom}
 use Rattle.promises.specs.Run.{Bytes}
 use Rattle.memory.specs.Held.{SoundRows}
-use Rattle.memory.specs.Search.{looks, looksAt, seen, seenAt, fits, First}
+use Rattle.search.specs.Search.{looks, looksAt, seen, seenAt, fits, First}
 use Rattle.memory.specs.Tests.{anyTo}
 use Rattle.memory.specs.Laws.Places.{allTo-all, anyTo-found}
 use Rattle.memory.specs.Laws.Costs.{row-length}
-use Rattle.memory.specs.Laws.Hiders.{words-within}
+use Rattle.search.specs.Laws.Hiders.{words-within}
 use Rattle.memory.specs.Laws.Held.{held-dimension, held-order, held-ordered, held-fit, held-fit-at}
 use Rattle.memory.specs.Laws.Lines.{length-line, moveAt-line}
-use Rattle.memory.specs.declared.search.Among.the-variants.{All}
+use Rattle.search.specs.declared.search.Among.the-variants.{All}
 use Rattle.upkeep.specs.Change.{hiddenByOthers, Parted}
 use Rattle.upkeep.specs.Laws.Place.{place-low, place-high}
 

@@ -4,7 +4,7 @@ use native.Mathlib.Omega.{arith}
 use borrow.Author.Needs.{needs}
 use Rattle.promises.specs.Run.{Bytes}
 use Rattle.dominance.specs.Move.{asMove}
-use Rattle.memory.specs.declared.sound.Head.{Head}
+use Rattle.memory.specs.declared.head.Head.{Head}
 use Rattle.memory.specs.Laws.Written.{marks-written}
 use Rattle.tree.specs.Enter.{EnterAsked, Entered}
 use Rattle.board.specs.Laws.Rows.{marks-asked}

@@ -1,7 +1,7 @@
 -- `notice::entered_of` meets its contract. Assumes nothing.
 use mathlib.Core.Path.{_≡_}
 use borrow.Author.Needs.{needs}
-use Rattle.memory.specs.declared.search.Among.the-variants.{Hidden}
+use Rattle.search.specs.declared.search.Among.the-variants.{Hidden}
 use Rattle.board.proofs.notice.entered_of.Statement.{statement}
 use Rattle.board.proofs.notice.entered_of.Tie as tie
 

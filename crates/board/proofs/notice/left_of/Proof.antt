@@ -1,7 +1,7 @@
 -- `notice::left_of` meets its contract. Assumes nothing.
 use mathlib.Core.Path.{_≡_}
 use borrow.Author.Needs.{needs}
-use Rattle.memory.specs.declared.search.Among.the-variants.{Listed}
+use Rattle.search.specs.declared.search.Among.the-variants.{Listed}
 use Rattle.board.proofs.notice.left_of.Statement.{statement}
 use Rattle.board.proofs.notice.left_of.Tie as tie
 

@@ -1,6 +1,6 @@
 -- `plan::plan_change` meets its contract. Assumes nothing.
 use borrow.Author.Needs.{needs}
-use Rattle.memory.specs.Laws.Held.{sound-held, unsound-held}
+use Rattle.soundness.specs.Laws.Held.{sound-held, unsound-held}
 use Rattle.board.specs.Laws.Plan.{plan-unsound}
 use Rattle.board.proofs.plan.plan_change.Statement.{statement}
 use Rattle.board.proofs.plan.plan_change.Tie as tie

@@ -6,8 +6,8 @@ use native.Mathlib.Omega.{arith}
 use lib.ListN.{getD, length-take}
 use Rattle.model.specs.Hours.{blockCount, hoursBad}
 use Rattle.promises.specs.Answers.{blockHours}
-use Rattle.memory.specs.Search.{None}
-use Rattle.memory.specs.Laws.Search.{none-empty, none-more}
+use Rattle.search.specs.Search.{None}
+use Rattle.search.specs.Laws.Search.{none-empty, none-more}
 use Rattle.hours.specs.Laws.Blocks.{first-found, none-found}
 use Rattle.hours.proofs.blocks.first_bad.Statement.{statement}
 use Rattle.hours.proofs.blocks.first_bad.Tie as tie

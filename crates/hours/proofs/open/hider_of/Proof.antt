@@ -9,12 +9,12 @@ use Rattle.zorder.specs.Address.{rowCosts}
 use Rattle.dominance.specs.Lanes.{Lanes, limit, isFirst}
 use Rattle.promises.specs.Layout.{numberIn, costsIn}
 use Rattle.promises.specs.Run.{Bytes}
-use Rattle.memory.specs.Search.{inBlocks, fits, Some}
+use Rattle.search.specs.Search.{inBlocks, fits, Some}
 use Rattle.memory.specs.Laws.Held.{held-readable}
-use Rattle.memory.specs.Laws.Search.{tried-some, first-some, corners-fewer}
+use Rattle.search.specs.Laws.Search.{tried-some, first-some, corners-fewer}
 use Rattle.memory.specs.Laws.Turns.{listed-at}
-use Rattle.memory.specs.declared.sound.Head.{Head}
-use Rattle.memory.specs.declared.search.Among.the-variants.{InBlocks}
+use Rattle.memory.specs.declared.head.Head.{Head}
+use Rattle.search.specs.declared.search.Among.the-variants.{InBlocks}
 use Rattle.hours.specs.Open.{shownFor}
 use Rattle.hours.specs.Laws.Shown.{open-shown, listed-shown, shut-unshown}
 use Rattle.hours.proofs.open.hider_of.Statement.{statement}

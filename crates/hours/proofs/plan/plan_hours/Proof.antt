@@ -6,7 +6,7 @@ use Rattle.model.specs.Calls.{hoursQuery}
 use Rattle.promises.specs.Answers.{blockHours, outcomeNumber}
 use Rattle.promises.specs.Layout.{boardIn}
 use Rattle.memory.specs.Held.{SoundAt}
-use Rattle.memory.specs.Laws.Held.{sound-held, unsound-held}
+use Rattle.soundness.specs.Laws.Held.{sound-held, unsound-held}
 use Rattle.rows.specs.Laws.Planned.{query-unsound, query-bad, query-refused}
 use Rattle.hours.specs.Laws.Calls.{minute-refused, hours-refused, hours-right, hours-planned}
 use Rattle.hours.proofs.plan.plan_hours.Statement.{statement}

@@ -5,8 +5,8 @@ use native.Mathlib.Omega.{arith}
 use borrow.Author.Needs.{needs}
 use Rattle.model.specs.Hours.{windowBad}
 use Rattle.promises.specs.Answers.{windowAt}
-use Rattle.memory.specs.Search.{None}
-use Rattle.memory.specs.Laws.Search.{none-empty, none-more}
+use Rattle.search.specs.Search.{None}
+use Rattle.search.specs.Laws.Search.{none-empty, none-more}
 use Rattle.hours.specs.Laws.Windows.{no-window, some-window, fifth-bad, few-bad}
 use Rattle.hours.proofs.windows.hours_bad.Statement.{statement}
 use Rattle.hours.proofs.windows.hours_bad.Tie as tie

@@ -4,8 +4,8 @@ use mathlib.Core.Path.{sym, _∙_}
 use native.Mathlib.Omega.{arith}
 use Rattle.model.specs.Hours.{openIn}
 use Rattle.promises.specs.Answers.{windowAt}
-use Rattle.memory.specs.Search.{None}
-use Rattle.memory.specs.Laws.Search.{none-empty, none-more}
+use Rattle.search.specs.Search.{None}
+use Rattle.search.specs.Laws.Search.{none-empty, none-more}
 use Rattle.hours.specs.Laws.Windows.{no-window, some-window}
 use Rattle.hours.proofs.windows.open_at.Statement.{statement}
 use Rattle.hours.proofs.windows.open_at.Tie as tie

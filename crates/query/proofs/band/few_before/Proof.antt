@@ -11,7 +11,7 @@ use Rattle.model.specs.Dominance.{somewhereLess}
 use Rattle.dominance.specs.Lanes.{Lanes, limit, isFirst}
 use Rattle.promises.specs.Layout.{moveIn}
 use Rattle.promises.specs.Run.{Bytes}
-use Rattle.memory.specs.Laws.Search.{corners-fewer}
+use Rattle.search.specs.Laws.Search.{corners-fewer}
 use Rattle.query.specs.Laws.Band.{CountedTo, counted-start, counted-turn, counted-over, counted-all}
 use Rattle.query.proofs.band.few_before.Statement.{statement}
 use Rattle.query.proofs.band.few_before.Tie as tie

@@ -4,7 +4,7 @@ use borrow.Author.Needs.{needs}
 use Rattle.model.specs.Calls.{bandQuery}
 use Rattle.model.specs.Opening.{queryOpens}
 use Rattle.memory.specs.Held.{SoundAt}
-use Rattle.memory.specs.Laws.Held.{sound-held, unsound-held}
+use Rattle.soundness.specs.Laws.Held.{sound-held, unsound-held}
 use Rattle.rows.specs.Laws.Planned.{query-unsound, query-bad}
 use Rattle.query.specs.Laws.Calls.{band-bad, band-right, band-rows}
 use Rattle.query.specs.Laws.Plan.{kept-planned}

@@ -7,7 +7,7 @@ use native.Mathlib.Omega.{arith}
 use Rattle.model.specs.Calls.{onKQuery}
 use Rattle.model.specs.Opening.{queryOpens}
 use Rattle.memory.specs.Held.{SoundAt}
-use Rattle.memory.specs.Laws.Held.{sound-held, unsound-held}
+use Rattle.soundness.specs.Laws.Held.{sound-held, unsound-held}
 use Rattle.rows.specs.Laws.Planned.{query-unsound, query-bad}
 use Rattle.query.specs.Rule.{Fair}
 use Rattle.query.specs.Laws.Calls.{on-bad, on-right, on-rows}

@@ -8,7 +8,7 @@ use mathlib.Core.Path.{sym, ap, subst, _∙_}
 use native.Mathlib.Omega.{arith}
 use Rattle.promises.specs.Layout.{numberIn, moveIn}
 use Rattle.memory.specs.Laws.Held.{held-readable}
-use Rattle.memory.specs.declared.sound.Head.{Head}
+use Rattle.memory.specs.declared.head.Head.{Head}
 use Rattle.numbers.specs.Set.{With}
 use Rattle.upkeep.specs.Laws.Passing.{passing-few, passing-none, passing-takes, passing-passes}
 use Rattle.upkeep.specs.Laws.Found.{FindsTo, finds-all}

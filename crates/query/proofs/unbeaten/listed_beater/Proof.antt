@@ -6,10 +6,10 @@ use mathlib.Core.Path.{_≡_, sym, ap, _∙_, subst}
 use native.Mathlib.Omega.{arith}
 use Rattle.model.specs.Laws.Bool.{and-false-right}
 use Rattle.promises.specs.Run.{Bytes}
-use Rattle.memory.specs.Search.{None}
+use Rattle.search.specs.Search.{None}
 use Rattle.memory.specs.Tests.{isListed}
 use Rattle.memory.specs.Laws.Held.{held-readable}
-use Rattle.memory.specs.Laws.Search.{none-more, none-join}
+use Rattle.search.specs.Laws.Search.{none-more, none-join}
 use Rattle.query.specs.Rule as rules
 use Rattle.query.specs.Kept.{beatsAt, listedBeats}
 use Rattle.query.specs.Laws.Unbeaten.{none-beats}

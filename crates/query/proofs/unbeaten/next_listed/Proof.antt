@@ -2,9 +2,9 @@
 use Prim.Native.Nat.{_-_, _≤_}
 use mathlib.Core.Path.{sym, _∙_}
 use native.Mathlib.Omega.{arith}
-use Rattle.memory.specs.Search.{None}
+use Rattle.search.specs.Search.{None}
 use Rattle.memory.specs.Tests.{isListed}
-use Rattle.memory.specs.Laws.Search.{none-empty, none-more}
+use Rattle.search.specs.Laws.Search.{none-empty, none-more}
 use Rattle.memory.specs.Laws.Turns.{listed-at}
 use Rattle.query.proofs.unbeaten.next_listed.Statement.{statement}
 use Rattle.query.proofs.unbeaten.next_listed.Tie as tie

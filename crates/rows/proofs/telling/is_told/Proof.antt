@@ -5,7 +5,7 @@ use mathlib.Core.Path.{_≡_, refl, sym, ap, _∙_}
 use native.Mathlib.Omega.{arith}
 use borrow.Author.Needs.{needs}
 use borrow.Author.Tests.{not-true, not-false}
-use Rattle.memory.specs.Search.{looks, looksAt}
+use Rattle.search.specs.Search.{looks, looksAt}
 use Rattle.numbers.specs.Set.{inSet}
 use Rattle.rows.specs.Telling.{tellsPlace, toldAt}
 use Rattle.rows.specs.Laws.Telling.{place-below, coming-told, place-told}

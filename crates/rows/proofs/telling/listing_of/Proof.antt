@@ -1,7 +1,7 @@
 -- `telling::listing_of` meets its contract. Assumes nothing.
 use mathlib.Core.Path.{_≡_}
 use borrow.Author.Needs.{needs}
-use Rattle.memory.specs.declared.search.Among.the-variants.{All}
+use Rattle.search.specs.declared.search.Among.the-variants.{All}
 use Rattle.rows.proofs.telling.listing_of.Statement.{statement}
 use Rattle.rows.proofs.telling.listing_of.Tie as tie
 

@@ -2,7 +2,7 @@
 use mathlib.Core.Path.{sym, subst}
 use native.Mathlib.Omega.{arith}
 use borrow.Author.Needs.{needs}
-use Rattle.memory.specs.declared.sound.Head.{Head}
+use Rattle.memory.specs.declared.head.Head.{Head}
 use Rattle.tree.specs.Split.{CascadeAsked, Cascaded}
 use Rattle.tree.specs.Laws.Entered.{holds-ordered, entered-first, put-asked, cascade-asked, entered-more}
 use Rattle.tree.proofs.enter.enter_line.Statement.{statement}

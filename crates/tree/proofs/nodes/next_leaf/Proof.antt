@@ -6,7 +6,7 @@ use native.Mathlib.Omega.{arith}
 use borrow.Author.Tests.{not-true, not-false}
 use Rattle.promises.specs.Run.{Bytes}
 use Rattle.memory.specs.Laws.Held.{held-readable}
-use Rattle.memory.specs.Laws.Search.{corners-fewer}
+use Rattle.search.specs.Laws.Search.{corners-fewer}
 use Rattle.tree.specs.Laws.Search.{Searchable, sound-searchable, Searching, search-start, search-few, search-on, search-down, search-leaf, search-end}
 use Rattle.tree.proofs.nodes.next_leaf.Statement.{statement}
 use Rattle.tree.proofs.nodes.next_leaf.Tie as tie

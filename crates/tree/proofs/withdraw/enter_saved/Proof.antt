@@ -4,7 +4,7 @@ use mathlib.Core.Path.{_≡_, sym, subst}
 use native.Mathlib.Omega.{arith}
 use borrow.Author.Needs.{needs}
 use Rattle.dominance.specs.Move.{asMove}
-use Rattle.memory.specs.declared.sound.Head.{Head}
+use Rattle.memory.specs.declared.head.Head.{Head}
 use Rattle.tree.specs.Enter.{EnterAsked, Entered}
 use Rattle.tree.specs.Laws.Again.{Entering, entering-none, entering-low, entering-read, entering-asked, entering-more, entering-all}
 use Rattle.tree.proofs.withdraw.enter_saved.Statement.{statement}

@@ -2,7 +2,7 @@
 use Prim.Native.Nat.{ℕ}
 use mathlib.Core.Path.{sym, subst}
 use borrow.Author.Needs.{needs}
-use Rattle.memory.specs.declared.sound.Head.{Head}
+use Rattle.memory.specs.declared.head.Head.{Head}
 use Rattle.tree.specs.Withdraw.{Saved, SavedAsked, SavedEntered}
 use Rattle.tree.specs.Laws.Removal.{saved-asked, withdrawn}
 use Rattle.tree.proofs.withdraw.withdraw_line.Statement.{statement}

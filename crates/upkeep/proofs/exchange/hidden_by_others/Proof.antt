@@ -5,7 +5,7 @@ use native.Mathlib.Omega.{arith}
 use borrow.Author.Needs.{needs}
 use Rattle.promises.specs.Run.{Bytes}
 use Rattle.dominance.specs.Move.{asMove}
-use Rattle.memory.specs.Laws.Search.{corners-fewer}
+use Rattle.search.specs.Laws.Search.{corners-fewer}
 use Rattle.upkeep.specs.Laws.Others.{others-none, others-found, others-next}
 use Rattle.upkeep.proofs.exchange.hidden_by_others.Statement.{statement}
 use Rattle.upkeep.proofs.exchange.hidden_by_others.Tie as tie

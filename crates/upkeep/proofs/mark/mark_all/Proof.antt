@@ -3,7 +3,7 @@
 use Prim.Native.Nat.{ℕ, _-_, _≤_}
 use mathlib.Core.Path.{_≡_, refl, subst}
 use native.Mathlib.Omega.{arith}
-use Rattle.memory.specs.Laws.Search.{corners-none}
+use Rattle.search.specs.Laws.Search.{corners-none}
 use Rattle.upkeep.specs.Mark.{Marked}
 use Rattle.upkeep.proofs.Marking.{Marking, marked-none, marking-more, stored-frame, readable-kept, ordered-kept}
 use Rattle.upkeep.proofs.mark.mark_all.Statement.{statement}

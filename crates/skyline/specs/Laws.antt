@@ -1,0 +1,5 @@
+-- That both halves together decide whether the marked moves are the list.
+pub mod Chunks
+pub mod Unhidden
+pub mod Highs
+pub mod Halves

@@ -1,0 +1,3 @@
+-- What the chunks of listed moves hold; then their laws.
+pub mod Chunks
+pub mod Laws
