@@ -1,5 +1,4 @@
--- What the parts of the three changes say and leave: laws over plain values.
-pub mod Judge
+-- What the steps of each change leave, and the call's promise from plan, rows and steps.
 pub mod Rows
 pub mod Kept
 pub mod Marks
@@ -7,12 +6,6 @@ pub mod Steps
 pub mod Enter
 pub mod Withdraw
 pub mod Recost
-pub mod Told
-pub mod Notice
-pub mod Calls
-pub mod Accepted
-pub mod Unchanged
-pub mod Plan
 pub mod Give
 pub mod Promise
 pub mod CarryOut

@@ -1,5 +1,2 @@
--- What the parts of the three changes say and leave, and what holds of it.
-pub mod Kind
-pub mod Change
-pub mod Plan
+-- What holds of a plan that is carried out.
 pub mod Laws

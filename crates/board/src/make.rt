@@ -1,14 +1,14 @@
 // The change itself, made on sound memory: no rows and no 8.
-use crate::change::Kind;
-use crate::change::comes;
-use crate::change::coming_of;
-use crate::plan::ChangePlan;
 use dominance::Move;
 use memory::Head;
 use memory::set_block;
 use memory::set_costs;
 use memory::set_count;
 use memory::set_listed;
+use planning::ChangePlan;
+use planning::Kind;
+use planning::comes;
+use planning::coming_of;
 use promises::accepts;
 use tree::enter_line;
 use tree::with_rows;
@@ -16,8 +16,8 @@ use tree::withdraw_line;
 use upkeep::Upkeep;
 use upkeep::set_marks;
 ghost use Rattle.dominance.specs.Move.{asMove};
-ghost use Rattle.board.specs.Change as spec;
-ghost use Rattle.board.specs.Plan as plan;
+ghost use Rattle.planning.specs.Change as spec;
+ghost use Rattle.planning.specs.Plan as plan;
 
 fn make_enter(m: &mut [u8], h: Head, x: Move, u: Upkeep)
     requires { ⌜ spec.ToEnter (h .size) (h .dimension) (h .count) x u (now m) ⌝ }

@@ -7,10 +7,10 @@ use crate::table::TOLD;
 use crate::table::Table;
 use crate::table::same_rows;
 use crate::told::noticed;
-use board::Change;
-use board::Kind;
 use board::carry_out;
-use board::plan_change;
+use planning::Change;
+use planning::Kind;
+use planning::plan_change;
 use zorder::COSTS;
 
 fn costs_of(r: Row) -> [u16; COSTS] {

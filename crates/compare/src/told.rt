@@ -5,9 +5,9 @@ use crate::table::Table;
 use crate::table::WANT;
 use crate::table::put_row;
 use crate::table::same_rows;
-use board::ChangePlan;
-use board::entered_of;
-use board::left_of;
+use planning::ChangePlan;
+use planning::entered_of;
+use planning::left_of;
 use promises::Verdict;
 use promises::counted;
 use promises::number_of;
@@ -16,7 +16,7 @@ use rows::Telling;
 use rows::told_next;
 ghost use Prim.Native.Nat.{_<_, _≤_};
 ghost use Rattle.rows.specs.Telling.{TellingAsked};
-ghost use Rattle.board.specs.Plan.{leftOf, enteredOf};
+ghost use Rattle.planning.specs.Plan.{leftOf, enteredOf};
 
 // The board with what a call said: of a refused one the counts are zero.
 pub fn spoken(b: Plain, v: Verdict, need: usize, opened: usize) -> Plain {

@@ -20,10 +20,10 @@ use denote.Plain.{UInt, uint-lawful, uint-makes, uint-tells}
 use denote.Struct.Laws as LL
 use Rattle.rows.proofs.plan.Plan as L
 use Rattle.rows.proofs.plan.Plan.Laws as L′
-use Rattle.board.proofs.change.Change as X
-use Rattle.board.proofs.change.Change.Laws as X′
-use Rattle.board.proofs.plan.ChangePlan as Q
-use Rattle.board.proofs.plan.ChangePlan.Laws as Q′
+use Rattle.planning.proofs.change.Change as X
+use Rattle.planning.proofs.change.Change.Laws as X′
+use Rattle.planning.proofs.plan.ChangePlan as Q
+use Rattle.planning.proofs.plan.ChangePlan.Laws as Q′
 use Rattle.dolzhev.proofs.answer.Move as B
 use Rattle.dolzhev.proofs.answer.Move.Laws as B′
 

@@ -37,9 +37,9 @@ use denote.Triple.Statement.{Triple}
 use denote.Triple.Walked.{says, Stays, stay-none, gave-slice, walkOf, goes-none, goes-gave-slice, Walks, ends-at, walked, walk-meets}
 use denote.Exit.{yes}
 use Rattle.model.specs.Calls as calls
-use Rattle.board.specs.Kind.{callOf}
-use Rattle.board.specs.declared.change.Change.{Change}
-use Rattle.board.proofs.change.Change.Laws as X′
+use Rattle.planning.specs.Kind.{callOf}
+use Rattle.planning.specs.declared.change.Change.{Change}
+use Rattle.planning.proofs.change.Change.Laws as X′
 use Rattle.rows.specs.declared.row.Row.{Row}
 use Rattle.rows.proofs.Walk.{envOf, free-all}
 use Rattle.rows.proofs.Lent.{at-rows}

@@ -32,10 +32,10 @@ use denote.Triple.Spec.{tripleOf}
 use denote.Triple.Statement.{Contract, Triple}
 use denote.Triple.Call.{calls-at}
 use denote.Exit.{yes}
-use Rattle.board.specs.Kind.{callOf}
-use Rattle.board.specs.declared.change.Change.{Change}
-use Rattle.board.proofs.change.Change as X
-use Rattle.board.proofs.change.Change.Laws as X′
+use Rattle.planning.specs.Kind.{callOf}
+use Rattle.planning.specs.declared.change.Change.{Change}
+use Rattle.planning.proofs.change.Change as X
+use Rattle.planning.proofs.change.Change.Laws as X′
 use Rattle.rows.specs.declared.row.Row.{Row}
 use Rattle.rows.proofs.Walk.{returned, returned-at}
 use Rattle.rows.proofs.Lent.{at-rows}

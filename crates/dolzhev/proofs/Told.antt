@@ -31,9 +31,9 @@ use denote.Triple.Spec.{tripleOf}
 use denote.Triple.Statement.{Contract, Triple}
 use denote.Triple.Call.{calls-at}
 use denote.Triple.Walked.{says}
-use Rattle.board.specs.declared.plan.ChangePlan.{ChangePlan}
-use Rattle.board.proofs.plan.ChangePlan as Q
-use Rattle.board.proofs.plan.ChangePlan.Laws as Q′
+use Rattle.planning.specs.declared.plan.ChangePlan.{ChangePlan}
+use Rattle.planning.proofs.plan.ChangePlan as Q
+use Rattle.planning.proofs.plan.ChangePlan.Laws as Q′
 use Rattle.rows.specs.declared.row.Row.{Row}
 use Rattle.rows.proofs.Walk.{returned-at}
 use Rattle.rows.proofs.Lent.{at-rows}

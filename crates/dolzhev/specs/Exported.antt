@@ -13,11 +13,11 @@ use Rattle.zorder.specs.Address.{rowCosts}
 use Rattle.rows.specs.Telling.{TellingAsked}
 use Rattle.rows.specs.Rows.{rowNumbers}
 use Rattle.rows.specs.declared.row.Row.{Row}
-use Rattle.board.specs.Kind.{changeOf, callOf}
-use Rattle.board.specs.Plan.{leftOf, enteredOf, rowsFilled}
-use Rattle.board.specs.declared.change.Change.{Change}
-use Rattle.board.specs.declared.change.Kind.the-variants.{Enter, Withdraw, Recost}
-use Rattle.board.specs.declared.plan.ChangePlan.{ChangePlan}
+use Rattle.planning.specs.Kind.{changeOf, callOf}
+use Rattle.planning.specs.Plan.{leftOf, enteredOf, rowsFilled}
+use Rattle.planning.specs.declared.change.Change.{Change}
+use Rattle.planning.specs.declared.change.Kind.the-variants.{Enter, Withdraw, Recost}
+use Rattle.planning.specs.declared.plan.ChangePlan.{ChangePlan}
 use Rattle.dolzhev.specs.declared.answer.Answer.{Answer}
 use Rattle.dolzhev.specs.declared.answer.Move.{Move}
 

@@ -1,7 +1,7 @@
 // What the changes are asked, from what the exported calls are given.
 use crate::answer::Move;
-use board::Change;
-use board::Kind;
+use planning::Change;
+use planning::Kind;
 use zorder::COSTS;
 ghost use mathlib.Core.Path.{_≡_};
 ghost use Rattle.dolzhev.specs.Exported as spec;

@@ -1,7 +1,7 @@
 // The notice of a planned change, put into the lent rows: first who leaves, then who enters.
-use board::ChangePlan;
-use board::entered_of;
-use board::left_of;
+use planning::ChangePlan;
+use planning::entered_of;
+use planning::left_of;
 use rows::Row;
 use rows::fill;
 ghost use Rattle.dolzhev.specs.Exported.{TellAsked, Noticed};

@@ -7,11 +7,11 @@ use crate::asked::entering;
 use crate::asked::recosting;
 use crate::asked::withdrawing;
 use crate::notice::tell;
-use board::Change;
-use board::plan_change;
+use planning::Change;
+use planning::plan_change;
 use rows::Row;
 ghost use Rattle.model.specs.Calls.{withdraw};
-ghost use Rattle.board.specs.Kind.{callOf};
+ghost use Rattle.planning.specs.Kind.{callOf};
 ghost use Rattle.dolzhev.specs.Exported as spec;
 ghost use Rattle.dolzhev.specs.Exported.{rowsOf, PreviewExported};
 

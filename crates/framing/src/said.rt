@@ -2,9 +2,9 @@
 use crate::text::put_byte;
 use crate::text::put_told;
 use crate::text::put_word;
-use board::ChangePlan;
-use board::entered_of;
-use board::left_of;
+use planning::ChangePlan;
+use planning::entered_of;
+use planning::left_of;
 use promises::Verdict;
 use promises::number_of;
 use rows::Plan;

@@ -9,12 +9,12 @@ use crate::said::put_change;
 use crate::said::put_list;
 use crate::said::put_loaded;
 use crate::said::put_refusal;
-use board::Change;
 use board::carry_out;
-use board::plan_change;
 use listing::plan_list;
 use loading::INPUT;
 use loading::load;
+use planning::Change;
+use planning::plan_change;
 use promises::number_of;
 ghost use mathlib.Core.Path.{_≡_};
 ghost use Rattle.framing.specs.Frames as frames;
@@ -66,7 +66,7 @@ fn listed(m: &[u8], d: usize, out: &mut [u8]) -> usize
 }
 
 // What a frame of a change asks, in block 0.
-fn asked(kind: board::Kind, f: Frame) -> Change
+fn asked(kind: planning::Kind, f: Frame) -> Change
     ensures { λ r. ⌜ r ≡ askedBy kind f ⌝ }
 {
     let costs = f.costs;
@@ -91,9 +91,9 @@ pub fn answer(m: &mut [u8], d: usize, line: Line, out: &mut [u8]) -> Response
         Kind::List => listed(m, d, out),
         Kind::Early => put_refusal(out, 3, 0),
         Kind::Wrong => put_refusal(out, 9, 0),
-        Kind::Enter => change(m, d, asked(board::Kind::Enter, f), out),
-        Kind::Withdraw => change(m, d, asked(board::Kind::Withdraw, f), out),
-        Kind::Recost => change(m, d, asked(board::Kind::Recost, f), out),
+        Kind::Enter => change(m, d, asked(planning::Kind::Enter, f), out),
+        Kind::Withdraw => change(m, d, asked(planning::Kind::Withdraw, f), out),
+        Kind::Recost => change(m, d, asked(planning::Kind::Recost, f), out),
     };
     Response {
         count,

@@ -10,10 +10,10 @@ use crate::word::WITHDRAW;
 use crate::word::WITHDRAW_OPENED;
 use crate::word::call_of;
 use crate::word::has_block;
-use board::Change;
-use board::Kind;
 use board::carry_out;
-use board::plan_change;
+use planning::Change;
+use planning::Kind;
+use planning::plan_change;
 
 fn kind_of(word: u32) -> Kind {
     match call_of(word) {

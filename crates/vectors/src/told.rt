@@ -2,9 +2,9 @@
 use crate::said::Said;
 use crate::said::put;
 use crate::said::put_all;
-use board::ChangePlan;
-use board::entered_of;
-use board::left_of;
+use planning::ChangePlan;
+use planning::entered_of;
+use planning::left_of;
 use promises::Answer;
 use promises::Verdict;
 use promises::counted;
@@ -15,7 +15,7 @@ use rows::Telling;
 use rows::told_next;
 ghost use Prim.Native.Nat.{_<_, _≤_};
 ghost use Rattle.rows.specs.Telling.{TellingAsked};
-ghost use Rattle.board.specs.Plan.{leftOf, enteredOf};
+ghost use Rattle.planning.specs.Plan.{leftOf, enteredOf};
 
 pub fn put_verdict(values: &[u64], s: Said, v: Verdict) -> Said {
     put(values, put(values, s, number_of(v) as u64), v.detail as u64)

@@ -12,13 +12,13 @@ use Rattle.dominance.specs.declared.Move.{Move}
 use Rattle.promises.specs.Layout.{numberIn}
 use Rattle.promises.specs.Answers.{numberOf}
 use Rattle.memory.specs.Stores.{setBlock}
-use Rattle.board.specs.Kind.{changeOf, comes, comingOf}
-use Rattle.board.specs.Change.{Made, EnterMade, WithdrawMade, RecostMade}
-use Rattle.board.specs.Plan.{MovesReady, MovesMade, CarriedOut, PreparedFor}
-use Rattle.board.specs.declared.change.Change.{Change}
-use Rattle.board.specs.declared.change.Kind.{Kind}
-use Rattle.board.specs.declared.change.Kind.the-variants.{Enter, Withdraw, Recost}
-use Rattle.board.specs.declared.plan.ChangePlan.{ChangePlan}
+use Rattle.planning.specs.Kind.{changeOf, comes, comingOf}
+use Rattle.planning.specs.Change.{Made, EnterMade, WithdrawMade, RecostMade}
+use Rattle.planning.specs.Plan.{MovesReady, MovesMade, CarriedOut, PreparedFor}
+use Rattle.planning.specs.declared.change.Change.{Change}
+use Rattle.planning.specs.declared.change.Kind.{Kind}
+use Rattle.planning.specs.declared.change.Kind.the-variants.{Enter, Withdraw, Recost}
+use Rattle.planning.specs.declared.plan.ChangePlan.{ChangePlan}
 
 module _ (p : ChangePlan) (m : List ℕ) (ready : MovesReady p m) (h : p .makes ≡ true) where
   -- What the plan's kind asks.

@@ -29,10 +29,11 @@ use Rattle.tree.specs.Enter as tree
 use Rattle.upkeep.specs.Change.{movesAfter}
 use Rattle.upkeep.specs.Mark.{SetMarks}
 use Rattle.upkeep.specs.declared.exchange.Upkeep.{Upkeep}
-use Rattle.board.specs.Change.{ToEnter, Moved, EnterMade}
+use Rattle.planning.specs.Change.{ToEnter, Moved, EnterMade}
 use Rattle.board.specs.Laws.Rows.{holds-sound, holds-moves, holds-over-marks, holds-counted}
 use Rattle.board.specs.Laws.Kept.{MarksRight, made}
-use Rattle.board.specs.Laws.Marks.{entering-moves, marks-come}
+use Rattle.planning.specs.Laws.Places.{entering-moves}
+use Rattle.board.specs.Laws.Marks.{marks-come}
 use Rattle.board.specs.Laws.Steps.{listed-frame, stored-frame, stored-holds, stored-asked}
 
 module _ {c d n : ℕ} {x : Move} {u : Upkeep} {m m₁ m₂ m₃ : List ℕ} (a : ToEnter c d n x u m) (b : Bytes m)

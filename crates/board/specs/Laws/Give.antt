@@ -28,11 +28,11 @@ use Rattle.memory.specs.Laws.Written.{only-room, size-left, dimension-left, blo
 use Rattle.memory.specs.Laws.Lines.{each-numbers}
 use Rattle.memory.specs.Laws.Blocks.{same-blocks, setBlock-blocks, block-setBlock, size-over-blocks, dimension-over-blocks, moves-over-blocks, stands-over-blocks}
 use Rattle.memory.specs.Laws.Held.{held-room}
-use Rattle.board.specs.Change.{Moved}
-use Rattle.board.specs.Kind.{changeOf, comes}
-use Rattle.board.specs.Laws.Accepted.{recost-on}
-use Rattle.board.specs.declared.change.Kind.{Kind}
-use Rattle.board.specs.declared.change.Kind.the-variants.{Enter, Withdraw, Recost}
+use Rattle.planning.specs.Change.{Moved}
+use Rattle.planning.specs.Kind.{changeOf, comes}
+use Rattle.planning.specs.Laws.Accepted.{recost-on}
+use Rattle.planning.specs.declared.change.Kind.{Kind}
+use Rattle.planning.specs.declared.change.Kind.the-variants.{Enter, Withdraw, Recost}
 
 module _ {m : List ℕ} (s : Sound m) (x : Change) {b : List ℕ} (moved : Moved x m b (s .tree)) (ok : changeRefusal (boardIn m) x ≡ 0) where
   abbrev c : ℕ

@@ -27,7 +27,7 @@ use Rattle.memory.specs.Laws.Fields.{number-over-head, mark-over-head}
 use Rattle.memory.specs.Laws.Stored.{setCount-head, count-setCount, size-setCount, dimension-setCount, format-setCount}
 use Rattle.memory.specs.Laws.Lines.{lineIn-line, line-over-head}
 use Rattle.tree.specs.Hold.{RowsHold}
-use Rattle.board.specs.Change.{Moved}
+use Rattle.planning.specs.Change.{Moved}
 
 -- The mark of each of the moves says whether it is in their list.
 abbrev pub MarksRight : ℕ → ℕ → List ℕ → List Move → Type 0

@@ -37,12 +37,6 @@ use Rattle.board.specs.Laws.Kept.{MarksRight}
 
 -- ---- the moves left
 
--- No move goes.
-pub dropAt-past : (i : ℕ) (ms : List Move) → length ms ≡ i → dropAt i ms ≡ ms
-unfolding dropAt
-dropAt-past i ms e =
-    ap₂ (λ (xs ys : List Move). xs ++ ys) (take-all i ms (omega arith)) (drop-of-length-le ms {i = suc i} (omega arith)) ∙ append-nil ms
-
 -- A property of the moves left, by their places.
 module _ (c d n g : ℕ) (m : List ℕ) where
   pub each-rest : (P : Move → Type 0) → ((i : ℕ) → i < n → i ≢ g → P (moveIn c d m i)) → Each P (dropAt g (movesIn (lineFrom c d n m)))
@@ -74,11 +68,6 @@ module _ (c d n g : ℕ) (m : List ℕ) where
 
       here : ℕ → Bool
       here j = not (eqb j g) && has (moveIn c d m j)
-
-pub entering-moves : (c d n : ℕ) (m : List ℕ) → dropAt n (movesIn (lineFrom c d n m)) ≡ movesIn (lineFrom c d n m)
-unfolding movesIn
-entering-moves c d n m =
-    dropAt-past n (movesIn (lineFrom c d n m)) (length-map (lineFrom c d n m) (λ r. r .move) ∙ length-line c d n m)
 
 -- ---- the marks
 

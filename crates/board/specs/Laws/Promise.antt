@@ -22,12 +22,12 @@ use Rattle.rows.specs.Telling.{filledRows}
 use Rattle.rows.specs.Planned.{answered, put}
 use Rattle.rows.specs.Laws.Telling.{filled-length}
 use Rattle.rows.specs.Laws.Planned.{foreseen-said, foreseen-unsaid, tells-put, tells-none, put-both}
-use Rattle.board.specs.Kind.{callOf, comes}
-use Rattle.board.specs.Change.{Made}
-use Rattle.board.specs.Plan.{CarriedOut, Planned, leftOf, enteredOf, rowsFilled}
+use Rattle.planning.specs.Kind.{callOf, comes}
+use Rattle.planning.specs.Change.{Made}
+use Rattle.planning.specs.Plan.{CarriedOut, Planned, leftOf, enteredOf, rowsFilled}
 use Rattle.board.specs.Laws.Give.{kept-given, given-alone, given-again}
-use Rattle.board.specs.declared.change.Change.{Change}
-use Rattle.board.specs.declared.plan.ChangePlan.{ChangePlan}
+use Rattle.planning.specs.declared.change.Change.{Change}
+use Rattle.planning.specs.declared.plan.ChangePlan.{ChangePlan}
 
 -- ---- the rows
 

@@ -43,28 +43,12 @@ use Rattle.upkeep.specs.Change.{dropAt, movesAfter}
 use Rattle.upkeep.specs.Mark.{SetMarks}
 use Rattle.upkeep.specs.Laws.Change.{rest-without}
 use Rattle.upkeep.specs.declared.exchange.Upkeep.{Upkeep}
-use Rattle.board.specs.Change.{ToRecost, Moved, RecostMade}
+use Rattle.planning.specs.Change.{ToRecost, Moved, RecostMade}
+use Rattle.planning.specs.Laws.Places.{costs-board}
 use Rattle.board.specs.Laws.Rows.{holds-sound, holds-moves, holds-over-marks, holds-counted}
 use Rattle.board.specs.Laws.Kept.{MarksRight, made}
 use Rattle.board.specs.Laws.Marks.{marks-come}
 use Rattle.board.specs.Laws.Steps.{listed-frame, stored-frame, stored-holds, stored-asked, gone-written, gone-mark, gone-holds, gone-moves}
-
--- The costs of a number on the board, where costs go by number.
-costs-on : (f : ℕ → List ℕ) (k : ℕ) (ms : List model.Move) → Each (λ x. x .costs ≡ f (x .number)) ms → onBoard k ms ≡ true → costsOn k ms ≡ f k
-unfolding costsOn onBoard any
-costs-on f k [] es on = both-ways on refl
-costs-on f k (y ∷ ys) es on = step (eqb (y .number) k) refl on (costs-on f k ys (es .1))
-  where
-    step : (t : Bool) → eqb (y .number) k ≡ t → (t || onBoard k ys) ≡ true → (onBoard k ys ≡ true → costsOn k ys ≡ f k) → cond t (y .costs) (costsOn k ys) ≡ f k
-    step true e o again = es .0 ∙ ap f (eqb-true (y .number) k e)
-    step false e o again = again o
-
-pub costs-board : (c d n : ℕ) (m : List ℕ) (k : ℕ) → onBoard k (movesIn (lineFrom c d n m)) ≡ true → costsOn k (movesIn (lineFrom c d n m)) ≡ costsIn c d m k
-unfolding moveIn
-costs-board c d n m k =
-    costs-on (costsIn c d m) k (movesIn (lineFrom c d n m))
-    (subst (Each (λ x. x .costs ≡ costsIn c d m (x .number))) (sym (movesIn-line c d n m))
-    (each-tab (moveIn c d m) (λ x. x .costs ≡ costsIn c d m (x .number)) n (λ _ _. refl)))
 
 costs-there : (c d n p : ℕ) (m : List ℕ) → p < n → costsOn (numberIn c m p) (movesIn (lineFrom c d n m)) ≡ costsIn c d m (numberIn c m p)
 costs-there c d n p m l = costs-board c d n m (numberIn c m p) (on-at c d n m p l)

@@ -15,7 +15,7 @@ use Rattle.upkeep.specs.Change.{movesAfter}
 use Rattle.upkeep.specs.Mark.{SetMarks}
 use Rattle.upkeep.specs.Laws.Change.{rest-without}
 use Rattle.upkeep.specs.declared.exchange.Upkeep.{Upkeep}
-use Rattle.board.specs.Change.{ToWithdraw, WithdrawMade}
+use Rattle.planning.specs.Change.{ToWithdraw, WithdrawMade}
 use Rattle.board.specs.Laws.Rows.{holds-sound, holds-over-marks, holds-counted}
 use Rattle.board.specs.Laws.Kept.{MarksRight, made}
 use Rattle.board.specs.Laws.Marks.{marks-gone}

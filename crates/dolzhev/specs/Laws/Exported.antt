@@ -11,11 +11,11 @@ use Rattle.rows.specs.Laws.Planned.{query-promise}
 use Rattle.rows.specs.Rows.{rowNumbers}
 use Rattle.rows.specs.declared.plan.Plan.{Plan}
 use Rattle.rows.specs.declared.row.Row.{Row}
-use Rattle.board.specs.Kind.{callOf}
-use Rattle.board.specs.Plan.{Planned, CarriedOut}
+use Rattle.planning.specs.Kind.{callOf}
+use Rattle.planning.specs.Plan.{Planned, CarriedOut}
 use Rattle.board.specs.Laws.Promise.{plan-said, plan-promise}
-use Rattle.board.specs.declared.change.Change.{Change}
-use Rattle.board.specs.declared.plan.ChangePlan.{ChangePlan}
+use Rattle.planning.specs.declared.change.Change.{Change}
+use Rattle.planning.specs.declared.plan.ChangePlan.{ChangePlan}
 use Rattle.dolzhev.specs.Exported.{rowsOf, Answered, ChangeExported, PreviewExported, QueryExported, TellAsked, Noticed}
 use Rattle.dolzhev.specs.declared.answer.Answer.{Answer}
 

@@ -15,8 +15,8 @@ use Rattle.framing.specs.Text.{byteText, wordText, rowText, rowsText, Re
 use Rattle.framing.specs.Session.{saidBy}
 use Rattle.rows.specs.declared.plan.Plan.{Plan}
 use Rattle.rows.specs.declared.telling.Telling.{Telling}
-use Rattle.board.specs.Plan.{leftOf, enteredOf}
-use Rattle.board.specs.declared.plan.ChangePlan.{ChangePlan}
+use Rattle.planning.specs.Plan.{leftOf, enteredOf}
+use Rattle.planning.specs.declared.plan.ChangePlan.{ChangePlan}
 use Rattle.framing.specs.Writing.{TextPut, tellingRows, TextRoom, ListRoom, ChangeRoom, headText, listSaid, changeSaid}
 use Rattle.framing.specs.Laws.Put.{put-one, put-both, put-as}
 use Rattle.framing.specs.Laws.Texts.{wordText-length, flatMap-append}

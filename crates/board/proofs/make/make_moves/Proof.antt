@@ -4,8 +4,8 @@ use borrow.Author.Needs.{needs}
 use borrow.Author.Tests.{not-true, not-false}
 use Rattle.dominance.specs.declared.Move.{Move}
 use Rattle.model.specs.Laws.Bool.{both-ways}
-use Rattle.board.specs.Change.{ToEnter, ToRecost}
-use Rattle.board.specs.Plan.{PreparedFor}
+use Rattle.planning.specs.Change.{ToEnter, ToRecost}
+use Rattle.planning.specs.Plan.{PreparedFor}
 use Rattle.board.specs.Laws.CarryOut.{prepared-for, moves-made, enter-as, withdraw-as, recost-as}
 use Rattle.board.proofs.make.make_moves.Statement.{statement}
 use Rattle.board.proofs.make.make_moves.Tie as tie

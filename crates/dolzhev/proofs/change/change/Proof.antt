@@ -36,17 +36,17 @@ use denote.Triple.Call.{calls-at}
 use denote.Triple.Table.{entered, cited}
 use denote.Triple.Walked.{says, Stays, stay-none, gave-slice, walkOf, goes-none, goes-gave-slice, Walks, ends-at, walked, walk-meets}
 use denote.Exit.{yes}
-use Rattle.board.specs.Kind.{callOf}
-use Rattle.board.specs.Plan.{Planned, CarriedOut}
-use Rattle.board.specs.declared.change.Change.{Change}
-use Rattle.board.specs.declared.plan.ChangePlan.{ChangePlan}
-use Rattle.board.proofs.change.Change as X
-use Rattle.board.proofs.change.Change.Laws as X′
-use Rattle.board.proofs.plan.ChangePlan as Q
-use Rattle.board.proofs.plan.ChangePlan.Laws as Q′
-use Rattle.board.proofs.plan_change.Symbol as plan-def
-use Rattle.board.proofs.plan_change.Symbol.{name as #board·plan-change}
-use Rattle.board.proofs.plan_change.Met as plan-thm
+use Rattle.planning.specs.Kind.{callOf}
+use Rattle.planning.specs.Plan.{Planned, CarriedOut}
+use Rattle.planning.specs.declared.change.Change.{Change}
+use Rattle.planning.specs.declared.plan.ChangePlan.{ChangePlan}
+use Rattle.planning.proofs.change.Change as X
+use Rattle.planning.proofs.change.Change.Laws as X′
+use Rattle.planning.proofs.plan.ChangePlan as Q
+use Rattle.planning.proofs.plan.ChangePlan.Laws as Q′
+use Rattle.planning.proofs.plan_change.Symbol as plan-def
+use Rattle.planning.proofs.plan_change.Symbol.{name as #planning·plan-change}
+use Rattle.planning.proofs.plan_change.Met as plan-thm
 use Rattle.board.proofs.carry_out as carry-out
 use Rattle.board.proofs.carry_out.Symbol as carry-out-def
 use Rattle.board.proofs.carry_out.Symbol.{name as #board·carry-out}
@@ -127,7 +127,7 @@ module _ {M : Type 1} (𝓤 : URA M) (H : Heap 𝓤) (A : Atoms 𝓤) (W : Given
   abbrev Bytes : ℕ → GName → Item 𝓤
   Bytes ν δ = ‵ (ShrSlice (named 0) (ν ∷ []) u8 .own (at-list u8 b o δ m) (s ∷ []))
 
-  module _ (𝓣 : Tables 𝓤 H) (fm : FmC 𝓤 H (W .laws) (𝓣 .C)) (known-plan : Triple 𝓤 (𝓣 .C #board·plan-change) (PlanOf asked planned Planned 𝓤 H A)) (known-tell : Triple 𝓤 (𝓣 .C #dolzhev·notice·tell) (TellC 𝓤 H A mem run)) (known-carry : Triple 𝓤 (𝓣 .C #board·carry-out) (CarryOut 𝓤 H A mem run)) (known-answered : Triple 𝓤 (𝓣 .C #dolzhev·answer·answered) (AnswerC 𝓤 H A mem run)) where
+  module _ (𝓣 : Tables 𝓤 H) (fm : FmC 𝓤 H (W .laws) (𝓣 .C)) (known-plan : Triple 𝓤 (𝓣 .C #planning·plan-change) (PlanOf asked planned Planned 𝓤 H A)) (known-tell : Triple 𝓤 (𝓣 .C #dolzhev·notice·tell) (TellC 𝓤 H A mem run)) (known-carry : Triple 𝓤 (𝓣 .C #board·carry-out) (CarryOut 𝓤 H A mem run)) (known-answered : Triple 𝓤 (𝓣 .C #dolzhev·answer·answered) (AnswerC 𝓤 H A mem run)) where
     walk : Room u8 (length m) → Room T.the-row (length ys) → Is X.the-row x (given ∷ [])
         → ent 𝓤 (onEntry 𝓤 H A f.signature (κ, (κr, tt)) (q, (qr, tt)) a vals) (WpFn 𝓤 H (𝓣 .C) (𝓣 .Λ) code.function (s ∷ given ∷ sr ∷ []) Post)
     walk room r-room x-is =
@@ -175,7 +175,7 @@ module _ {M : Type 1} (𝓤 : URA M) (H : Heap 𝓤) (A : Atoms 𝓤) (W : Given
         move ! (1 ∷ []) $ use1 W (‵ (flft κ q) ⊛ ‵ ftrue) (id⊢ 𝓤 _) $ split ! $ keep ! (0 ∷ 3 ∷ 2 ∷ 4 ∷ []) $
         by ! (exits r w₃ (ws .0) zs (change-exported ys zs e e₁ e₃ e₂) l lr x-is is₃)))))))))))))))))))))))
 
-module _ {M : Type 1} (𝓤 : URA M) (H : Heap 𝓤) (A : Atoms 𝓤) (W : Given 𝓤 H A) (mem : Memory → SProp 𝓤) (run : Routine → Fun 𝓤) (𝓣 : Tables 𝓤 H) (known-plan : Triple 𝓤 (𝓣 .C #board·plan-change) (PlanOf asked planned Planned 𝓤 H A)) (known-tell : Triple 𝓤 (𝓣 .C #dolzhev·notice·tell) (TellC 𝓤 H A mem run)) (known-carry : Triple 𝓤 (𝓣 .C #board·carry-out) (CarryOut 𝓤 H A mem run)) (known-answered : Triple 𝓤 (𝓣 .C #dolzhev·answer·answered) (AnswerC 𝓤 H A mem run)) where
+module _ {M : Type 1} (𝓤 : URA M) (H : Heap 𝓤) (A : Atoms 𝓤) (W : Given 𝓤 H A) (mem : Memory → SProp 𝓤) (run : Routine → Fun 𝓤) (𝓣 : Tables 𝓤 H) (known-plan : Triple 𝓤 (𝓣 .C #planning·plan-change) (PlanOf asked planned Planned 𝓤 H A)) (known-tell : Triple 𝓤 (𝓣 .C #dolzhev·notice·tell) (TellC 𝓤 H A mem run)) (known-carry : Triple 𝓤 (𝓣 .C #board·carry-out) (CarryOut 𝓤 H A mem run)) (known-answered : Triple 𝓤 (𝓣 .C #dolzhev·answer·answered) (AnswerC 𝓤 H A mem run)) where
   change-walks : Walks 𝓤 H A f.ended stayed (WpFn 𝓤 H (𝓣 .C) (𝓣 .Λ) code.function) (f.clauses 𝓤 H A mem run)
   change-walks = walked 𝓤 H A f.ended stayed (f.clauses 𝓤 H A mem run) (WpFn 𝓤 H (𝓣 .C) (𝓣 .Λ) code.function)
       (λ κs. (slice-vals, (LL.vals X.the-type X′.the-laws, (slice-vals, tt)))) (λ κs. (mut-slice-tells (named 0) (κs .0) u8, (LL.tells X.the-type X′.the-laws, (mut-slice-tells (named 1) (κs .1 .0) T.the-row, tt))))
@@ -194,7 +194,7 @@ change-spec 𝓤 H 𝓜 𝓖 𝓡 =
     entered 𝓤 H (tripleOf 𝓤 H (𝓖 .A) f.signature (f.spec 𝓤 H (𝓖 .A) (𝓜 .mem) (𝓡 .run)))
     (tables 𝓤 H 𝓜 𝓡 code.env .C) (tables 𝓤 H 𝓜 𝓡 code.env .Λ) #dolzhev·change·change code.function (code.unfolded 𝓤 H 𝓜 𝓡)
     (change-meets 𝓤 H (𝓖 .A) (givenOf 𝓤 H 𝓜 𝓖) (𝓜 .mem) (𝓡 .run) (tablesOf 𝓤 H 𝓜 (tables 𝓤 H 𝓜 𝓡 code.env))
-    (cited 𝓤 H (PlanOf asked planned Planned 𝓤 H (𝓖 .A)) 𝓜 𝓡 code.env #board·plan-change plan-def.routine code.calls-board·plan-change (plan-thm.met 𝓤 H 𝓜 𝓖 𝓡))
+    (cited 𝓤 H (PlanOf asked planned Planned 𝓤 H (𝓖 .A)) 𝓜 𝓡 code.env #planning·plan-change plan-def.routine code.calls-planning·plan-change (plan-thm.met 𝓤 H 𝓜 𝓖 𝓡))
     (cited 𝓤 H (TellC 𝓤 H (𝓖 .A) (𝓜 .mem) (𝓡 .run)) 𝓜 𝓡 code.env #dolzhev·notice·tell tell-def.routine code.calls-dolzhev·notice·tell (tell-thm.met 𝓤 H 𝓜 𝓖 𝓡))
     (cited 𝓤 H (CarryOut 𝓤 H (𝓖 .A) (𝓜 .mem) (𝓡 .run)) 𝓜 𝓡 code.env #board·carry-out carry-out-def.routine code.calls-board·carry-out (carry-out-thm.met 𝓤 H 𝓜 𝓖 𝓡))
     (cited 𝓤 H (AnswerC 𝓤 H (𝓖 .A) (𝓜 .mem) (𝓡 .run)) 𝓜 𝓡 code.env #dolzhev·answer·answered answered-def.routine code.calls-dolzhev·answer·answered (answered-thm.met 𝓤 H 𝓜 𝓖 𝓡)))

@@ -37,18 +37,18 @@ use denote.Triple.Call.{calls-at}
 use denote.Triple.Table.{entered, cited}
 use denote.Triple.Walked.{says, needs, Stays, stay-none, stay-none-slice, gave-slice, walkOf, goes-none, goes-none-slice, goes-gave-slice, Walks, ends-at, walked, walk-meets}
 use denote.Exit.{yes}
-use Rattle.board.specs.Plan.{leftOf, enteredOf}
-use Rattle.board.specs.declared.plan.ChangePlan.{ChangePlan}
-use Rattle.board.proofs.plan.ChangePlan as Q
-use Rattle.board.proofs.plan.ChangePlan.Laws as Q′
-use Rattle.board.proofs.left_of as left-of
-use Rattle.board.proofs.left_of.Symbol as left-of-def
-use Rattle.board.proofs.left_of.Symbol.{name as #board·left-of}
-use Rattle.board.proofs.left_of.Met as left-of-thm
-use Rattle.board.proofs.entered_of as entered-of
-use Rattle.board.proofs.entered_of.Symbol as entered-of-def
-use Rattle.board.proofs.entered_of.Symbol.{name as #board·entered-of}
-use Rattle.board.proofs.entered_of.Met as entered-of-thm
+use Rattle.planning.specs.Plan.{leftOf, enteredOf}
+use Rattle.planning.specs.declared.plan.ChangePlan.{ChangePlan}
+use Rattle.planning.proofs.plan.ChangePlan as Q
+use Rattle.planning.proofs.plan.ChangePlan.Laws as Q′
+use Rattle.planning.proofs.left_of as left-of
+use Rattle.planning.proofs.left_of.Symbol as left-of-def
+use Rattle.planning.proofs.left_of.Symbol.{name as #planning·left-of}
+use Rattle.planning.proofs.left_of.Met as left-of-thm
+use Rattle.planning.proofs.entered_of as entered-of
+use Rattle.planning.proofs.entered_of.Symbol as entered-of-def
+use Rattle.planning.proofs.entered_of.Symbol.{name as #planning·entered-of}
+use Rattle.planning.proofs.entered_of.Met as entered-of-thm
 use Rattle.rows.specs.Telling.{filledRows}
 use Rattle.rows.specs.declared.row.Row.{Row}
 use Rattle.rows.specs.declared.telling.Telling.{Telling}
@@ -133,7 +133,7 @@ module _ {M : Type 1} (𝓤 : URA M) (H : Heap 𝓤) (A : Atoms 𝓤) (W : Given
   goes-entered : TellAsked p m ys → Is Q.the-row p (planned ∷ []) → ent 𝓤 (emp 𝓤) (EnteredOf 𝓤 H A mem run .pre to-entered)
   goes-entered asked p-is = qed W [] ∵ says ! (asked .within) $ nothing ! $ frame ! $ nothing ! $ owned ! Q.the-row (Is Q.the-row) (LL.makes Q.the-type Q′.the-plain 𝓤 H A) p _ p-is $ fjoin ! $ done !
 
-  module _ (𝓣 : Tables 𝓤 H) (fm : FmC 𝓤 H (W .laws) (𝓣 .C)) (known-left : Triple 𝓤 (𝓣 .C #board·left-of) (LeftOf 𝓤 H A mem run)) (known-entered : Triple 𝓤 (𝓣 .C #board·entered-of) (EnteredOf 𝓤 H A mem run)) (known-fill : Triple 𝓤 (𝓣 .C #rows·fill) (FillC 𝓤 H A mem run)) where
+  module _ (𝓣 : Tables 𝓤 H) (fm : FmC 𝓤 H (W .laws) (𝓣 .C)) (known-left : Triple 𝓤 (𝓣 .C #planning·left-of) (LeftOf 𝓤 H A mem run)) (known-entered : Triple 𝓤 (𝓣 .C #planning·entered-of) (EnteredOf 𝓤 H A mem run)) (known-fill : Triple 𝓤 (𝓣 .C #rows·fill) (FillC 𝓤 H A mem run)) where
     walk : Room u8 (length m) → Room T.the-row (length ys) → Is Q.the-row p (planned ∷ []) → TellAsked p m ys
         → ent 𝓤 (onEntry 𝓤 H A f.signature (κr, (κ, tt)) (qr, (q, tt)) a vals) (WpFn 𝓤 H (𝓣 .C) (𝓣 .Λ) code.function (sr ∷ s ∷ planned ∷ []) Post)
     walk room r-room p-is asked =
@@ -175,7 +175,7 @@ module _ {M : Type 1} (𝓤 : URA M) (H : Heap 𝓤) (A : Atoms 𝓤) (W : Given
         move ! (24 ∷ 25 ∷ 22 ∷ 23 ∷ 20 ∷ 21 ∷ 18 ∷ 19 ∷ 16 ∷ 17 ∷ 14 ∷ 15 ∷ 12 ∷ 13 ∷ 10 ∷ 11 ∷ 8 ∷ 9 ∷ 6 ∷ 7 ∷ 4 ∷ 5 ∷ []) $ free-all ! (envOf 𝓤 H (code.function .locals) (l₀ ∷ l₁ ∷ l₂ ∷ l₃ ∷ l₄ ∷ l₅ ∷ l₆ ∷ l₇ ∷ l₈ ∷ l₉ ∷ l₁₀ ∷ [])) $
         by ! (exits zs₁ (e₃ ∙ ap (λ (rows : List (List ℕ)). filledRows (enteredOf p .told) (enteredOf p .numbers) m (leftOf p .count) (enteredOf p .count) rows) e₂) (l₀₁ ∙ l) p-is)))))))))))))))))))
 
-module _ {M : Type 1} (𝓤 : URA M) (H : Heap 𝓤) (A : Atoms 𝓤) (W : Given 𝓤 H A) (mem : Memory → SProp 𝓤) (run : Routine → Fun 𝓤) (𝓣 : Tables 𝓤 H) (known-left : Triple 𝓤 (𝓣 .C #board·left-of) (LeftOf 𝓤 H A mem run)) (known-entered : Triple 𝓤 (𝓣 .C #board·entered-of) (EnteredOf 𝓤 H A mem run)) (known-fill : Triple 𝓤 (𝓣 .C #rows·fill) (FillC 𝓤 H A mem run)) where
+module _ {M : Type 1} (𝓤 : URA M) (H : Heap 𝓤) (A : Atoms 𝓤) (W : Given 𝓤 H A) (mem : Memory → SProp 𝓤) (run : Routine → Fun 𝓤) (𝓣 : Tables 𝓤 H) (known-left : Triple 𝓤 (𝓣 .C #planning·left-of) (LeftOf 𝓤 H A mem run)) (known-entered : Triple 𝓤 (𝓣 .C #planning·entered-of) (EnteredOf 𝓤 H A mem run)) (known-fill : Triple 𝓤 (𝓣 .C #rows·fill) (FillC 𝓤 H A mem run)) where
   tell-walks : Walks 𝓤 H A f.ended stayed (WpFn 𝓤 H (𝓣 .C) (𝓣 .Λ) code.function) (f.clauses 𝓤 H A mem run)
   tell-walks = walked 𝓤 H A f.ended stayed (f.clauses 𝓤 H A mem run) (WpFn 𝓤 H (𝓣 .C) (𝓣 .Λ) code.function)
       (λ κs. (slice-vals, (slice-vals, (LL.vals Q.the-type Q′.the-laws, tt)))) (λ κs. (mut-slice-tells (named 0) (κs .0) T.the-row, (shr-slice-tells (named 1) (κs .1 .0) u8, (LL.tells Q.the-type Q′.the-laws, tt))))
@@ -194,6 +194,6 @@ tell-spec 𝓤 H 𝓜 𝓖 𝓡 =
     entered 𝓤 H (tripleOf 𝓤 H (𝓖 .A) f.signature (f.spec 𝓤 H (𝓖 .A) (𝓜 .mem) (𝓡 .run)))
     (tables 𝓤 H 𝓜 𝓡 code.env .C) (tables 𝓤 H 𝓜 𝓡 code.env .Λ) #dolzhev·notice·tell code.function (code.unfolded 𝓤 H 𝓜 𝓡)
     (tell-meets 𝓤 H (𝓖 .A) (givenOf 𝓤 H 𝓜 𝓖) (𝓜 .mem) (𝓡 .run) (tablesOf 𝓤 H 𝓜 (tables 𝓤 H 𝓜 𝓡 code.env))
-    (cited 𝓤 H (LeftOf 𝓤 H (𝓖 .A) (𝓜 .mem) (𝓡 .run)) 𝓜 𝓡 code.env #board·left-of left-of-def.routine code.calls-board·left-of (left-of-thm.met 𝓤 H 𝓜 𝓖 𝓡))
-    (cited 𝓤 H (EnteredOf 𝓤 H (𝓖 .A) (𝓜 .mem) (𝓡 .run)) 𝓜 𝓡 code.env #board·entered-of entered-of-def.routine code.calls-board·entered-of (entered-of-thm.met 𝓤 H 𝓜 𝓖 𝓡))
+    (cited 𝓤 H (LeftOf 𝓤 H (𝓖 .A) (𝓜 .mem) (𝓡 .run)) 𝓜 𝓡 code.env #planning·left-of left-of-def.routine code.calls-planning·left-of (left-of-thm.met 𝓤 H 𝓜 𝓖 𝓡))
+    (cited 𝓤 H (EnteredOf 𝓤 H (𝓖 .A) (𝓜 .mem) (𝓡 .run)) 𝓜 𝓡 code.env #planning·entered-of entered-of-def.routine code.calls-planning·entered-of (entered-of-thm.met 𝓤 H 𝓜 𝓖 𝓡))
     (cited 𝓤 H (FillC 𝓤 H (𝓖 .A) (𝓜 .mem) (𝓡 .run)) 𝓜 𝓡 code.env #rows·fill fill-def.routine code.calls-rows·fill (fill-thm.met 𝓤 H 𝓜 𝓖 𝓡)))

@@ -34,16 +34,16 @@ use denote.Triple.Statement.{Triple}
 use denote.Triple.Table.{entered, cited}
 use denote.Triple.Walked.{says, Stays, stay-none, stay-none-slice, gave-slice, walkOf, goes-none, goes-none-slice, goes-gave-slice, Walks, ends-at, walked, walk-meets}
 use denote.Exit.{yes}
-use Rattle.board.specs.Kind.{callOf}
-use Rattle.board.specs.Plan.{Planned}
-use Rattle.board.specs.declared.change.Change.{Change}
-use Rattle.board.proofs.change.Change as X
-use Rattle.board.proofs.change.Change.Laws as X′
-use Rattle.board.proofs.plan.ChangePlan as Q
-use Rattle.board.proofs.plan.ChangePlan.Laws as Q′
-use Rattle.board.proofs.plan_change.Symbol as plan-def
-use Rattle.board.proofs.plan_change.Symbol.{name as #board·plan-change}
-use Rattle.board.proofs.plan_change.Met as plan-thm
+use Rattle.planning.specs.Kind.{callOf}
+use Rattle.planning.specs.Plan.{Planned}
+use Rattle.planning.specs.declared.change.Change.{Change}
+use Rattle.planning.proofs.change.Change as X
+use Rattle.planning.proofs.change.Change.Laws as X′
+use Rattle.planning.proofs.plan.ChangePlan as Q
+use Rattle.planning.proofs.plan.ChangePlan.Laws as Q′
+use Rattle.planning.proofs.plan_change.Symbol as plan-def
+use Rattle.planning.proofs.plan_change.Symbol.{name as #planning·plan-change}
+use Rattle.planning.proofs.plan_change.Met as plan-thm
 use Rattle.rows.specs.declared.row.Row.{Row}
 use Rattle.rows.proofs.Walk.{envOf, free-all}
 use Rattle.rows.proofs.Lent.{at-rows}
@@ -105,7 +105,7 @@ module _ {M : Type 1} (𝓤 : URA M) (H : Heap 𝓤) (A : Atoms 𝓤) (W : Given
       nothing ! $ move ! (1 ∷ 0 ∷ []) $ fjoin ! $ owned ! X.the-row (Is X.the-row) (LL.makes X.the-type X′.the-plain 𝓤 H A) x _ x-is $ fjoin ! $ move ! (1 ∷ 0 ∷ []) $ fjoin ! $
       owned ! N.the-row (Is N.the-row) (LL.makes N.the-type N′.the-plain 𝓤 H A) r _ is $ move ! (1 ∷ 0 ∷ []) $ done !
 
-  module _ (𝓣 : Tables 𝓤 H) (fm : FmC 𝓤 H (W .laws) (𝓣 .C)) (known-plan : Triple 𝓤 (𝓣 .C #board·plan-change) (PlanOf asked planned Planned 𝓤 H A)) (known-tell : Triple 𝓤 (𝓣 .C #dolzhev·notice·tell) (TellC 𝓤 H A mem run)) (known-answered : Triple 𝓤 (𝓣 .C #dolzhev·answer·answered) (AnswerC 𝓤 H A mem run)) where
+  module _ (𝓣 : Tables 𝓤 H) (fm : FmC 𝓤 H (W .laws) (𝓣 .C)) (known-plan : Triple 𝓤 (𝓣 .C #planning·plan-change) (PlanOf asked planned Planned 𝓤 H A)) (known-tell : Triple 𝓤 (𝓣 .C #dolzhev·notice·tell) (TellC 𝓤 H A mem run)) (known-answered : Triple 𝓤 (𝓣 .C #dolzhev·answer·answered) (AnswerC 𝓤 H A mem run)) where
     walk : Room u8 (length m) → Room T.the-row (length ys) → Is X.the-row x (change ∷ []) → ent 𝓤 (onEntry 𝓤 H A f.signature (κ, (κr, tt)) (q, (qr, tt)) a vals) (WpFn 𝓤 H (𝓣 .C) (𝓣 .Λ) code.function (s ∷ change ∷ sr ∷ []) Post)
     walk room r-room x-is =
         qed W ((‵ (flft κ q) ⊛ (‵ (flft κr qr) ⊛ ‵ ftrue)) ∷ ‵ (owns (ShrSlice (named 0) κ u8 ∷ X.the-row ∷ MutSlice (named 1) κr T.the-row ∷ []) a vals) ∷ []) ∵ enter ! (𝓣 .C) (𝓣 .Λ) code.function (s ∷ change ∷ sr ∷ []) _ $
@@ -137,7 +137,7 @@ module _ {M : Type 1} (𝓤 : URA M) (H : Heap 𝓤) (A : Atoms 𝓤) (W : Given
         move ! (20 ∷ 21 ∷ 18 ∷ 19 ∷ 16 ∷ 17 ∷ 14 ∷ 15 ∷ 12 ∷ 13 ∷ 10 ∷ 11 ∷ 8 ∷ 9 ∷ 6 ∷ 7 ∷ 4 ∷ 5 ∷ []) $ free-all ! (envOf 𝓤 H (code.function .locals) (l₀ ∷ l₁ ∷ l₂ ∷ l₃ ∷ l₄ ∷ l₅ ∷ l₆ ∷ l₇ ∷ l₈ ∷ [])) $
         by ! (exits r w₂ zs (preview-exported ys zs e e₁ e₂) l x-is is₂)))))))))))))
 
-module _ {M : Type 1} (𝓤 : URA M) (H : Heap 𝓤) (A : Atoms 𝓤) (W : Given 𝓤 H A) (mem : Memory → SProp 𝓤) (run : Routine → Fun 𝓤) (𝓣 : Tables 𝓤 H) (known-plan : Triple 𝓤 (𝓣 .C #board·plan-change) (PlanOf asked planned Planned 𝓤 H A)) (known-tell : Triple 𝓤 (𝓣 .C #dolzhev·notice·tell) (TellC 𝓤 H A mem run)) (known-answered : Triple 𝓤 (𝓣 .C #dolzhev·answer·answered) (AnswerC 𝓤 H A mem run)) where
+module _ {M : Type 1} (𝓤 : URA M) (H : Heap 𝓤) (A : Atoms 𝓤) (W : Given 𝓤 H A) (mem : Memory → SProp 𝓤) (run : Routine → Fun 𝓤) (𝓣 : Tables 𝓤 H) (known-plan : Triple 𝓤 (𝓣 .C #planning·plan-change) (PlanOf asked planned Planned 𝓤 H A)) (known-tell : Triple 𝓤 (𝓣 .C #dolzhev·notice·tell) (TellC 𝓤 H A mem run)) (known-answered : Triple 𝓤 (𝓣 .C #dolzhev·answer·answered) (AnswerC 𝓤 H A mem run)) where
   preview-walks : Walks 𝓤 H A f.ended stayed (WpFn 𝓤 H (𝓣 .C) (𝓣 .Λ) code.function) (f.clauses 𝓤 H A mem run)
   preview-walks = walked 𝓤 H A f.ended stayed (f.clauses 𝓤 H A mem run) (WpFn 𝓤 H (𝓣 .C) (𝓣 .Λ) code.function)
       (λ κs. (slice-vals, (LL.vals X.the-type X′.the-laws, (slice-vals, tt)))) (λ κs. (shr-slice-tells (named 0) (κs .0) u8, (LL.tells X.the-type X′.the-laws, (mut-slice-tells (named 1) (κs .1 .0) T.the-row, tt))))
@@ -156,6 +156,6 @@ preview-spec 𝓤 H 𝓜 𝓖 𝓡 =
     entered 𝓤 H (tripleOf 𝓤 H (𝓖 .A) f.signature (f.spec 𝓤 H (𝓖 .A) (𝓜 .mem) (𝓡 .run)))
     (tables 𝓤 H 𝓜 𝓡 code.env .C) (tables 𝓤 H 𝓜 𝓡 code.env .Λ) #dolzhev·preview·preview code.function (code.unfolded 𝓤 H 𝓜 𝓡)
     (preview-meets 𝓤 H (𝓖 .A) (givenOf 𝓤 H 𝓜 𝓖) (𝓜 .mem) (𝓡 .run) (tablesOf 𝓤 H 𝓜 (tables 𝓤 H 𝓜 𝓡 code.env))
-    (cited 𝓤 H (PlanOf asked planned Planned 𝓤 H (𝓖 .A)) 𝓜 𝓡 code.env #board·plan-change plan-def.routine code.calls-board·plan-change (plan-thm.met 𝓤 H 𝓜 𝓖 𝓡))
+    (cited 𝓤 H (PlanOf asked planned Planned 𝓤 H (𝓖 .A)) 𝓜 𝓡 code.env #planning·plan-change plan-def.routine code.calls-planning·plan-change (plan-thm.met 𝓤 H 𝓜 𝓖 𝓡))
     (cited 𝓤 H (TellC 𝓤 H (𝓖 .A) (𝓜 .mem) (𝓡 .run)) 𝓜 𝓡 code.env #dolzhev·notice·tell tell-def.routine code.calls-dolzhev·notice·tell (tell-thm.met 𝓤 H 𝓜 𝓖 𝓡))
     (cited 𝓤 H (AnswerC 𝓤 H (𝓖 .A) (𝓜 .mem) (𝓡 .run)) 𝓜 𝓡 code.env #dolzhev·answer·answered answered-def.routine code.calls-dolzhev·answer·answered (answered-thm.met 𝓤 H 𝓜 𝓖 𝓡)))

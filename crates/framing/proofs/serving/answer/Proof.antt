@@ -1,8 +1,8 @@
 -- `serving::answer` meets its contract. Assumes nothing.
 use borrow.Author.Needs.{needs}
 use mathlib.Core.Path.{refl, ap}
-use Rattle.board.specs.Kind.{changeOf}
-use Rattle.board.specs.declared.change.Kind.the-variants as change
+use Rattle.planning.specs.Kind.{changeOf}
+use Rattle.planning.specs.declared.change.Kind.the-variants as change
 use Rattle.framing.specs.Laws.Serving.{ready-most, answers-line, asked-now, change-frame, serve-as, served-early, served-wrong}
 use Rattle.framing.specs.Reading.{framed, asFrame, calling}
 use Rattle.framing.specs.declared.frame.Kind.{Kind}
