@@ -68,3 +68,8 @@ setHeight i k rs = lib.ListN.set rs i (record { move = moveAt rs i; height = k }
 
 unfoldable pub insertAt : ℕ → Placed → List Placed → List Placed
 insertAt p r rs = take p rs ++ r ∷ drop p rs
+
+-- The rows before the next one that starts an entry of level l.
+unfoldable pub tailOf : ℕ → List Placed → List Placed
+tailOf l [] = []
+tailOf l (r ∷ rs) = cond (leb l (r .height)) [] (r ∷ tailOf l rs)

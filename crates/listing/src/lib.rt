@@ -1,11 +1,11 @@
 // List: the list, read off the marks, and the nodes opened. It is planned without writing.
+use nodes::nodes_opened;
 use promises::Outcome;
 use rows::Plan;
 use rows::plan_found;
 use rows::refused;
 use soundness::Held;
 use soundness::sound_head;
-use tree::nodes_opened;
 use upkeep::find_listed;
 ghost use Rattle.model.specs.Calls.{list};
 ghost use Rattle.rows.specs.Planned.{QueryPlanned};

@@ -10,6 +10,7 @@ pub mod Loading
 pub mod Entering
 pub mod Withdrawing
 pub mod Nodes
+pub mod Runs
 pub mod Notice
 pub mod Calls
 pub mod Changing

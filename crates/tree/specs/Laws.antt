@@ -1,13 +1,9 @@
 -- What the functions' turns and ends say, over lines and memories.
-pub mod Steps
 pub mod Halving
-pub mod Heights
 pub mod Rows
 pub mod Moving
 pub mod Inserting
 pub mod Raising
-pub mod Corners
-pub mod Search
 pub mod Entries
 pub mod Cut
 pub mod Cascade

@@ -1,8 +1,6 @@
 // A move entered into the line.
 use crate::insert::insert_row;
 use crate::insert::place_for;
-use crate::places::node_end;
-use crate::places::node_start;
 use crate::split::cascade;
 use dominance::Move;
 use memory::Head;
@@ -10,6 +8,8 @@ use memory::costs_of;
 use memory::height_at;
 use memory::number_at;
 use memory::set_height;
+use nodes::node_end;
+use nodes::node_start;
 use zorder::side_of;
 ghost use mathlib.Core.Path.{_≡_};
 ghost use Prim.Native.Nat.{_<_};

@@ -2,8 +2,6 @@
 // area are written here.
 mod enter;
 mod insert;
-mod nodes;
-mod places;
 mod raise;
 mod split;
 mod withdraw;
@@ -12,10 +10,6 @@ pub use enter::enter_line;
 pub use enter::with_rows;
 pub use insert::insert_row;
 pub use insert::place_for;
-pub use nodes::Leaf;
-pub use nodes::next_leaf;
-pub use nodes::nodes_opened;
-pub use places::node_end;
 pub use raise::raise_levels;
 pub use withdraw::place_of;
 pub use withdraw::withdraw_line;

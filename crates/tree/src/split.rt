@@ -1,12 +1,12 @@
 // Nodes of nine cut in two, from the leaf up.
-use crate::places::entries;
-use crate::places::entry_at;
-use crate::places::node_end;
-use crate::places::node_start;
-use crate::places::side_between;
 use memory::Head;
 use memory::height_at;
 use memory::set_height;
+use nodes::entries;
+use nodes::entry_at;
+use nodes::node_end;
+use nodes::node_start;
+use nodes::side_between;
 ghost use Prim.Native.Nat.{_<_};
 ghost use Rattle.tree.specs.Split as split;
 

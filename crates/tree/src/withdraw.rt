@@ -1,9 +1,6 @@
 // A move taken out of the line; the moves under removed nodes are entered again.
 use crate::enter::enter_line;
 use crate::enter::with_rows;
-use crate::places::entries;
-use crate::places::node_end;
-use crate::places::node_start;
 use dominance::Move;
 use memory::Head;
 use memory::costs_of;
@@ -13,6 +10,9 @@ use memory::set_height;
 use memory::set_number;
 use memory::set_work;
 use memory::work_at;
+use nodes::entries;
+use nodes::node_end;
+use nodes::node_start;
 ghost use Prim.Native.Nat.{_+_, _-_};
 ghost use Rattle.tree.specs.Rows.{NumbersMoved, HeightsMoved};
 ghost use Rattle.tree.specs.Withdraw as withdraw;

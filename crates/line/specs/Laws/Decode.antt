@@ -12,12 +12,8 @@ use Rattle.model.specs.Moves.{Move}
 use Rattle.model.specs.Tree.{Entry, Tree, empty, rooted, movesUnder, firstMove, filledTree}
 use Rattle.model.specs.Laws.Bool.{testCases}
 use Rattle.line.specs.Line.{Placed, lineAt, lineOf}
+use Rattle.line.specs.Places.{tailOf}
 use Rattle.line.specs.Laws.Line.{row, Low, Whole, WholeTree, tree-whole, restAt, rest-low, first-cons, line-cons}
-
--- The rows before the next one that starts an entry of level l.
-unfoldable pub tailOf : ℕ → List Placed → List Placed
-tailOf l [] = []
-tailOf l (r ∷ rs) = cond (leb l (r .height)) [] (r ∷ tailOf l rs)
 
 -- For each row that starts an entry of level l, what the row and its tail give.
 unfoldable pub starts : {A : Type 0} → (Placed → List Placed → A) → ℕ → List Placed → List A

@@ -16,7 +16,8 @@ use Rattle.model.specs.Laws.Basics.{each-mono}
 use Rattle.line.specs.Line.{Placed, lineOf, heightsIn}
 use Rattle.line.specs.Heights.{firstHighest, countsFrom, countsAt, rootCount, levelsRight, heightsRight}
 use Rattle.line.specs.Laws.Line.{row, Low, tree-whole, tree-depth, restAt, rest-low, line-cons}
-use Rattle.line.specs.Laws.Decode.{tailOf, starts, entryOf, rootOf, treeOf, entry-line, line-rooted}
+use Rattle.line.specs.Places.{tailOf}
+use Rattle.line.specs.Laws.Decode.{starts, entryOf, rootOf, treeOf, entry-line, line-rooted}
 
 -- ---- a test of every entry of a level
 

@@ -14,7 +14,8 @@ use Rattle.model.specs.Laws.Bool.{testCases}
 use Rattle.line.specs.Line.{Placed, lineAt, lineOf, movesIn}
 use Rattle.line.specs.Search.{nodeAt, nodesAt, nodesIn, nodesLeft}
 use Rattle.line.specs.Laws.Line.{row, Whole, WholeTree, restAt, rest-low, line-cons, line-moves}
-use Rattle.line.specs.Laws.Decode.{tailOf, tail-append}
+use Rattle.line.specs.Places.{tailOf}
+use Rattle.line.specs.Laws.Decode.{tail-append}
 
 -- ---- rows that end every node of a level
 

@@ -9,7 +9,7 @@ use Rattle.model.specs.Opening.{queryOpens}
 use Rattle.promises.specs.Layout.{dimensionIn, boardIn, keptFrom}
 use Rattle.memory.specs.Held.{SoundAt}
 use Rattle.memory.specs.Laws.Held.{held-kept}
-use Rattle.tree.specs.Search.{Opened}
+use Rattle.nodes.specs.Search.{Opened}
 use Rattle.memory.specs.declared.head.Head.{Head}
 use Rattle.memory.specs.Tests.{isMarked}
 use Rattle.upkeep.specs.Found.{Finds, foundMoves}

@@ -13,6 +13,7 @@ use Rattle.model.specs.Dominance.{dominates, hides}
 use Rattle.model.specs.Lists.{hidden, skyline}
 use Rattle.model.specs.Tree.{Entry, Tree, empty, rooted, movesUnder, movesOf}
 use Rattle.model.specs.Nodes.{Node, nodeOf, nodesFrom, nodesOf, nearCornerOf, farCornerOf, opens}
+use Rattle.model.specs.Runs.{RunOf, NodeIn}
 use Rattle.model.specs.Sound.{Fit}
 use Rattle.model.specs.Laws.Bool.{byCases, not-flip, or-false-left, same-test, both-ways}
 use Rattle.model.specs.Laws.Basics.{each-mem, each-mono, each-append, each-left, each-right, last-mem, any-mem, any-witness, mem-pos}
@@ -24,12 +25,6 @@ use Rattle.model.specs.Laws.Skyline.{skyline-mem, mem-skyline, skyline-h
 use Rattle.model.specs.Laws.Tree.{Filled, filled-full, filled-some}
 
 -- ---- runs of a list
-
--- Entries that stand in a list one after another.
-pub record RunOf {A : Type 0} (run whole : List A) : Type 0 where
-  pub front : List A
-  pub back : List A
-  pub joined : whole ≡ front ++ (run ++ back)
 
 module _ {A : Type 0} where
   pub run-self : (xs : List A) → RunOf xs xs
@@ -64,11 +59,6 @@ module _ {A B : Type 0} (f : A → List B) where
       each-append P (f x) (flatMap f xs) (g x (List·Memᴰ·head refl)) (each-flatMap P xs (λ y m. g y (List·Memᴰ·tail m)))
 
 -- ---- the nodes of a tree
-
--- A node made of a run of the moves.
-pub record NodeIn (ms : List Move) (n : Node) : Type 0 where
-  pub made : nodeOf (n .under) ≡ n
-  pub run : RunOf (n .under) ms
 
 node-self : (ms : List Move) → NodeIn ms (nodeOf ms)
 unfolding nodeOf

@@ -30,7 +30,8 @@ use Rattle.model.specs.Laws.Skyline.{HiderIn, skyline-mem, mem-skyline, 
 use Rattle.model.specs.Laws.Changes.{without-number, mem-without}
 use Rattle.model.specs.Laws.Notice.{notice-entered}
 use Rattle.model.specs.Laws.Tree.{Filled}
-use Rattle.model.specs.Laws.Nodes.{RunOf, NodeIn, nodes-in, Some, nodes-some, child-run, near-run, far-run, corner-row, unhidden-opened, tree-near, tree-far}
+use Rattle.model.specs.Runs.{RunOf, NodeIn}
+use Rattle.model.specs.Laws.Nodes.{nodes-in, Some, nodes-some, child-run, near-run, far-run, corner-row, unhidden-opened, tree-near, tree-far}
 
 -- What fails for the node of some moves fails for that of each run of them, so for all nodes below.
 abbrev pub Downward : ℕ → ℕ → (Node → Bool) → Type 0

@@ -20,8 +20,8 @@ use Rattle.memory.specs.Frame.{RowsOnly}
 use Rattle.memory.specs.Laws.Frames.{frame-refl, frame-trans, room-over}
 use Rattle.memory.specs.Laws.Stored.{setHeight-rows, number-setHeight, height-setHeight, height-setHeight-other}
 use Rattle.memory.specs.Laws.Lines.{heightAt-line, line-setHeight}
-use Rattle.tree.specs.Rows.{NodeStart, NodeEnd, Entries}
-use Rattle.tree.specs.Laws.Heights.{end-line, start-line, entries-line}
+use Rattle.nodes.specs.Places.{NodeStart, NodeEnd, Entries}
+use Rattle.nodes.specs.Laws.Heights.{end-line, start-line, entries-line}
 use Rattle.tree.specs.Split.{NodeOfNine, CutPlace, Cut, CascadeAsked, Cascaded}
 
 -- ---- the cut made

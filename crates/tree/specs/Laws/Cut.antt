@@ -14,9 +14,9 @@ use Rattle.line.specs.Enter.{cutSides, cutEntry}
 use Rattle.promises.specs.Layout.{heightsFrom, lineFrom}
 use Rattle.memory.specs.Laws.Lines.{length-heightsFrom, getD-heightsFrom, heightsIn-line}
 use Rattle.memory.specs.Laws.Held.{fewer-readable}
-use Rattle.tree.specs.Rows.{EntryAsked}
+use Rattle.nodes.specs.Places.{EntryAsked}
 use Rattle.tree.specs.Split.{CutAsked, CutSides, NodeOfNine, CutPlace}
-use Rattle.tree.specs.Laws.Steps.{entry-turn}
+use Rattle.nodes.specs.Laws.Steps.{entry-turn}
 use Rattle.tree.specs.Laws.Entries.{entry-before, entry-after}
 
 -- ---- the lesser sum, turn by turn

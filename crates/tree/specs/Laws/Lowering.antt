@@ -16,8 +16,8 @@ use Rattle.memory.specs.Frame.{RowsOnly}
 use Rattle.memory.specs.Laws.Frames.{frame-refl, frame-trans}
 use Rattle.memory.specs.Laws.Stored.{setHeight-rows, height-setHeight}
 use Rattle.memory.specs.Laws.Lines.{length-line, heightAt-line, line-setHeight}
-use Rattle.tree.specs.Rows.{Entries}
-use Rattle.tree.specs.Laws.Heights.{entries-line}
+use Rattle.nodes.specs.Places.{Entries}
+use Rattle.nodes.specs.Laws.Heights.{entries-line}
 use Rattle.tree.specs.Withdraw.{Lowered}
 
 -- ---- one turn on the line

@@ -25,10 +25,11 @@ use Rattle.memory.specs.Laws.Frames.{frame-refl, frame-trans}
 use Rattle.memory.specs.Laws.Fields.{costs-over-rows}
 use Rattle.memory.specs.Laws.Stored.{setHeight-rows}
 use Rattle.memory.specs.Laws.Lines.{numbers-each, each-numbers, length-line, heightAt-line, line-setHeight}
-use Rattle.tree.specs.Rows.{row, Inserted, NodeStart, NodeEnd}
+use Rattle.tree.specs.Rows.{row, Inserted}
+use Rattle.nodes.specs.Places.{NodeStart, NodeEnd}
 use Rattle.tree.specs.Enter.{PlaceAsked, TakesOver, PutAsked, RowPut}
-use Rattle.tree.specs.Laws.Rows.{costs-line}
-use Rattle.tree.specs.Laws.Heights.{end-line, start-line}
+use Rattle.nodes.specs.Laws.Heights.{costs-line}
+use Rattle.nodes.specs.Laws.Heights.{end-line, start-line}
 
 -- ---- whether it takes over
 

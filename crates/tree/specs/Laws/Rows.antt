@@ -53,8 +53,3 @@ module _ (c d : ℕ) {m m' : List ℕ} (f : RowsOnly c m m') where
   row-placed i v k number height =
       ap₂ (λ (n h : ℕ). record { move = record { number = n; costs = costsIn c d m' n }; height = h }) number height
       ∙ ap (λ (cs : List ℕ). record { move = record { number = v; costs = cs }; height = k }) (costs-over-rows c f d v)
-
--- The costs read by a number are those of the line at its place.
-pub costs-line : (c d n : ℕ) (m : List ℕ) (i v : ℕ) → i < n → v ≡ numberIn c m i → costsIn c d m v ≡ moveAt (lineFrom c d n m) i .costs
-unfolding moveIn
-costs-line c d n m i v h number = ap (costsIn c d m) number ∙ ap (λ (x : Move). x .costs) (sym (moveAt-line c d n m i h))

@@ -11,7 +11,7 @@ use Rattle.line.specs.Withdraw.{Range, widenedAmong}
 use Rattle.line.specs.Laws.Widened.{stops-at-root, stops, grows}
 use Rattle.promises.specs.Layout.{heightIn, heightsFrom}
 use Rattle.memory.specs.Laws.Lines.{getD-heightsFrom}
-use Rattle.tree.specs.Rows.{NodeStart, NodeEnd, Entries}
+use Rattle.nodes.specs.Places.{NodeStart, NodeEnd, Entries}
 
 -- ---- the range
 

@@ -23,7 +23,8 @@ use Rattle.model.specs.Laws.Dominance.{row-lengths}
 use Rattle.model.specs.Laws.Order.{distinct-select, costs-on-own}
 use Rattle.model.specs.Laws.Skyline.{skyline-mem, mem-skyline}
 use Rattle.model.specs.Laws.Changes.{mem-without}
-use Rattle.model.specs.Laws.Nodes.{NodeIn, node-near, node-far}
+use Rattle.model.specs.Runs.{NodeIn}
+use Rattle.model.specs.Laws.Nodes.{node-near, node-far}
 use Rattle.model.specs.Laws.Opening.{dominates-or-equals, far-corner-row, brought-up-counts}
 use Rattle.line.specs.Line.{movesIn}
 use Rattle.line.specs.Search.{openedPast}
@@ -35,9 +36,9 @@ use Rattle.memory.specs.Tests.{anyTo, isListed}
 use Rattle.memory.specs.Laws.Places.{anyTo-ext}
 use Rattle.memory.specs.Laws.Lines.{moveAt-line}
 use Rattle.memory.specs.Laws.Held.{held-dimension, held-moves, held-order, held-any, held-listed, held-fit, held-fit-at, held-distinct}
-use Rattle.tree.specs.Search.{cornerDominated, goesWithin, opensAt, Passed, LeafRows}
-use Rattle.tree.specs.Laws.Search.{Counting, counting-all, opened-nodes}
-use Rattle.tree.specs.declared.nodes.Leaf.{Leaf}
+use Rattle.nodes.specs.Search.{cornerDominated, goesWithin, opensAt, Passed, LeafRows}
+use Rattle.nodes.specs.Laws.Search.{Counting, counting-all, opened-nodes}
+use Rattle.nodes.specs.declared.nodes.Leaf.{Leaf}
 use Rattle.upkeep.specs.Change.{goesListed, hiddenByOthers, hiddenByComing, comesUp, entersAt, Passing, Entering}
 use Rattle.upkeep.specs.Laws.Places.{place-below, below-place, anyTo-places}
 use Rattle.upkeep.specs.Laws.Change.{line-places, others-hide, same-place, rest-without, goes-on-board, goes-marked, goes-unmarked, enters-none}

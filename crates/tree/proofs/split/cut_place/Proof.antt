@@ -5,8 +5,8 @@ use mathlib.Core.Logic.{⊎-elim}
 use native.Mathlib.Omega.{arith}
 use Rattle.line.specs.Line.{heightsIn}
 use Rattle.promises.specs.Layout.{lineFrom}
-use Rattle.tree.specs.Laws.Steps.{entry-turn}
-use Rattle.tree.specs.Laws.Heights.{end-line, entry-line}
+use Rattle.nodes.specs.Laws.Steps.{entry-turn}
+use Rattle.nodes.specs.Laws.Heights.{end-line, entry-line}
 use Rattle.tree.specs.Laws.Cut.{Tried, nine-entry, nine-cut, tried-first, tried-less, tried-more, tried-all}
 use Rattle.tree.proofs.split.cut_place.Statement.{statement}
 use Rattle.tree.proofs.split.cut_place.Tie as tie

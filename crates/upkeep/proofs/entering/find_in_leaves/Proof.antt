@@ -2,7 +2,7 @@
 -- nodes opened so far and those still to be opened are all. Assumes nothing.
 use Prim.Native.Nat.{_-_}
 use native.Mathlib.Omega.{arith}
-use Rattle.tree.specs.Laws.Search.{Counting, sound-searchable, counting-none, counting-few, counting-leaf}
+use Rattle.nodes.specs.Laws.Search.{Counting, sound-searchable, counting-none, counting-few, counting-leaf}
 use Rattle.promises.specs.Run.{Bytes}
 use Rattle.memory.specs.Laws.Held.{held-readable}
 use Rattle.upkeep.specs.Change.{entersAt, Passing}
