@@ -1,6 +1,6 @@
 -- What the steps of each change leave, and the call's promise from plan, rows and steps.
 pub mod Rows
-pub mod Kept
+pub mod Made
 pub mod Marks
 pub mod Steps
 pub mod Enter

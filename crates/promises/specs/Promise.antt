@@ -13,7 +13,7 @@ use Rattle.model.specs.Calls.{Board, loadAnswer, loaded, refusedWith, Query, qu
 use Rattle.model.specs.Changing.{changeTree}
 use Rattle.model.specs.Opening.{queryOpens, changeOpens}
 use Rattle.promises.specs.Layout.{sizeIn, dimensionIn, boardIn}
-use Rattle.promises.specs.Written.{blockWrites, changeWrites, loadWrites}
+use Rattle.promises.specs.Written.{Only, blockWrites, changeWrites, loadWrites}
 use Rattle.promises.specs.Sound.{Sound, Holding}
 use Rattle.promises.specs.Answers.{answerOf, numberOf, counted, rowsAfter}
 use Rattle.promises.specs.declared.Verdict.{Verdict}
@@ -22,13 +22,12 @@ use Rattle.promises.specs.declared.Answer.{Answer}
 -- The memory after a call that answered with this number: refused, "every byte as before"; accepted, sound with this board and
 -- this tree, as long as before, and every byte as before that the call does not write. ("Memory past the first 64·C + 1,024
 -- bytes is never written": Laws/Written.)
-pub record Kept (writes : ℕ → Bool) (m m' : List ℕ) (b : Board) (t : Tree) : Type 0 where
+pub record Leaves (writes : ℕ → Bool) (m m' : List ℕ) (b : Board) (t : Tree) : Type 0 where
   pub holding : Holding m' b t
-  pub length : length m' ≡ length m
-  pub others : (i : ℕ) → writes i ≡ false → getD m' i 0 ≡ getD m i 0
+  pub only : Only writes m m'
 
 unfoldable pub MemoryAfter : (ℕ → Bool) → ℕ → List ℕ → List ℕ → Board → Tree → Type 0
-MemoryAfter writes zero m m' b t = Kept writes m m' b t
+MemoryAfter writes zero m m' b t = Leaves writes m m' b t
 MemoryAfter writes (suc k) m m' b t = m' ≡ m
 
 -- Load.

@@ -33,7 +33,7 @@ use Rattle.upkeep.specs.Laws.Places.{anyTo-places}
 use Rattle.upkeep.specs.Laws.Change.{rest-places}
 use Rattle.upkeep.specs.declared.exchange.Exchange.{Exchange}
 use Rattle.upkeep.specs.declared.exchange.Upkeep.{Upkeep}
-use Rattle.board.specs.Laws.Kept.{MarksRight}
+use Rattle.board.specs.Laws.Made.{MarksRight}
 
 -- ---- the moves left
 

@@ -46,7 +46,7 @@ use Rattle.upkeep.specs.declared.exchange.Upkeep.{Upkeep}
 use Rattle.planning.specs.Change.{ToRecost, Moved, RecostMade}
 use Rattle.planning.specs.Laws.Places.{costs-board}
 use Rattle.board.specs.Laws.Rows.{holds-sound, holds-moves, holds-over-marks, holds-counted}
-use Rattle.board.specs.Laws.Kept.{MarksRight, made}
+use Rattle.board.specs.Laws.Made.{MarksRight, made}
 use Rattle.board.specs.Laws.Marks.{marks-come}
 use Rattle.board.specs.Laws.Steps.{listed-frame, stored-frame, stored-holds, stored-asked, gone-written, gone-mark, gone-holds, gone-moves}
 

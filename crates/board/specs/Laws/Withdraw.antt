@@ -17,7 +17,7 @@ use Rattle.upkeep.specs.Laws.Change.{rest-without}
 use Rattle.upkeep.specs.declared.exchange.Upkeep.{Upkeep}
 use Rattle.planning.specs.Change.{ToWithdraw, WithdrawMade}
 use Rattle.board.specs.Laws.Rows.{holds-sound, holds-over-marks, holds-counted}
-use Rattle.board.specs.Laws.Kept.{MarksRight, made}
+use Rattle.board.specs.Laws.Made.{MarksRight, made}
 use Rattle.board.specs.Laws.Marks.{marks-gone}
 use Rattle.board.specs.Laws.Steps.{gone-written, gone-mark, gone-holds, gone-moves}
 

@@ -9,11 +9,11 @@ use native.Mathlib.Omega.{arith}
 use lib.ListN.{length, getD, set}
 use Rattle.model.specs.Laws.Bool.{both-ways, or-left, or-right, or-false-left, or-false-right}
 use Rattle.promises.specs.Layout.{wordAt, setWord, blockPlace, formatNumber, sizeIn, dimensionIn, formatIn, blockIn}
-use Rattle.promises.specs.Written.{inArea, movesWrite, loadWrites}
+use Rattle.promises.specs.Written.{inArea, movesWrite, loadWrites, Only}
 use Rattle.promises.specs.Laws.Written.{in-area, writes-count, writes-rows, writes-costs, leaves-head, leaves-blocks}
 use Rattle.memory.specs.Room.{Room}
 use Rattle.memory.specs.Stores.{setHead, setCount}
-use Rattle.memory.specs.Frame.{DifferWithin, Only, MovesOnly, RowsOnly, MarksOnly, BlocksOnly, CostsOnly, WorkOnly}
+use Rattle.memory.specs.Frame.{DifferWithin, MovesOnly, RowsOnly, MarksOnly, BlocksOnly, CostsOnly, WorkOnly}
 use Rattle.memory.specs.Laws.Frames.{byte-frame, word-frame}
 
 -- ---- frames over a test

@@ -7,7 +7,7 @@ use mathlib.Core.Path.{_≡_, refl, sym, ap, ap₂, _∙_, subst}
 use native.Mathlib.Nat.{zero-lt-suc, not-suc-le-zero, le-of-suc-le-suc}
 use native.Mathlib.Omega.{arith}
 use lib.Dec.{eqb}
-use lib.ListN.{length, getD, set, take, length-append, length-map}
+use lib.ListN.{length, getD, set, take, drop, length-append, length-map}
 use borrow.Author.Tests.{eqb-true, eq-eqb}
 use Rattle.model.specs.Basics.{Each, consIf, select, any, all, count, lastOr, equal}
 use Rattle.model.specs.Laws.Bool.{and-left, and-right, and-both, or-cases, or-left, or-right, or-false-left, or-false-right, or-false-both, same-test, both-ways}
@@ -322,3 +322,10 @@ equal-true (p ∷ ps) (q ∷ qs) h =
 pub at-most-one : (b : Bool) → cond b 1 0 ≤ 1
 at-most-one true = omega arith
 at-most-one false = omega arith
+
+-- ---- lists mapped
+
+pub map-drop : {A B : Type 0} (f : A → B) (k : ℕ) (xs : List A) → map f (drop k xs) ≡ drop k (map f xs)
+map-drop f zero xs = refl
+map-drop f (suc k) [] = refl
+map-drop f (suc k) (x ∷ xs) = map-drop f k xs

@@ -19,7 +19,7 @@ use Rattle.model.specs.Laws.Changes.{changeNumber, change-number, accepted-pass
 use Rattle.promises.specs.Layout.{countPlace, numberPlace, blockPlace, workPlace, sizeIn, dimensionIn, boardIn}
 use Rattle.promises.specs.Sound.{Sound}
 use Rattle.promises.specs.Written.{inArea, movesWrite, blockWrites, changeWrites, loadWrites}
-use Rattle.promises.specs.Promise.{Kept, MemoryAfter, LoadPromise, ChangePromise}
+use Rattle.promises.specs.Promise.{Leaves, MemoryAfter, LoadPromise, ChangePromise}
 use Rattle.promises.specs.Answers.{answerOf, numberOf}
 use Rattle.promises.specs.declared.Verdict.{Verdict}
 use Rattle.promises.specs.declared.Answer.{Answer}
@@ -113,12 +113,12 @@ module _ (c i : ℕ) where
 -- ---- "Memory past the first 64·C + 1,024 bytes is never written."
 
 module _ (c : ℕ) (writes : ℕ → Bool) (m m' : List ℕ) (b : Board) (t : Tree) where
-  past-kept : ((i : ℕ) → 16 + 23 * c ≤ i → writes i ≡ false) → Kept writes m m' b t → drop (memoryNeed c) m' ≡ drop (memoryNeed c) m
+  past-kept : ((i : ℕ) → 16 + 23 * c ≤ i → writes i ≡ false) → Leaves writes m m' b t → drop (memoryNeed c) m' ≡ drop (memoryNeed c) m
   unfolding memoryNeed
   past-kept ends k =
       ext-getD 0 (drop need m') (drop need m)
-      (length-drop need m' ∙ ap (λ (n : ℕ). n - need) (k .length) ∙ sym (length-drop need m))
-      (λ i _. getD-drop need m' i 0 ∙ k .others (need + i) (ends (need + i) (omega arith)) ∙ sym (getD-drop need m i 0))
+      (length-drop need m' ∙ ap (λ (n : ℕ). n - need) (k .only .length) ∙ sym (length-drop need m))
+      (λ i _. getD-drop need m' i 0 ∙ k .only .same (need + i) (ends (need + i) (omega arith)) ∙ sym (getD-drop need m i 0))
     where
       need : ℕ
       need = 64 * c + 1024

@@ -16,8 +16,7 @@ use Rattle.memory.specs.Laws.Fields.{number-over-marks}
 use Rattle.memory.specs.Laws.Stored.{setListed-marks, listed-setListed, mark-setListed-other}
 use Rattle.memory.specs.Laws.Turns.{listed-at}
 use Rattle.numbers.specs.Set.{inSet}
-use Rattle.upkeep.specs.Mark.{Once}
-use Rattle.upkeep.specs.Mark.{listedThen, SetMark, SetMarks}
+use Rattle.upkeep.specs.Mark.{Once, listedThen, SetMark, SetMarks}
 
 -- ---- one mark
 
