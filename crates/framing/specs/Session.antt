@@ -8,9 +8,10 @@ use Rattle.model.specs.Nodes.{nodesOpened}
 use Rattle.model.specs.Changing.{changeTree}
 use Rattle.model.specs.Calls as calls
 use Rattle.model.specs.Calls.{memoryNeed, loadAnswer, changeAnswer, changeNotice, changed, queryAnswer, queryRows}
-use Rattle.framing.specs.State.{State, unloaded, holds, dimensionOf}
-use Rattle.framing.specs.Frames.{Frame, load, change, list, early, wrong, frameOf}
-use Rattle.framing.specs.Text.{Reply, refused, notice, listed, answerText, lineEnd}
+use Rattle.lines.specs.State.{State, unloaded, holds, dimensionOf}
+use Rattle.lines.specs.Frames.{Frame, load, change, list, early, wrong, frameOf}
+use Rattle.lines.specs.Text.{Reply, refused, notice, listed, answerText}
+use Rattle.lines.specs.Lines.{linesFrom}
 
 abbrev pub boardSize : ℕ
 boardSize = 256
@@ -60,12 +61,6 @@ after s line = held (frameOf s line) s
 unfoldable pub answersTo : State → List (List ℕ) → List ℕ
 answersTo s [] = []
 answersTo s (l ∷ ls) = answerTo s l ++ answersTo (after s l) ls
-
--- The lines of an input, where `line` was read of the first: "A last line needs no line end; empty input prints nothing."
-unfoldable pub linesFrom : List ℕ → List ℕ → List (List ℕ)
-linesFrom [] [] = []
-linesFrom (b ∷ line) [] = (b ∷ line) ∷ []
-linesFrom line (b ∷ bs) = cond (eqb b lineEnd) (line ∷ linesFrom [] bs) (linesFrom (line ++ b ∷ []) bs)
 
 -- What is printed of an input, where s is held and `line` was read of its first line.
 unfoldable pub printed : State → List ℕ → List ℕ → List ℕ
