@@ -13,9 +13,11 @@ use Rattle.lines.specs.Frames.{Frame, load, change, list, early, wrong, frameOf
 use Rattle.lines.specs.Text.{Reply, refused, notice, listed, answerText}
 use Rattle.lines.specs.Lines.{linesFrom}
 
+-- C.
 abbrev pub boardSize : ℕ
 boardSize = 256
 
+-- C + 1: a notice never has more.
 abbrev pub lentRows : ℕ
 lentRows = 257
 

@@ -18,7 +18,7 @@ pub struct Fed {
     pub answered: usize,
 }
 
-// The point before the first byte.
+// Gives the point before the first byte.
 pub fn start() -> Point
     ensures { λ r. ⌜ AtStart r ⌝ }
 {

@@ -21,6 +21,6 @@ pub const BYTES: usize = 64 * SIZE + 1024;
 // The rows lent to each call: a notice never has more.
 const ROWS: usize = SIZE + 1;
 
-// The longest answer is a list's: ten digits before the rows, for each row no more digits than the
-// longest frame has, and a line end.
+// Room for the longest answer: ten digits before the rows, for each row as many as the longest
+// frame has, and a line end.
 pub const TEXT: usize = ROWS * DIGITS + 11;

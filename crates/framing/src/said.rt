@@ -1,5 +1,5 @@
-// What a call says, as the bytes of an answer line put at the start of a lent buffer; each gives how
-// many they are.
+// What a call says, as an answer line put at the start of a lent buffer; each function gives how
+// many bytes it put.
 use crate::told::put_told;
 use board::ChangePlan;
 use board::entered_of;

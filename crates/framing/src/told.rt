@@ -1,4 +1,5 @@
-// Rows as digits, put into a lent buffer at a place; each gives the place past what it put.
+// Rows as digits, put into a lent buffer at a place; each function gives the place past what it
+// put.
 use lines::put_byte;
 use lines::put_word;
 use rows::ROW;

@@ -6,7 +6,7 @@ ghost use Rattle.lines.specs.Digits.{isDigit, valueOf, digitOf};
 // A letter less what it counts: 'A' counts ten.
 const LETTER: u8 = b'A' - 10;
 
-// Whether a byte is a digit.
+// Says whether a byte is a digit.
 pub fn is_digit(b: u8) -> bool
     ensures { λ r. ⌜ r ≡ isDigit b ⌝ }
 {
@@ -22,7 +22,7 @@ pub fn is_digit(b: u8) -> bool
     b <= b'F'
 }
 
-// What a digit counts; 0 for any other byte.
+// Gives what a digit counts; 0 for any other byte.
 pub fn value(b: u8) -> u8
     ensures { λ r. ⌜ (r ≡ valueOf b) × (r < 16) ⌝ }
 {
@@ -41,7 +41,7 @@ pub fn value(b: u8) -> u8
     0
 }
 
-// The digit that counts n.
+// Gives the digit that counts n.
 pub fn digit(n: u16) -> u8
     requires { ⌜ n < 16 ⌝ }
     ensures { λ r. ⌜ r ≡ digitOf n ⌝ }

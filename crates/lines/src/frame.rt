@@ -73,8 +73,8 @@ fn sized(count: usize, n: usize, kind: Kind) -> Kind
     if count == n { kind } else { Kind::Wrong }
 }
 
-// The kind of a frame for a board of d costs: two digits of its first byte, four of a number, four
-// of each cost.
+// The kind of a frame for a board of d costs, which has two digits of its first byte, four of a
+// number and four of each cost.
 fn kind_on(d: usize, code: u8, count: usize) -> Kind
     requires { ⌜ d ≤ rowCosts ⌝ }
     ensures { λ r. ⌜ r ≡ spec.kindOn d code count ⌝ }
@@ -120,7 +120,7 @@ fn line_kind(d: usize, line: Line) -> Kind
     Kind::Wrong
 }
 
-// The frame of a line on a board of d costs; d is 0 before the first accepted load.
+// Gives the frame of a line on a board of d costs; d is 0 before the first accepted load.
 pub fn frame_of(d: usize, line: Line) -> Frame
     requires { ⌜ d ≤ rowCosts ⌝ }
     ensures { λ r. ⌜ spec.Framed d line r ⌝ }

@@ -7,7 +7,8 @@ ghost use mathlib.Core.Path.{_≡_};
 ghost use Prim.Native.Nat.{_+_, min};
 ghost use Rattle.lines.specs.Reading as spec;
 
-// The digits of the longest frame: two of its first byte, four of a number, four of each cost.
+// How many digits the longest frame has: two of its first byte, four of a number and four of each
+// cost.
 pub const DIGITS: usize = 6 + 4 * COSTS;
 
 pub struct Line {
@@ -47,7 +48,7 @@ fn counted(n: usize) -> usize
 }
 
 impl Line {
-    // A line of which no byte was read.
+    // Starts a line: no byte of it was read.
     pub fn new() -> Self
         ensures { λ r. ⌜ spec.Judged [] r ⌝ }
     {
@@ -59,7 +60,7 @@ impl Line {
         }
     }
 
-    // The line with one byte more.
+    // Adds a byte.
     fn step(self, b: u8) -> Self
         ensures { λ r. ⌜ spec.Stepped self b r ⌝ }
     {
@@ -73,7 +74,7 @@ impl Line {
         }
     }
 
-    // Whether a byte of the line was read: it is a line then even if the input ends here.
+    // Says whether a byte of the line was read: it is a line then even if the input ends here.
     pub fn is_begun(self) -> bool
         ensures { λ r. ⌜ spec.LastLine self r ⌝ }
     {

@@ -1,5 +1,5 @@
-// Numbers and refusals as digits, highest first, put into a lent buffer at a place; each gives the
-// place past what it put.
+// Numbers and refusals as digits, highest first, put into a lent buffer at a place; each function
+// gives the place past what it put.
 use crate::digits::digit;
 ghost use mathlib.Core.Path.{_≡_};
 ghost use Prim.Native.Nat.{_+_, _%_, _≤_};
