@@ -152,10 +152,13 @@ fn faults_of(function: &Function, body: &[Word]) -> Vec<String> {
     faults
 }
 
-/// A name that a crate calls is its own, or comes from `dominance`.
+/// A name that a crate calls is its own, or comes from the crate that the table has it of.
 fn is_known(words: &[Word], callee: &str) -> bool {
-    let import = ["use", "dominance", "::", callee, ";"];
-    let imported = words.windows(import.len()).any(|w| w.iter().map(|w| w.text).eq(import));
+    let imports = |krate: &str| {
+        let import = ["use", krate, "::", callee, ";"];
+        words.windows(import.len()).any(|w| w.iter().map(|w| w.text).eq(import))
+    };
+    let imported = FUNCTIONS.iter().any(|f| f.name == callee && imports(f.krate));
     (bodies(words, callee).len() == 1) != imported
 }
 
