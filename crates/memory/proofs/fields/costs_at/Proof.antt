@@ -1,10 +1,10 @@
--- `kept::costs_at` meets its contract. Assumes nothing.
+-- `fields::costs_at` meets its contract. Assumes nothing.
 use mathlib.Core.Path.{ap, _∙_}
 use native.Mathlib.Omega.{arith}
 use borrow.Author.Needs.{needs}
 use Rattle.promises.specs.Layout.{costsIn, moveIn}
-use Rattle.query.proofs.kept.costs_at.Statement.{statement}
-use Rattle.query.proofs.kept.costs_at.Tie as tie
+use Rattle.memory.proofs.fields.costs_at.Statement.{statement}
+use Rattle.memory.proofs.fields.costs_at.Tie as tie
 
 costs-of-requires : tie.Need-costs-of-requires
 costs-of-requires c κs =
