@@ -1,12 +1,12 @@
--- `band::stays_at` meets its contract. Assumes nothing.
+-- `band::in_band` meets its contract. Assumes nothing.
 use mathlib.Core.Path.{sym, _∙_}
 use native.Mathlib.Omega.{arith}
 use Rattle.promises.specs.Run.{Bytes}
 use Rattle.memory.specs.Laws.Held.{held-readable}
 use Rattle.memory.specs.Laws.Turns.{listed-at}
-use Rattle.query.specs.Laws.Band.{band-stays, listed-stays}
-use Rattle.query.proofs.band.stays_at.Statement.{statement}
-use Rattle.query.proofs.band.stays_at.Tie as tie
+use Rattle.query.specs.Laws.Band.{band-before, band-listed}
+use Rattle.query.proofs.band.in_band.Statement.{statement}
+use Rattle.query.proofs.band.in_band.Tie as tie
 
 number-at-requires : tie.Need-number-at-requires
 number-at-requires c κs = let r = held-readable (c .before .pre .0 .0) in (r .room, omega (arith, r .rows))
@@ -25,7 +25,7 @@ returns c =
     let number = c .before .before .number-at in
     let bytes : Bytes (a .m .now) = λ i. omega (arith, c .before .before .before .shared-slice-known .given i) in
     sym
-    (listed-stays (s .pre .0 .0) bytes (a .i) (s .pre .0 .1) (a .most)
+    (band-listed (s .pre .0 .0) bytes (a .i) (s .pre .0 .1) (a .most)
     (listed-at (a .h .size) (a .m .now) (a .i) (number .result) (number .ensures) ∙ sym (c .before .is-listed .ensures) ∙ c .if1 .taken))
 
 returns-2 : tie.Need-returns-2
@@ -34,10 +34,10 @@ returns-2 c =
     let s = c .before .before .before .before .before in
     let a = s .args in
     let bytes : Bytes (a .m .now) = λ i. omega (arith, c .before .before .before .before .shared-slice-known .given i) in
-    c .few-before .ensures ∙ sym (band-stays (s .pre .0 .0) bytes (a .i) (s .pre .0 .1) (a .most))
+    c .few-before .ensures ∙ sym (band-before (s .pre .0 .0) bytes (a .i) (s .pre .0 .1) (a .most))
 
-pub stays-at-spec : {M : Type 1} → statement M
-stays-at-spec =
+pub in-band-spec : {M : Type 1} → statement M
+in-band-spec =
     tie.close
     (tie.spec
     number-at-requires
