@@ -1,31 +1,29 @@
 // The list over the moves in open blocks: each is held against those in open blocks that stand
 // before it only. An earlier move that is nowhere greater hides: of equal costs the lower number
 // stands first.
-use dominance::limits_of;
 use memory::Head;
-use memory::costs_of;
 use memory::is_listed;
 use memory::number_at;
-use numbers::add;
 use numbers::empty;
 use search::Among;
 use search::RUNS;
 use search::corners_of;
 use search::fits_at;
 use search::in_blocks;
-use search::kept;
+use search::limits_at;
 use search::next_within;
+use search::tried_next;
 use upkeep::Found;
+use upkeep::add_found;
 use zorder::COSTS;
 ghost use mathlib.Core.Path.{_≡_};
 ghost use Prim.Native.Nat.{_<_};
 ghost use lib.Dec.{eqb};
-ghost use Rattle.promises.specs.Layout.{numberIn};
-ghost use Rattle.memory.specs.Held.{SoundAt};
+ghost use Rattle.memory.specs.Held.{SoundAt, moveHeld};
 ghost use Rattle.search.specs.Search.{Corners};
 ghost use Rattle.search.specs.declared.search.Among.the-variants.{InBlocks};
-ghost use Rattle.upkeep.specs.Found.{Finds};
-ghost use Rattle.hours.specs.Open.{shownFor};
+ghost use Rattle.upkeep.specs.Found.{FindsMoves};
+ghost use Rattle.hours.specs.Open.{shownIn};
 
 // Of a move in an open block, a place before it with one that hides it, `last` if that does; its
 // own place i if there is none, as for every listed one. Of a move in a shut block the number of
@@ -40,7 +38,7 @@ fn hider_of(
 ) -> usize
     requires { ⌜ SoundAt h (now m) × (i < h .count) ⌝ }
     requires { ⌜ Corners (InBlocks blocks) (h .size) (now m) (h .count) (now corners) ⌝ }
-    ensures { λ r. ⌜ eqb r i ≡ shownFor (h .size) (h .dimension) (h .count) blocks (now (m .entry)) (numberIn (h .size) (now (m .entry)) i) ⌝ }
+    ensures { λ r. ⌜ eqb r i ≡ shownIn h blocks (now (m .entry)) (moveHeld h (now (m .entry)) i) ⌝ }
 {
     let number = number_at(m, h.size, i);
     if !in_blocks(m, h.size, number, blocks) {
@@ -49,7 +47,7 @@ fn hider_of(
     if is_listed(m, h.size, number) {
         return i;
     }
-    let q = limits_of(h.dimension, costs_of(m, h.size, COSTS, number));
+    let q = limits_at(m, h, i);
     if last < i {
         if fits_at(m, h, last, Among::InBlocks(blocks), q) {
             return last;
@@ -58,10 +56,10 @@ fn hider_of(
     next_within(m, h, 0, i, Among::InBlocks(blocks), corners, q)
 }
 
-// The moves in open blocks that none of them hides. What hid one move often hides the next.
-pub(crate) fn find_open(m: &[u8], h: Head, blocks: u64) -> Found
+// Finds the moves in open blocks that none of them hides. What hid one move often hides the next.
+pub(crate) fn find_shown(m: &[u8], h: Head, blocks: u64) -> Found
     requires { ⌜ SoundAt h (now m) ⌝ }
-    ensures { λ r. ⌜ Finds h (shownFor (h .size) (h .dimension) (h .count) blocks (now (m .entry))) (now (m .entry)) r ⌝ }
+    ensures { λ r. ⌜ FindsMoves h (shownIn h blocks (now (m .entry))) (now (m .entry)) r ⌝ }
 {
     let n = h.count;
     let corners = corners_of(m, h, Among::InBlocks(blocks));
@@ -71,11 +69,8 @@ pub(crate) fn find_open(m: &[u8], h: Head, blocks: u64) -> Found
     let mut i = 0;
     while i < n {
         let hider = hider_of(m, h, blocks, i, last, &corners);
-        if hider == i {
-            add(&mut numbers, number_at(m, h.size, i));
-            count += 1;
-        }
-        last = kept(hider, i, last);
+        count += add_found(m, h, i, hider == i, &mut numbers);
+        last = tried_next(hider, i, last);
         i += 1;
     }
     Found { numbers, count }
