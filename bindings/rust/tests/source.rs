@@ -157,7 +157,7 @@ fn calls_are_found() {
 /// The name is called as before, but means another function.
 #[test]
 fn imports_are_found() {
-    let found = edited("query", "use dominance::exceeds_in;", "dominance::", "crate::kept::");
+    let found = edited("query", "use dominance::exceeds_in;", "dominance::", "crate::band::");
     assert!(found.contains(&"query::dominates_at: which `exceeds_in` is meant?".to_string()), "{found:?}");
 }
 

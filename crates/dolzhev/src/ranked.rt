@@ -1,7 +1,7 @@
 // Rank (Definition 4): the rows are put in order where they are lent. The memory is lent for reading only.
 use crate::answer::Answer;
 use crate::answer::handed;
-use query::rank;
+use ranking::rank;
 use rows::ROW;
 ghost use mathlib.Core.List.{map};
 ghost use Rattle.model.specs.Calls.{rankQuery};

@@ -6,6 +6,7 @@ mod order;
 mod stores;
 
 pub use fields::block_of;
+pub use fields::costs_at;
 pub use fields::costs_of;
 pub use fields::has_format;
 pub use fields::height_at;

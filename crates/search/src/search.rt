@@ -222,6 +222,6 @@ pub fn next_within(
 }
 
 // The place that is tried first in the next search: the one found, if one was.
-pub fn kept(found: usize, to: usize, first: usize) -> usize {
+pub fn tried_next(found: usize, to: usize, first: usize) -> usize {
     if found < to { found } else { first }
 }

@@ -9,6 +9,7 @@ mod marks;
 pub use exchange::Exchange;
 pub use exchange::Upkeep;
 pub use found::Found;
+pub use found::add_found;
 pub use found::find_listed;
 pub use kept::upkeep_of;
 pub use mark::mark_all;

@@ -11,12 +11,14 @@ use lib.ListN.{length, getD}
 use Rattle.zorder.specs.Between.{rowCosts}
 use Rattle.model.specs.Basics.{Each, any, distinct, has}
 use Rattle.model.specs.Moves.{Move, ordered}
+use Rattle.model.specs.Dominance.{dominates, hides}
 use Rattle.model.specs.Lists.{hidden, skyline}
 use Rattle.model.specs.Calls.{memoryNeed}
 use Rattle.model.specs.Sound.{Fit}
 use Rattle.model.specs.Tree.{Tree, movesOf}
 use Rattle.model.specs.Laws.Loading.{size-most}
 use Rattle.model.specs.Laws.Bool.{and-left, and-right, not-back}
+use Rattle.model.specs.Laws.Hiding.{dominates-hides, move-hiding}
 use Rattle.model.specs.Laws.Basics.{mem-at, select-same, each-mem, any-false, any-select}
 use Rattle.line.specs.Line.{Placed, lineOf, movesIn}
 use Rattle.line.specs.Laws.Line.{moves-line}
@@ -28,9 +30,9 @@ use Rattle.memory.specs.Room.{Room, Numbers, ReadableRows, Ordered}
 use Rattle.memory.specs.Held.{SoundRows}
 use Rattle.memory.specs.Tests.{anyTo, isListed}
 use Rattle.promises.specs.Laws.Tab.{length-tab, getD-tab, map-tab}
-use Rattle.memory.specs.Laws.Places.{tab-each, any-tab}
+use Rattle.memory.specs.Laws.Places.{tab-each, any-tab, anyTo-found}
 use Rattle.memory.specs.Laws.Lines.{movesIn-line, lineIn-line}
-use Rattle.memory.specs.Laws.Ordered.{line-ordered}
+use Rattle.memory.specs.Laws.Ordered.{line-ordered, ordered-place}
 
 no-other : (n : ℕ) (ns : List ℕ) → has n ns ≡ false → (i : ℕ) → i < length ns → n ≡ getD ns i 0 → ⊥
 unfolding has
@@ -139,6 +141,23 @@ module _ (c d n : ℕ) (m : List ℕ) (s : SoundRows c d n m) where
         (omega (arith, length-tab (numberIn c m) n))
         (omega (arith, length-tab (numberIn c m) n))
         (getD-tab (numberIn c m) 0 n i h ∙ e ∙ sym (getD-tab (numberIn c m) 0 n j k))
+
+-- What the move at place i dominates is hidden, and stands after it.
+module _ (c d n : ℕ) (m : List ℕ) (s : SoundRows c d n m) (i j : ℕ) (l : i < n) (k : j < n) (e : dominates d (moveIn c d m i .costs) (moveIn c d m j .costs) ≡ true) where
+  pub dominated-hidden : isListed c m j ≡ false
+  unfolding hidden
+  dominated-hidden =
+      held-listed c d n m s j k
+      ∙ ap not
+      (ap (λ (ms : List Move). hidden d ms (moveIn c d m j)) (movesIn-line c d n m)
+      ∙ any-tab (moveIn c d m) (λ p. hides d p (moveIn c d m j)) n
+      ∙ anyTo-found (λ p. hides d (moveIn c d m p) (moveIn c d m j)) n i l (dominates-hides d (moveIn c d m i) (moveIn c d m j) e))
+
+  pub dominated-after : Bytes m → i < j
+  dominated-after b =
+      ordered-place c d n m (held-ordered c d n m s) j i l
+      (move-hiding d c (held-dimension c d n m s) .earlier (moveIn c d m i) (moveIn c d m j) (held-fit-at c d n m s b i l) (held-fit-at c d n m s b j k)
+      (dominates-hides d (moveIn c d m i) (moveIn c d m j) e))
 
 -- Sound memory can be read.
 pub held-readable : {c d n : ℕ} {m : List ℕ} → SoundRows c d n m → ReadableRows c d n m
