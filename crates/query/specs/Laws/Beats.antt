@@ -14,7 +14,7 @@ use Rattle.model.specs.Dominance.{less, nowhereGreater, somewhereLess, better, 
 use Rattle.model.specs.Lists.{hidden, skyline, chosenCosts}
 use Rattle.model.specs.Sound.{Fit}
 use Rattle.model.specs.Laws.Bool.{byCases, same-test, and-left, and-right, and-both, not-flip, not-back, or-cases, or-left, or-right}
-use Rattle.model.specs.Laws.Basics.{each-mem, mem-each, each-mono, each-append, each-map, any-mem, any-mono, any-witness}
+use Rattle.model.specs.Laws.Basics.{each-mem, mem-each, parts-each, any-mem, any-mono, any-witness}
 use Rattle.model.specs.Laws.Chosen.{chosen-below}
 use Rattle.model.specs.Laws.Dominance.{row-lengths}
 use Rattle.model.specs.Laws.Hiding.{hides-nowhere-greater}
@@ -44,16 +44,6 @@ module _ (p q : List ℕ) where
   each-nowhere (i ∷ s) es =
       and-both (not (ltb (getD q i 0) (getD p i 0))) (nowhereGreater (at s p) (at s q))
       (not-flip (ltb (getD q i 0) (getD p i 0)) (le-ltb (getD q i 0) (getD p i 0) (es .0))) (each-nowhere s (es .1))
-
--- Every part of a list has entries of the list only.
-parts-each : {A : Type 0} (P : A → Type 0) (k : ℕ) (xs : List A) → Each P xs → Each (λ s. Each P s) (parts k xs)
-unfolding parts
-parts-each P zero xs es = (tt, tt)
-parts-each P (suc k) [] es = tt
-parts-each P (suc k) (x ∷ xs) es =
-    each-append (λ s. Each P s) (map (λ s. x ∷ s) (parts k xs)) (parts (suc k) xs)
-    (each-map (λ s. Each P s) (λ s. x ∷ s) (parts k xs) (each-mono (λ s. Each P s) (λ s. Each P (x ∷ s)) (parts k xs) (λ s h. (es .0, h)) (parts-each P k xs (es .1))))
-    (parts-each P (suc k) xs (es .1))
 
 -- ---- a row z that is nowhere greater than y on the first d costs
 
