@@ -1,9 +1,10 @@
 -- Which bytes an operation may write.
-use Prim.Native.Nat.{ℕ, _+_, _*_, _≤_, _<_}
+use Prim.Native.Nat.{ℕ, _≤_, _<_}
 use mathlib.Core.Logic.{_⊎_}
 use mathlib.Core.Path.{_≡_}
 use mathlib.Core.List.{List}
 use lib.ListN.{length, getD}
+use Rattle.promises.specs.Layout.{numberPlace, markPlace, blockPlace, costPlace, workPlace}
 use Rattle.promises.specs.Written.{Only, movesWrite}
 
 -- Only bytes from place a up to place b differ.
@@ -17,16 +18,16 @@ MovesOnly c = Only (movesWrite c)
 
 -- Only rows, that is numbers and heights by place, differ; only marks; only blocks; only costs; only the work area.
 abbrev pub RowsOnly : ℕ → List ℕ → List ℕ → Type 0
-RowsOnly c = DifferWithin 16 (16 + 3 * c)
+RowsOnly c = DifferWithin (numberPlace 0) (markPlace c 0)
 
 abbrev pub MarksOnly : ℕ → List ℕ → List ℕ → Type 0
-MarksOnly c = DifferWithin (16 + 3 * c) (16 + 4 * c)
+MarksOnly c = DifferWithin (markPlace c 0) (blockPlace c 0)
 
 abbrev pub BlocksOnly : ℕ → List ℕ → List ℕ → Type 0
-BlocksOnly c = DifferWithin (16 + 4 * c) (16 + 5 * c)
+BlocksOnly c = DifferWithin (blockPlace c 0) (costPlace c 0 0)
 
 abbrev pub CostsOnly : ℕ → List ℕ → List ℕ → Type 0
-CostsOnly c = DifferWithin (16 + 5 * c) (16 + 21 * c)
+CostsOnly c = DifferWithin (costPlace c 0 0) (workPlace c 0)
 
 abbrev pub WorkOnly : ℕ → List ℕ → List ℕ → Type 0
-WorkOnly c = DifferWithin (16 + 21 * c) (16 + 23 * c)
+WorkOnly c = DifferWithin (workPlace c 0) (workPlace c c)

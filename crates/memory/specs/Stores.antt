@@ -12,7 +12,7 @@ unfoldable pub setCount : ℕ → List ℕ → List ℕ
 setCount n m = setWord countPlace n m
 
 unfoldable pub setNumber : ℕ → ℕ → ℕ → List ℕ → List ℕ
-setNumber c i v m = setWord (numberPlace c i) v m
+setNumber c i v m = setWord (numberPlace i) v m
 
 unfoldable pub setHeight : ℕ → ℕ → ℕ → List ℕ → List ℕ
 setHeight c i h m = set m (heightPlace c i) h

@@ -3,6 +3,7 @@ mod bytes;
 mod fields;
 mod head;
 mod order;
+mod places;
 mod stores;
 
 pub use fields::block_of;

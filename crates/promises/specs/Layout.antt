@@ -29,22 +29,22 @@ formatPlace = 3
 abbrev pub countPlace : ℕ
 countPlace = 4
 
-unfoldable pub numberPlace : ℕ → ℕ → ℕ
-numberPlace c i = 16 + 2 * i
+abbrev pub numberPlace : ℕ → ℕ
+numberPlace i = 16 + 2 * i
 
-unfoldable pub heightPlace : ℕ → ℕ → ℕ
+abbrev pub heightPlace : ℕ → ℕ → ℕ
 heightPlace c i = 16 + 2 * c + i
 
-unfoldable pub markPlace : ℕ → ℕ → ℕ
+abbrev pub markPlace : ℕ → ℕ → ℕ
 markPlace c n = 16 + 3 * c + n
 
-unfoldable pub blockPlace : ℕ → ℕ → ℕ
+abbrev pub blockPlace : ℕ → ℕ → ℕ
 blockPlace c n = 16 + 4 * c + n
 
-unfoldable pub costPlace : ℕ → ℕ → ℕ → ℕ
+abbrev pub costPlace : ℕ → ℕ → ℕ → ℕ
 costPlace c n j = 16 + 5 * c + 16 * n + 2 * j
 
-unfoldable pub workPlace : ℕ → ℕ → ℕ
+abbrev pub workPlace : ℕ → ℕ → ℕ
 workPlace c i = 16 + 21 * c + 2 * i
 
 -- The head: C, d, the format and how many moves are on the board.
@@ -66,7 +66,7 @@ countIn m = wordAt countPlace m
 
 -- By place in Z-order: the number of the move, and its height. By number: its mark, its block and its costs.
 unfoldable pub numberIn : ℕ → List ℕ → ℕ → ℕ
-numberIn c m i = wordAt (numberPlace c i) m
+numberIn c m i = wordAt (numberPlace i) m
 
 unfoldable pub heightIn : ℕ → List ℕ → ℕ → ℕ
 heightIn c m i = getD m (heightPlace c i) 0

@@ -16,7 +16,7 @@ headUse i = inArea sizePlace (formatPlace + 1) i || inArea countPlace (countPlac
 
 -- Numbers and heights at the first n places.
 unfoldable pub rowsUse : ℕ → ℕ → ℕ → Bool
-rowsUse c n i = inArea (numberPlace c 0) (numberPlace c n) i || inArea (heightPlace c 0) (heightPlace c n) i
+rowsUse c n i = inArea (numberPlace 0) (numberPlace n) i || inArea (heightPlace c 0) (heightPlace c n) i
 
 -- The mark, the block and the first d costs of a move's number.
 unfoldable pub moveUse : ℕ → ℕ → ℕ → ℕ → Bool

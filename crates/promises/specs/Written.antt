@@ -16,7 +16,7 @@ inArea a b i = leb a i && ltb i b
 unfoldable pub movesWrite : ℕ → ℕ → Bool
 movesWrite c i =
     inArea countPlace (countPlace + 2) i
-    || (inArea (numberPlace c 0) (workPlace c c) i && not (inArea (blockPlace c 0) (blockPlace c c) i))
+    || (inArea (numberPlace 0) (workPlace c c) i && not (inArea (blockPlace c 0) (blockPlace c c) i))
 
 -- The block that a change gives: that of its number, and no other.
 unfoldable pub blockWrites : ℕ → Change → ℕ → Bool

@@ -1,5 +1,5 @@
 -- The blocks of a board by the places of its moves, and what a block given leaves as it was.
-use Prim.Native.Nat.{ℕ, _+_, _*_, _≤_, _<_}
+use Prim.Native.Nat.{ℕ, _≤_, _<_}
 use mathlib.Core.Bool.{Bool, true, false, cond}
 use mathlib.Core.List.{List}
 use mathlib.Core.Logic.{inl, inr}
@@ -75,19 +75,19 @@ module _ (c d n : ℕ) (m : List ℕ) where
 
 module _ (c n block : ℕ) (m : List ℕ) where
   pub setBlock-blocks : n < c → BlocksOnly c m (setBlock c n block m)
-  unfolding setBlock blockPlace
-  setBlock-blocks h = frame-widen (omega arith) (omega arith) (byte-frame (16 + 4 * c + n) block m)
+  unfolding setBlock
+  setBlock-blocks h = frame-widen (omega arith) (omega arith) (byte-frame (blockPlace c n) block m)
 
   pub block-setBlock : Room c m → n < c → (k : ℕ) → blockIn c (setBlock c n block m) k ≡ giveBlock n block (blockIn c m) k
-  unfolding setBlock blockIn blockPlace giveBlock
+  unfolding setBlock blockIn giveBlock
   block-setBlock room h k =
       byCases (eqb k n)
       (λ e.
-      ap (λ (j : ℕ). getD (setBlock c n block m) (16 + 4 * c + j) 0) (eqb-true k n e)
-      ∙ getD-set-same m (16 + 4 * c + n) block 0 (omega (arith, room .0))
+      ap (λ (j : ℕ). getD (setBlock c n block m) (blockPlace c j) 0) (eqb-true k n e)
+      ∙ getD-set-same m (blockPlace c n) block 0 (omega (arith, room .0))
       ∙ sym (ap (λ (b : Bool). cond b block (blockIn c m k)) e))
       (λ e.
-      getD-set-other m (16 + 4 * c + n) (16 + 4 * c + k) block 0
+      getD-set-other m (blockPlace c n) (blockPlace c k) block 0
       (λ q. let same : k ≡ n = omega (arith, q) in both-ways (eq-eqb k n same) e)
       ∙ sym (ap (λ (b : Bool). cond b block (blockIn c m k)) e))
 

@@ -1,6 +1,6 @@
 -- A field outside a frame is as it was. What stands behind a frame does so for every index, what stands before it for the
 -- indices of its own area.
-use Prim.Native.Nat.{ℕ, _+_, _*_, _≤_, _<_}
+use Prim.Native.Nat.{ℕ, _+_, _≤_, _<_}
 use mathlib.Core.List.{List}
 use mathlib.Core.Logic.{inl, inr, ⊎-map}
 use mathlib.Core.Path.{_≡_, ap}
@@ -15,28 +15,28 @@ use Rattle.promises.specs.Laws.Tab.{tab-ext}
 
 module _ {a b : ℕ} {m m' : List ℕ} (f : DifferWithin a b m m') where
   module _ (c : ℕ) where
-    pub number-over : (i : ℕ) → Apart a b (16 + 2 * i) (18 + 2 * i) → numberIn c m' i ≡ numberIn c m i
-    unfolding numberIn numberPlace
-    number-over i h = word-across f (16 + 2 * i) (⊎-map (λ k. omega arith) (λ k. k) h)
+    pub number-over : (i : ℕ) → Apart a b (numberPlace i) (numberPlace i + 2) → numberIn c m' i ≡ numberIn c m i
+    unfolding numberIn
+    number-over i = word-across f (numberPlace i)
 
-    pub height-over : (i : ℕ) → Apart a b (16 + 2 * c + i) (17 + 2 * c + i) → heightIn c m' i ≡ heightIn c m i
-    unfolding heightIn heightPlace
-    height-over i h = byte-across f (16 + 2 * c + i) (⊎-map (λ k. omega arith) (λ k. k) h)
+    pub height-over : (i : ℕ) → Apart a b (heightPlace c i) (heightPlace c i + 1) → heightIn c m' i ≡ heightIn c m i
+    unfolding heightIn
+    height-over i = byte-across f (heightPlace c i)
 
-    pub mark-over : (n : ℕ) → Apart a b (16 + 3 * c + n) (17 + 3 * c + n) → markIn c m' n ≡ markIn c m n
-    unfolding markIn markPlace
-    mark-over n h = byte-across f (16 + 3 * c + n) (⊎-map (λ k. omega arith) (λ k. k) h)
+    pub mark-over : (n : ℕ) → Apart a b (markPlace c n) (markPlace c n + 1) → markIn c m' n ≡ markIn c m n
+    unfolding markIn
+    mark-over n = byte-across f (markPlace c n)
 
-    pub costs-over : (d n : ℕ) → Apart a b (16 + 5 * c + 16 * n) (16 + 5 * c + 16 * n + 2 * d) → costsIn c d m' n ≡ costsIn c d m n
-    unfolding costsIn costIn costPlace
+    pub costs-over : (d n : ℕ) → Apart a b (costPlace c n 0) (costPlace c n d) → costsIn c d m' n ≡ costsIn c d m n
+    unfolding costsIn costIn
     costs-over d n h =
         ap (padded d)
         (tab-ext (costIn c m' n) (costIn c m n) d
-        (λ j l. word-across f (16 + 5 * c + 16 * n + 2 * j) (⊎-map (λ k. omega arith) (λ k. omega arith) h)))
+        (λ j l. word-across f (costPlace c n j) (⊎-map (λ k. omega arith) (λ k. omega arith) h)))
 
-    pub work-over : (i : ℕ) → Apart a b (16 + 21 * c + 2 * i) (18 + 21 * c + 2 * i) → workIn c m' i ≡ workIn c m i
-    unfolding workIn workPlace
-    work-over i h = word-across f (16 + 21 * c + 2 * i) (⊎-map (λ k. omega arith) (λ k. k) h)
+    pub work-over : (i : ℕ) → Apart a b (workPlace c i) (workPlace c i + 2) → workIn c m' i ≡ workIn c m i
+    unfolding workIn
+    work-over i = word-across f (workPlace c i)
 
 -- ---- over the frames that occur
 

@@ -1,5 +1,5 @@
 -- The frame of each store, and what is read after it.
-use Prim.Native.Nat.{ℕ, zero, suc, _+_, _*_, _≤_, _<_}
+use Prim.Native.Nat.{ℕ, zero, suc, _+_, _≤_, _<_}
 use mathlib.Core.Bool.{Bool, true, false, cond}
 use mathlib.Core.List.{List, [], _∷_}
 use mathlib.Core.Logic.{_⊎_, inl, inr, ⊎-map, _≢_}
@@ -45,30 +45,30 @@ setHead-frame c d n m =
     (frame-trans (frame-widen (omega arith) (omega arith) (byte-frame 3 formatNumber m₂)) (frame-widen (omega arith) (omega arith) (word-frame 4 n m₃))))
 
 module _ (c i : ℕ) (m : List ℕ) where
-  pub setNumber-frame : (v : ℕ) → DifferWithin (16 + 2 * i) (18 + 2 * i) m (setNumber c i v m)
-  unfolding setNumber numberPlace
-  setNumber-frame v = frame-widen (omega arith) (omega arith) (word-frame (16 + 2 * i) v m)
+  pub setNumber-frame : (v : ℕ) → DifferWithin (numberPlace i) (numberPlace i + 2) m (setNumber c i v m)
+  unfolding setNumber
+  setNumber-frame v = word-frame (numberPlace i) v m
 
-  pub setHeight-frame : (h : ℕ) → DifferWithin (16 + 2 * c + i) (17 + 2 * c + i) m (setHeight c i h m)
-  unfolding setHeight heightPlace
-  setHeight-frame h = frame-widen (omega arith) (omega arith) (byte-frame (16 + 2 * c + i) h m)
+  pub setHeight-frame : (h : ℕ) → DifferWithin (heightPlace c i) (heightPlace c i + 1) m (setHeight c i h m)
+  unfolding setHeight
+  setHeight-frame h = byte-frame (heightPlace c i) h m
 
-  pub setListed-frame : (b : Bool) → DifferWithin (16 + 3 * c + i) (17 + 3 * c + i) m (setListed c i b m)
-  unfolding setListed markPlace
-  setListed-frame b = frame-widen (omega arith) (omega arith) (byte-frame (16 + 3 * c + i) (cond b 1 0) m)
+  pub setListed-frame : (b : Bool) → DifferWithin (markPlace c i) (markPlace c i + 1) m (setListed c i b m)
+  unfolding setListed
+  setListed-frame b = byte-frame (markPlace c i) (cond b 1 0) m
 
-  pub setWork-frame : (v : ℕ) → DifferWithin (16 + 21 * c + 2 * i) (18 + 21 * c + 2 * i) m (setWork c i v m)
-  unfolding setWork workPlace
-  setWork-frame v = frame-widen (omega arith) (omega arith) (word-frame (16 + 21 * c + 2 * i) v m)
+  pub setWork-frame : (v : ℕ) → DifferWithin (workPlace c i) (workPlace c i + 2) m (setWork c i v m)
+  unfolding setWork
+  setWork-frame v = word-frame (workPlace c i) v m
 
-setCostsFrom-frame : (c n j : ℕ) (vs m : List ℕ) → DifferWithin (16 + 5 * c + 16 * n + 2 * j) (16 + 5 * c + 16 * n + 2 * (j + length vs)) m (setCostsFrom c n j vs m)
-unfolding setCostsFrom costPlace
+setCostsFrom-frame : (c n j : ℕ) (vs m : List ℕ) → DifferWithin (costPlace c n j) (costPlace c n (j + length vs)) m (setCostsFrom c n j vs m)
+unfolding setCostsFrom
 setCostsFrom-frame c n j [] m = frame-refl m
 setCostsFrom-frame c n j (v ∷ vs) m =
     frame-trans (frame-widen (omega arith) (omega arith) (word-frame (costPlace c n j) v m))
     (frame-widen (omega arith) (omega arith) (setCostsFrom-frame c n (suc j) vs (setWord (costPlace c n j) v m)))
 
-pub setCosts-frame : (c n : ℕ) (costs m : List ℕ) → DifferWithin (16 + 5 * c + 16 * n) (16 + 5 * c + 16 * n + 2 * length costs) m (setCosts c n costs m)
+pub setCosts-frame : (c n : ℕ) (costs m : List ℕ) → DifferWithin (costPlace c n 0) (costPlace c n (length costs)) m (setCosts c n costs m)
 unfolding setCosts
 setCosts-frame c n costs m = frame-widen (omega arith) (omega arith) (setCostsFrom-frame c n 0 costs m)
 
@@ -156,20 +156,20 @@ module _ (n : ℕ) (m : List ℕ) where
 module _ (c i : ℕ) (m : List ℕ) where
   module _ (room : Room c m) (h : i < c) where
     pub number-setNumber : (v : ℕ) → numberIn c (setNumber c i v m) i ≡ v
-    unfolding numberIn setNumber numberPlace
-    number-setNumber v = word-stored (16 + 2 * i) v m (omega arith)
+    unfolding numberIn setNumber
+    number-setNumber v = word-stored (numberPlace i) v m (omega arith)
 
     pub height-setHeight : (k : ℕ) → heightIn c (setHeight c i k m) i ≡ k
-    unfolding heightIn setHeight heightPlace
-    height-setHeight k = getD-set-same m (16 + 2 * c + i) k 0 (omega arith)
+    unfolding heightIn setHeight
+    height-setHeight k = getD-set-same m (heightPlace c i) k 0 (omega arith)
 
     pub mark-setListed : (b : Bool) → markIn c (setListed c i b m) i ≡ cond b 1 0
-    unfolding markIn setListed markPlace
-    mark-setListed b = getD-set-same m (16 + 3 * c + i) (cond b 1 0) 0 (omega arith)
+    unfolding markIn setListed
+    mark-setListed b = getD-set-same m (markPlace c i) (cond b 1 0) 0 (omega arith)
 
     pub work-setWork : (v : ℕ) → workIn c (setWork c i v m) i ≡ v
-    unfolding workIn setWork workPlace
-    work-setWork v = word-stored (16 + 21 * c + 2 * i) v m (omega arith)
+    unfolding workIn setWork
+    work-setWork v = word-stored (workPlace c i) v m (omega arith)
 
     pub listed-setListed : (b : Bool) → eqb (markIn c (setListed c i b m) i) 1 ≡ b
     listed-setListed b = ap (λ (n : ℕ). eqb n 1) (mark-setListed b) ∙ one-or-zero b
@@ -202,8 +202,8 @@ module _ (c i : ℕ) (m : List ℕ) where
 
 -- ---- costs
 
-cost-setCostsFrom : (c n j : ℕ) (vs m : List ℕ) (i : ℕ) → 16 + 5 * c + 16 * n + 2 * (j + length vs) ≤ length m → i < length vs → costIn c (setCostsFrom c n j vs m) n (j + i) ≡ getD vs i 0
-unfolding setCostsFrom costIn costPlace
+cost-setCostsFrom : (c n j : ℕ) (vs m : List ℕ) (i : ℕ) → costPlace c n (j + length vs) ≤ length m → i < length vs → costIn c (setCostsFrom c n j vs m) n (j + i) ≡ getD vs i 0
+unfolding setCostsFrom costIn
 cost-setCostsFrom c n j [] m i room h = absurd (omega arith)
 cost-setCostsFrom c n j (v ∷ vs) m zero room h =
     let m₁ : List ℕ = setWord (costPlace c n j) v m in

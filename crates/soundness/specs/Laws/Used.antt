@@ -79,22 +79,22 @@ module _ (m m' : List ℕ) (same : SameInUse m m') where
   count-same = word-same m m' 4 (count-byte 4 (omega arith) (omega arith)) (count-byte 5 (omega arith) (omega arith))
 
   module _ (i : ℕ) (l : i < countIn m) where
-    number-byte : (o : ℕ) → 16 + 2 * i ≤ o → o < 18 + 2 * i → getD m' o 0 ≡ getD m o 0
-    unfolding rowsUse numberPlace
+    number-byte : (o : ℕ) → numberPlace i ≤ o → o < numberPlace i + 2 → getD m' o 0 ≡ getD m o 0
+    unfolding rowsUse
     number-byte o k u =
         rows-byte o
-        (or-left (inArea (numberPlace c 0) (numberPlace c n) o) (inArea (heightPlace c 0) (heightPlace c n) o)
-        (in-area (numberPlace c 0) (numberPlace c n) o (omega arith) (omega arith)))
+        (or-left (inArea (numberPlace 0) (numberPlace n) o) (inArea (heightPlace c 0) (heightPlace c n) o)
+        (in-area (numberPlace 0) (numberPlace n) o (omega arith) (omega arith)))
 
     number-same : numberIn (sizeIn m) m' i ≡ numberIn (sizeIn m) m i
-    unfolding numberIn numberPlace
-    number-same = word-same m m' (16 + 2 * i) (number-byte (16 + 2 * i) (omega arith) (omega arith)) (number-byte (16 + 2 * i + 1) (omega arith) (omega arith))
+    unfolding numberIn
+    number-same = word-same m m' (numberPlace i) (number-byte (numberPlace i) (omega arith) (omega arith)) (number-byte (numberPlace i + 1) (omega arith) (omega arith))
 
     height-same : heightIn (sizeIn m) m' i ≡ heightIn (sizeIn m) m i
-    unfolding heightIn rowsUse heightPlace
+    unfolding heightIn rowsUse
     height-same =
-        rows-byte (16 + 2 * c + i)
-        (or-right (inArea (numberPlace c 0) (numberPlace c n) (heightPlace c i)) (inArea (heightPlace c 0) (heightPlace c n) (heightPlace c i))
+        rows-byte (heightPlace c i)
+        (or-right (inArea (numberPlace 0) (numberPlace n) (heightPlace c i)) (inArea (heightPlace c 0) (heightPlace c n) (heightPlace c i))
         (in-area (heightPlace c 0) (heightPlace c n) (heightPlace c i) (omega arith) (omega arith)))
 
     abbrev number : ℕ
@@ -126,7 +126,7 @@ module _ (m m' : List ℕ) (same : SameInUse m m') where
         (or-right (eqb o (markPlace c number) || eqb o (blockPlace c number)) (inArea (costPlace c number 0) (costPlace c number d) o) (in-area (costPlace c number 0) (costPlace c number d) o k u))
 
     costs-same : costsIn (sizeIn m) (dimensionIn m) m' (numberIn (sizeIn m) m i) ≡ costsIn (sizeIn m) (dimensionIn m) m (numberIn (sizeIn m) m i)
-    unfolding costsIn costIn costPlace
+    unfolding costsIn costIn
     costs-same =
         ap (padded d)
         (tab-ext (costIn c m' number) (costIn c m number) d
