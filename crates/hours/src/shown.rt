@@ -7,10 +7,10 @@ use memory::number_at;
 use numbers::empty;
 use search::Among;
 use search::RUNS;
+use search::bounds_at;
 use search::corners_of;
 use search::fits_at;
 use search::in_blocks;
-use search::limits_at;
 use search::next_within;
 use search::tried_next;
 use upkeep::Found;
@@ -47,7 +47,7 @@ fn hider_of(
     if is_listed(m, h.size, number) {
         return i;
     }
-    let q = limits_at(m, h, i);
+    let q = bounds_at(m, h, i);
     if last < i {
         if fits_at(m, h, last, Among::InBlocks(blocks), q) {
             return last;

@@ -4,7 +4,7 @@ use mathlib.Core.Logic.{_⊎_}
 use mathlib.Core.Path.{_≡_}
 use mathlib.Core.List.{List}
 use lib.ListN.{length, getD}
-use Rattle.promises.specs.Layout.{numberPlace, markPlace, blockPlace, costPlace, workPlace}
+use Rattle.promises.specs.Layout.{numberPlace, flagPlace, blockPlace, costPlace, workPlace}
 use Rattle.promises.specs.Written.{Only, movesWrite}
 
 -- Only bytes from place a up to place b differ.
@@ -16,12 +16,12 @@ pub record DifferWithin (a b : ℕ) (m m' : List ℕ) : Type 0 where
 abbrev pub MovesOnly : ℕ → List ℕ → List ℕ → Type 0
 MovesOnly c = Only (movesWrite c)
 
--- Only rows, that is numbers and heights by place, differ; only marks; only blocks; only costs; only the work area.
+-- Only rows, that is numbers and heights by place, differ; only flags; only blocks; only costs; only the work area.
 abbrev pub RowsOnly : ℕ → List ℕ → List ℕ → Type 0
-RowsOnly c = DifferWithin (numberPlace 0) (markPlace c 0)
+RowsOnly c = DifferWithin (numberPlace 0) (flagPlace c 0)
 
-abbrev pub MarksOnly : ℕ → List ℕ → List ℕ → Type 0
-MarksOnly c = DifferWithin (markPlace c 0) (blockPlace c 0)
+abbrev pub FlagsOnly : ℕ → List ℕ → List ℕ → Type 0
+FlagsOnly c = DifferWithin (flagPlace c 0) (blockPlace c 0)
 
 abbrev pub BlocksOnly : ℕ → List ℕ → List ℕ → Type 0
 BlocksOnly c = DifferWithin (blockPlace c 0) (costPlace c 0 0)

@@ -28,10 +28,10 @@ pub(crate) fn height_place(c: usize, i: usize) -> usize
     16 + 2 * c + i
 }
 
-// The mark of a number's move.
-pub(crate) fn mark_place(c: usize, number: u16) -> usize
+// The flag of a number's move.
+pub(crate) fn flag_place(c: usize, number: u16) -> usize
     requires { ⌜ (number < c) × (c ≤ 4096) ⌝ }
-    ensures { λ r. ⌜ r ≡ layout.markPlace c number ⌝ }
+    ensures { λ r. ⌜ r ≡ layout.flagPlace c number ⌝ }
 {
     16 + 3 * c + (number as usize)
 }

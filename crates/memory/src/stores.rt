@@ -7,8 +7,8 @@ use crate::places::FORMAT_PLACE;
 use crate::places::SIZE_PLACE;
 use crate::places::block_place;
 use crate::places::costs_place;
+use crate::places::flag_place;
 use crate::places::height_place;
-use crate::places::mark_place;
 use crate::places::number_place;
 use crate::places::work_place;
 use zorder::COSTS;
@@ -53,12 +53,12 @@ pub fn set_height(m: &mut [u8], c: usize, i: usize, height: u8)
     m[height_place(c, i)] = height;
 }
 
-// Marks the move of a number as listed or hidden.
+// Flags the move of a number as listed or hidden.
 pub fn set_listed(m: &mut [u8], c: usize, number: u16, listed: bool)
     requires { ⌜ Room c (now m) × (number < c) ⌝ }
     ensures { λ _. ⌜ now (m .exit) ≡ stores.setListed c number listed (now (m .entry)) ⌝ }
 {
-    m[mark_place(c, number)] = if listed { 1 } else { 0 };
+    m[flag_place(c, number)] = if listed { 1 } else { 0 };
 }
 
 // Writes the block of a number's move.

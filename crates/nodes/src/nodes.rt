@@ -3,8 +3,8 @@
 // move goes, at place `goes`, it is not among these moves, and a node is opened only if the going
 // move is nowhere greater than its far corner. For a list none goes: the place is past the last.
 use crate::places::node_end;
+use dominance::bounds_of;
 use dominance::exceeds;
-use dominance::limits_of;
 use memory::Head;
 use memory::costs_of;
 use memory::height_at;
@@ -38,7 +38,7 @@ fn corner_dominated(
     requires { ⌜ ListedCorners h (now m) i (now corners) ⌝ }
     ensures { λ r. ⌜ r ≡ search.cornerDominated (h .size) (h .dimension) goes i (now (m .entry)) near ⌝ }
 {
-    let q = limits_of(h.dimension, near);
+    let q = bounds_of(h.dimension, near);
     let mut j = next_within(m, h, 0, i, Among::Listed, corners, q);
     while j < i {
         let costs = costs_of(m, h.size, h.dimension, number_at(m, h.size, j));

@@ -83,7 +83,7 @@ pub record CarriedOut (p : ChangePlan) (m m' : List ℕ) : Type 0 where
 
 -- ---- what a plan tells
 
--- The listed moves whose mark changes leave; the hidden ones enter, and the coming one.
+-- The listed moves whose flag changes leave; the hidden ones enter, and the coming one.
 abbrev pub leavingBy : Head → Told
 leavingBy h = record { head = h; mark = left; among = Listed; coming = nobody }
 

@@ -12,7 +12,7 @@ use Rattle.promises.specs.Layout.{sizePlace, formatPlace, countPlace, nu
 unfoldable pub inArea : ℕ → ℕ → ℕ → Bool
 inArea a b i = leb a i && ltb i b
 
--- Moves: the count; rows, marks, costs and work area, but not the blocks between marks and costs.
+-- Moves: the count; rows, flags, costs and work area, but not the blocks between flags and costs.
 unfoldable pub movesWrite : ℕ → ℕ → Bool
 movesWrite c i =
     inArea countPlace (countPlace + 2) i

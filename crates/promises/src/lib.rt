@@ -1,16 +1,16 @@
-// The answers of the board's calls and the limits of a board; in specs/ the layout of the lent
+// The answers of the board's calls and the ranges of a board's numbers; in specs/ the layout of the lent
 // memory, when it is sound, what each call promises, and the theorem of demand 3 over these
 // promises.
 mod answers;
-mod limits;
+mod ranges;
 
 pub use answers::accepts;
 pub use answers::counted;
 pub use answers::enough;
 pub use answers::number_of;
-pub use limits::block_bad;
-pub use limits::memory_need;
-pub use limits::size_bad;
+pub use ranges::block_bad;
+pub use ranges::memory_need;
+pub use ranges::size_bad;
 
 // How a call ends: accepted, or by which refusal of document 01.
 pub enum Outcome {

@@ -1,7 +1,7 @@
 // Band: the moves that at most so many others dominate. Who dominates a move stands before it, and
 // a listed move none does.
+use dominance::bounds_of;
 use dominance::exceeds;
-use dominance::limits_of;
 use memory::Head;
 use memory::costs_at;
 use memory::is_listed;
@@ -31,7 +31,7 @@ fn few_before(m: &[u8], h: Head, most: usize, i: usize, corners: &[[u16; COSTS];
     ensures { λ r. ⌜ r ≡ fewBefore h most (now (m .entry)) i ⌝ }
 {
     let costs = costs_at(m, h, i);
-    let q = limits_of(h.dimension, costs);
+    let q = bounds_of(h.dimension, costs);
     let mut found: usize = 0;
     let mut j = next_within(m, h, 0, i, Among::All, corners, q);
     while j < i {

@@ -2,7 +2,7 @@
 // each move is held against the listed ones only.
 use crate::rule::Rule;
 use crate::rule::beats;
-use dominance::limits_in;
+use dominance::bounds_in;
 use memory::Head;
 use memory::costs_at;
 use memory::is_listed;
@@ -18,7 +18,7 @@ use upkeep::add_found;
 use zorder::COSTS;
 ghost use Prim.Native.Nat.{_≤_, _<_, _%_, _^_};
 ghost use Rattle.zorder.specs.Address.{rowCosts};
-ghost use Rattle.dominance.specs.Lanes.{Lanes, limit, isChosen};
+ghost use Rattle.dominance.specs.Lanes.{Lanes, bound, isChosen};
 ghost use Rattle.memory.specs.Held.{SoundAt};
 ghost use Rattle.memory.specs.Room.{Readable};
 ghost use Rattle.memory.specs.Tests.{isListed};
@@ -43,12 +43,12 @@ fn next_listed(m: &[u8], h: Head, i: usize) -> usize
     j
 }
 
-// Limits on those of the first d costs that are in the set.
-fn chosen_limits(d: usize, set: usize, q: [u16; COSTS]) -> [u16; COSTS]
+// Bounds on those of the first d costs that are in the set.
+fn chosen_bounds(d: usize, set: usize, q: [u16; COSTS]) -> [u16; COSTS]
     requires { ⌜ d ≤ rowCosts ⌝ }
-    ensures { λ r. ⌜ Lanes (limit (isChosen (set % 2 ^ d)) q) r ⌝ }
+    ensures { λ r. ⌜ Lanes (bound (isChosen (set % 2 ^ d)) q) r ⌝ }
 {
-    limits_in(set % (1usize << d), q)
+    bounds_in(set % (1usize << d), q)
 }
 
 // The next place from j on with a listed move that may beat these costs: on chosen costs one that
@@ -68,7 +68,7 @@ fn candidate(
     match rule {
         Rule::OnK(_) => next_listed(m, h, j),
         Rule::Chosen(set) => {
-            let q = chosen_limits(h.dimension, set, costs);
+            let q = chosen_bounds(h.dimension, set, costs);
             next_within(m, h, j, h.count, Among::Listed, corners, q)
         }
     }

@@ -9,8 +9,8 @@ use search::CELLS;
 use search::COLUMNS;
 use search::RUN;
 use search::RUNS;
+use search::bounds_at;
 use search::fill;
-use search::limits_at;
 use search::looks_at;
 use search::put;
 use search::run_end;
@@ -46,7 +46,7 @@ fn next_chunk(m: &[u8], h: Head, from: usize, columns: &mut [u16; CELLS]) -> Chu
     let mut i = from;
     while (i < n) & (count < COLUMNS) {
         if looks_at(m, h, i, Among::Listed) {
-            let q = limits_at(m, h, i);
+            let q = bounds_at(m, h, i);
             if (0 < count) & !exceeds(COSTS, low, q) {
                 if some_fits(columns, h.dimension, q) {
                     return Chunk {
@@ -93,7 +93,7 @@ fn run_unhidden(
     let mut j = i;
     while j < to {
         if looks_at(m, h, j, Among::Listed) {
-            let q = limits_at(m, h, j);
+            let q = bounds_at(m, h, j);
             if !exceeds(COSTS, low, q) {
                 if some_fits(columns, h.dimension, q) {
                     return false;
@@ -153,7 +153,7 @@ pub(crate) fn listed_right(
             return false;
         }
         if chunk.to < n {
-            // Where one chunk has all listed moves, no run is asked for its greatest limits.
+            // Where one chunk has all listed moves, no run is asked for its greatest bounds.
             if from == 0 {
                 put_highs(m, h, highs);
             }

@@ -4,7 +4,7 @@ use memory::Head;
 use search::Among;
 use search::RUN;
 use search::RUNS;
-use search::limits_at;
+use search::bounds_at;
 use search::looks_at;
 use search::run_end;
 use zorder::COSTS;
@@ -23,7 +23,7 @@ fn run_high(m: &[u8], h: Head, i: usize, to: usize, high: [u16; COSTS]) -> [u16;
     let mut j = i;
     while j < to {
         if looks_at(m, h, j, Among::Listed) {
-            let higher = greatest(top, limits_at(m, h, j));
+            let higher = greatest(top, bounds_at(m, h, j));
             top = higher;
         }
         j += 1;

@@ -1,4 +1,4 @@
--- The end of every change: rows that hold the new tree, marks that say who is in its list, and then the count.
+-- The end of every change: rows that hold the new tree, flags that say who is in its list, and then the count.
 use Prim.Native.Nat.{ℕ, _<_}
 use mathlib.Core.Bool.{not}
 use mathlib.Core.List.{List}
@@ -16,25 +16,25 @@ use Rattle.model.specs.Changing.{changeTree}
 use Rattle.model.specs.Laws.Basics.{each-mono, select-ext}
 use Rattle.line.specs.Line.{movesIn, lineOf}
 use Rattle.line.specs.Laws.Line.{moves-line}
-use Rattle.promises.specs.Layout.{sizeIn, dimensionIn, countIn, markIn, moveIn, placedIn, lineFrom, lineIn, keptFrom, keptIn}
+use Rattle.promises.specs.Layout.{sizeIn, dimensionIn, countIn, flagIn, moveIn, placedIn, lineFrom, lineIn, keptFrom, keptIn}
 use Rattle.promises.specs.Sound.{Stands}
 use Rattle.promises.specs.Laws.Tab.{each-tab}
 use Rattle.memory.specs.Held.{SoundRows}
 use Rattle.memory.specs.Stores.{setCount}
 use Rattle.memory.specs.Frame.{DifferWithin, MovesOnly}
 use Rattle.memory.specs.Laws.Written.{only-trans, count-written, size-left, dimension-left, format-left}
-use Rattle.memory.specs.Laws.Fields.{number-over-head, mark-over-head}
+use Rattle.memory.specs.Laws.Fields.{number-over-head, flag-over-head}
 use Rattle.memory.specs.Laws.Stored.{setCount-head, count-setCount, size-setCount, dimension-setCount, format-setCount}
 use Rattle.memory.specs.Laws.Lines.{lineIn-line, line-over-head}
 use Rattle.tree.specs.Hold.{RowsHold}
 use Rattle.planning.specs.Change.{Moved}
 
--- The mark of each of the moves says whether it is in their list.
-abbrev pub MarksRight : ℕ → ℕ → List ℕ → List Move → Type 0
-MarksRight c d m ms = Each (λ x. eqb (markIn c m (x .number)) 1 ≡ not (hidden d ms x)) ms
+-- The flag of each of the moves says whether it is in their list.
+abbrev pub FlagsRight : ℕ → ℕ → List ℕ → List Move → Type 0
+FlagsRight c d m ms = Each (λ x. eqb (flagIn c m (x .number)) 1 ≡ not (hidden d ms x)) ms
 
 module _ {c d n k : ℕ} {m m₁ : List ℕ} {t : Tree} (s : SoundRows c d n m) (f : MovesOnly c m m₁) (h : RowsHold c d k m₁ t)
-    (marks : MarksRight c d m₁ (movesOf t)) where
+    (flags : FlagsRight c d m₁ (movesOf t)) where
   abbrev m' : List ℕ
   m' = setCount k m₁
 
@@ -69,9 +69,9 @@ module _ {c d n k : ℕ} {m m₁ : List ℕ} {t : Tree} (s : SoundRows c d n m) 
   unfolding keptIn keptFrom skyline
   kept =
       ap₂ (λ (v : ℕ) (ms : List Move). keptFrom v m' ms) size moves
-      ∙ select-ext (λ x. eqb (markIn c m' (x .number)) 1) (λ x. not (hidden d (movesOf t) x)) (movesOf t)
-      (each-mono (λ x. eqb (markIn c m₁ (x .number)) 1 ≡ not (hidden d (movesOf t) x)) (λ x. eqb (markIn c m' (x .number)) 1 ≡ not (hidden d (movesOf t) x)) (movesOf t)
-      (λ x e. ap (λ (v : ℕ). eqb v 1) (mark-over-head c head (x .number)) ∙ e) marks)
+      ∙ select-ext (λ x. eqb (flagIn c m' (x .number)) 1) (λ x. not (hidden d (movesOf t) x)) (movesOf t)
+      (each-mono (λ x. eqb (flagIn c m₁ (x .number)) 1 ≡ not (hidden d (movesOf t) x)) (λ x. eqb (flagIn c m' (x .number)) 1 ≡ not (hidden d (movesOf t) x)) (movesOf t)
+      (λ x e. ap (λ (v : ℕ). eqb v 1) (flag-over-head c head (x .number)) ∙ e) flags)
       ∙ ap (λ (v : ℕ). skyline v (movesOf t)) (sym dimension)
 
   stands : Stands m' t
@@ -95,12 +95,12 @@ module _ {c d n k : ℕ} {m m₁ : List ℕ} {t : Tree} (s : SoundRows c d n m) 
 -- The same for a change of the board that sound memory holds.
 pub made : {c d n k : ℕ} {m m₁ m' : List ℕ} (s : SoundRows c d n m) (x : Change) (t : Tree) → MovesOnly c m m₁ → RowsHold c d k m₁ (changeTree d x t)
     → movesOf (changeTree d x t) ≡ changedMoves d x (movesIn (lineFrom c d n m))
-    → MarksRight c d m₁ (changedMoves d x (movesIn (lineFrom c d n m)))
+    → FlagsRight c d m₁ (changedMoves d x (movesIn (lineFrom c d n m)))
     → m' ≡ setCount k m₁
     → Moved x m m' t
 unfolding lineIn
-made {c} {d} {n} {k} {m} {m₁} s x t f h e marks is =
-    let right = subst (MarksRight c d m₁) (sym e) marks in
+made {c} {d} {n} {k} {m} {m₁} s x t f h e flags is =
+    let right = subst (FlagsRight c d m₁) (sym e) flags in
     subst (λ (w : List ℕ). Moved x m w t) (sym is)
     (record {
       stands = subst (λ (d : ℕ). Stands (setCount k m₁) (changeTree d x t)) (s .dimension) (stands s f h right);

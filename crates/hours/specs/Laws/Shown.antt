@@ -23,12 +23,12 @@ use Rattle.line.specs.Line.{movesIn}
 use Rattle.promises.specs.Layout.{numberIn, blockIn, costsIn, moveIn, lineFrom, lineIn, boardIn}
 use Rattle.promises.specs.Run.{Bytes}
 use Rattle.memory.specs.Held.{SoundRows}
-use Rattle.search.specs.Search.{inBlocks, looks, looksAt, seen, seenAt, limitsAt, fits, Some}
+use Rattle.search.specs.Search.{inBlocks, looks, looksAt, seen, seenAt, boundsAt, fits, Some}
 use Rattle.memory.specs.Tests.{anyTo, isListed}
 use Rattle.memory.specs.Laws.Blocks.{block-at, blocks-right}
 use Rattle.memory.specs.Laws.Costs.{row-length, words-first}
 use Rattle.memory.specs.Laws.Held.{held-dimension, held-ordered, held-listed}
-use Rattle.search.specs.Laws.Search.{limits-lanes}
+use Rattle.search.specs.Laws.Search.{bounds-lanes}
 use Rattle.search.specs.Laws.Hiders.{some-any, some-ext, words-within}
 use Rattle.memory.specs.Laws.Lines.{movesIn-line}
 use Rattle.memory.specs.Laws.Places.{any-tab, anyTo-past, anyTo-mono}
@@ -49,12 +49,12 @@ module _ (c d n : ℕ) (m : List ℕ) (s : SoundRows c d n m) (b : Bytes m) (blo
   hidesAt j = openAt j && hides d (moveIn c d m j) (moveIn c d m i)
 
   -- An earlier move hides if it is nowhere greater.
-  fits-hides : (j : ℕ) → j < i → fits (InBlocks blocks) c m (limitsAt c d m i) j ≡ hidesAt j
+  fits-hides : (j : ℕ) → j < i → fits (InBlocks blocks) c m (boundsAt c d m i) j ≡ hidesAt j
   unfolding fits looksAt looks seenAt seen moveIn
   fits-hides j k =
       let few = held-dimension c d n m s in
       ap (λ (t : Bool). openAt j && t)
-      (words-within c d m few b (numberIn c m j) (costsIn c rowCosts m (numberIn c m i)) (limitsAt c d m i) (row-length c rowCosts m (numberIn c m i) (omega arith)) (limits-lanes c d m i)
+      (words-within c d m few b (numberIn c m j) (costsIn c rowCosts m (numberIn c m i)) (boundsAt c d m i) (row-length c rowCosts m (numberIn c m i) (omega arith)) (bounds-lanes c d m i)
       ∙ ap (nowhereGreater (take d (moveIn c d m j .costs))) (words-first c m (numberIn c m i) d few)
       ∙ sym (earlier-hides d (moveIn c d m j) (moveIn c d m i) (held-ordered c d n m s j i k l) (row-length c d m (numberIn c m j) few ∙ sym (row-length c d m (numberIn c m i) few))))
 
@@ -83,7 +83,7 @@ module _ (c d n : ℕ) (m : List ℕ) (s : SoundRows c d n m) (b : Bytes m) (blo
       go (yes k) = ne-eqb r i (λ e. omega arith) ∙ ap not (sym (lt-ltb r i k))
       go (no k) = eq-eqb r i (omega arith) ∙ ap not (sym (le-ltb r i (omega arith)))
 
-  pub open-shown : (r : ℕ) → Some (fits (InBlocks blocks) c m (limitsAt c d m i)) i r → inBlocks blocks c m (numberIn c m i) ≡ true → eqb r i ≡ shown c d n blocks m (moveIn c d m i)
+  pub open-shown : (r : ℕ) → Some (fits (InBlocks blocks) c m (boundsAt c d m i)) i r → inBlocks blocks c m (numberIn c m i) ≡ true → eqb r i ≡ shown c d n blocks m (moveIn c d m i)
   unfolding shown moveIn
   open-shown r found here =
       own-found r (found .to)

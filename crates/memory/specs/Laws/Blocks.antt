@@ -19,7 +19,7 @@ use Rattle.model.specs.Laws.Bool.{byCases, both-ways}
 use Rattle.model.specs.Laws.Basics.{any-witness, each-mem, select-ext}
 use Rattle.model.specs.Laws.Blocks.{blocks-ext}
 use Rattle.line.specs.Line.{movesIn}
-use Rattle.promises.specs.Layout.{blockPlace, sizeIn, dimensionIn, formatIn, countIn, numberIn, markIn, blockIn, moveIn, lineFrom, lineIn, keptFrom, keptIn}
+use Rattle.promises.specs.Layout.{blockPlace, sizeIn, dimensionIn, formatIn, countIn, numberIn, flagIn, blockIn, moveIn, lineFrom, lineIn, keptFrom, keptIn}
 use Rattle.promises.specs.Sound.{Stands}
 use Rattle.promises.specs.Laws.Tab.{each-tab}
 use Rattle.memory.specs.Room.{Room, Numbers}
@@ -27,7 +27,7 @@ use Rattle.memory.specs.Stores.{setBlock}
 use Rattle.memory.specs.Frame.{BlocksOnly}
 use Rattle.memory.specs.Laws.Places.{tab-each, any-tab, anyTo-found}
 use Rattle.memory.specs.Laws.Frames.{byte-across, word-across, byte-frame, frame-widen}
-use Rattle.memory.specs.Laws.Fields.{number-over, height-over, mark-over, costs-over}
+use Rattle.memory.specs.Laws.Fields.{number-over, height-over, flag-over, costs-over}
 use Rattle.memory.specs.Laws.Lines.{movesIn-line, line-ext, each-numbers}
 
 -- ---- by places
@@ -130,13 +130,13 @@ module _ (m m' : List ℕ) (f : BlocksOnly (sizeIn m) m m') where
         ∙ select-ext listed' listed (movesIn (lineFrom c (dimensionIn m) (countIn m) m))
         (subst (Each (λ x. listed' x ≡ listed x)) (sym (movesIn-line c (dimensionIn m) (countIn m) m))
         (each-tab (moveIn c (dimensionIn m) m) (λ x. listed' x ≡ listed x) (countIn m)
-        (λ i l. ap (λ (v : ℕ). eqb v 1) (mark-over f c (numberIn c m i) (inl (omega (arith, numbers i l)))))))
+        (λ i l. ap (λ (v : ℕ). eqb v 1) (flag-over f c (numberIn c m i) (inl (omega (arith, numbers i l)))))))
       where
         listed' : Move → Bool
-        listed' x = eqb (markIn c m' (x .number)) 1
+        listed' x = eqb (flagIn c m' (x .number)) 1
 
         listed : Move → Bool
-        listed x = eqb (markIn c m (x .number)) 1
+        listed x = eqb (flagIn c m (x .number)) 1
 
         numbers : Numbers c (countIn m) m
         numbers = each-numbers c (dimensionIn m) (countIn m) m (s .numbers)

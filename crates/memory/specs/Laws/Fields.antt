@@ -6,8 +6,8 @@ use mathlib.Core.Logic.{inl, inr, ⊎-map}
 use mathlib.Core.Path.{_≡_, ap}
 use native.Mathlib.Omega.{arith}
 use Rattle.zorder.specs.Address.{rowCosts, padded}
-use Rattle.promises.specs.Layout.{numberPlace, heightPlace, markPlace, costPlace, workPlace, numberIn, heightIn, markIn, costIn, workIn, costsIn}
-use Rattle.memory.specs.Frame.{DifferWithin, RowsOnly, MarksOnly, CostsOnly, WorkOnly}
+use Rattle.promises.specs.Layout.{numberPlace, heightPlace, flagPlace, costPlace, workPlace, numberIn, heightIn, flagIn, costIn, workIn, costsIn}
+use Rattle.memory.specs.Frame.{DifferWithin, RowsOnly, FlagsOnly, CostsOnly, WorkOnly}
 use Rattle.memory.specs.Laws.Frames.{Apart, byte-across, word-across}
 use Rattle.promises.specs.Laws.Tab.{tab-ext}
 
@@ -23,9 +23,9 @@ module _ {a b : ℕ} {m m' : List ℕ} (f : DifferWithin a b m m') where
     unfolding heightIn
     height-over i = byte-across f (heightPlace c i)
 
-    pub mark-over : (n : ℕ) → Apart a b (markPlace c n) (markPlace c n + 1) → markIn c m' n ≡ markIn c m n
-    unfolding markIn
-    mark-over n = byte-across f (markPlace c n)
+    pub flag-over : (n : ℕ) → Apart a b (flagPlace c n) (flagPlace c n + 1) → flagIn c m' n ≡ flagIn c m n
+    unfolding flagIn
+    flag-over n = byte-across f (flagPlace c n)
 
     pub costs-over : (d n : ℕ) → Apart a b (costPlace c n 0) (costPlace c n d) → costsIn c d m' n ≡ costsIn c d m n
     unfolding costsIn costIn
@@ -47,15 +47,15 @@ module _ (c : ℕ) {m m' : List ℕ} (f : DifferWithin 0 16 m m') where
   pub height-over-head : (i : ℕ) → heightIn c m' i ≡ heightIn c m i
   height-over-head i = height-over f c i (inr (omega arith))
 
-  pub mark-over-head : (n : ℕ) → markIn c m' n ≡ markIn c m n
-  mark-over-head n = mark-over f c n (inr (omega arith))
+  pub flag-over-head : (n : ℕ) → flagIn c m' n ≡ flagIn c m n
+  flag-over-head n = flag-over f c n (inr (omega arith))
 
   pub costs-over-head : (d n : ℕ) → costsIn c d m' n ≡ costsIn c d m n
   costs-over-head d n = costs-over f c d n (inr (omega arith))
 
 module _ (c : ℕ) {m m' : List ℕ} (f : RowsOnly c m m') where
-  pub mark-over-rows : (n : ℕ) → markIn c m' n ≡ markIn c m n
-  mark-over-rows n = mark-over f c n (inr (omega arith))
+  pub flag-over-rows : (n : ℕ) → flagIn c m' n ≡ flagIn c m n
+  flag-over-rows n = flag-over f c n (inr (omega arith))
 
   pub costs-over-rows : (d n : ℕ) → costsIn c d m' n ≡ costsIn c d m n
   costs-over-rows d n = costs-over f c d n (inr (omega arith))
@@ -63,15 +63,15 @@ module _ (c : ℕ) {m m' : List ℕ} (f : RowsOnly c m m') where
   pub work-over-rows : (i : ℕ) → workIn c m' i ≡ workIn c m i
   work-over-rows i = work-over f c i (inr (omega arith))
 
-module _ (c : ℕ) {m m' : List ℕ} (f : MarksOnly c m m') where
-  pub number-over-marks : (i : ℕ) → i < c → numberIn c m' i ≡ numberIn c m i
-  number-over-marks i h = number-over f c i (inl (omega arith))
+module _ (c : ℕ) {m m' : List ℕ} (f : FlagsOnly c m m') where
+  pub number-over-flags : (i : ℕ) → i < c → numberIn c m' i ≡ numberIn c m i
+  number-over-flags i h = number-over f c i (inl (omega arith))
 
-  pub height-over-marks : (i : ℕ) → i < c → heightIn c m' i ≡ heightIn c m i
-  height-over-marks i h = height-over f c i (inl (omega arith))
+  pub height-over-flags : (i : ℕ) → i < c → heightIn c m' i ≡ heightIn c m i
+  height-over-flags i h = height-over f c i (inl (omega arith))
 
-  pub costs-over-marks : (d n : ℕ) → costsIn c d m' n ≡ costsIn c d m n
-  costs-over-marks d n = costs-over f c d n (inr (omega arith))
+  pub costs-over-flags : (d n : ℕ) → costsIn c d m' n ≡ costsIn c d m n
+  costs-over-flags d n = costs-over f c d n (inr (omega arith))
 
 module _ (c : ℕ) {m m' : List ℕ} (f : CostsOnly c m m') where
   pub number-over-costs : (i : ℕ) → i < c → numberIn c m' i ≡ numberIn c m i
@@ -80,8 +80,8 @@ module _ (c : ℕ) {m m' : List ℕ} (f : CostsOnly c m m') where
   pub height-over-costs : (i : ℕ) → i < c → heightIn c m' i ≡ heightIn c m i
   height-over-costs i h = height-over f c i (inl (omega arith))
 
-  pub mark-over-costs : (n : ℕ) → n < c → markIn c m' n ≡ markIn c m n
-  mark-over-costs n h = mark-over f c n (inl (omega arith))
+  pub flag-over-costs : (n : ℕ) → n < c → flagIn c m' n ≡ flagIn c m n
+  flag-over-costs n h = flag-over f c n (inl (omega arith))
 
 module _ (c : ℕ) {m m' : List ℕ} (f : WorkOnly c m m') where
   pub number-over-work : (i : ℕ) → i < c → numberIn c m' i ≡ numberIn c m i
@@ -90,8 +90,8 @@ module _ (c : ℕ) {m m' : List ℕ} (f : WorkOnly c m m') where
   pub height-over-work : (i : ℕ) → i < c → heightIn c m' i ≡ heightIn c m i
   height-over-work i h = height-over f c i (inl (omega arith))
 
-  pub mark-over-work : (n : ℕ) → n < c → markIn c m' n ≡ markIn c m n
-  mark-over-work n h = mark-over f c n (inl (omega arith))
+  pub flag-over-work : (n : ℕ) → n < c → flagIn c m' n ≡ flagIn c m n
+  flag-over-work n h = flag-over f c n (inl (omega arith))
 
   pub costs-over-work : (d n : ℕ) → d ≤ rowCosts → n < c → costsIn c d m' n ≡ costsIn c d m n
   costs-over-work d n l h = costs-over f c d n (inl (omega arith))

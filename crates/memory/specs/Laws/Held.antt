@@ -1,4 +1,4 @@
--- What sound memory gives of its rows, its marks and its moves, for its own c, d and n.
+-- What sound memory gives of its rows, its flags and its moves, for its own c, d and n.
 use Prim.Native.Nat.{ℕ, zero, suc, _≤_, _<_}
 use mathlib.Core.Bool.{Bool, true, false, not, _&&_}
 use mathlib.Core.List.{List, [], _∷_, map}
@@ -22,7 +22,7 @@ use Rattle.model.specs.Laws.Hiding.{dominates-hides, move-hiding}
 use Rattle.model.specs.Laws.Basics.{mem-at, select-same, each-mem, any-false, any-select}
 use Rattle.line.specs.Line.{Placed, lineOf, movesIn}
 use Rattle.line.specs.Laws.Line.{moves-line}
-use Rattle.promises.specs.Layout.{sizeIn, dimensionIn, countIn, numberIn, markIn, moveIn, placedIn, tab, lineFrom, lineIn, boardIn, keptFrom, keptIn}
+use Rattle.promises.specs.Layout.{sizeIn, dimensionIn, countIn, numberIn, flagIn, moveIn, placedIn, tab, lineFrom, lineIn, boardIn, keptFrom, keptIn}
 use Rattle.promises.specs.Sound.{Stands, Sound}
 use Rattle.promises.specs.Run.{Bytes}
 use Rattle.promises.specs.Laws.Stands.{stands-dimension, stands-moves, stands-order, stands-fit, stands-once}
@@ -106,16 +106,16 @@ module _ (c d n : ℕ) (m : List ℕ) (s : SoundRows c d n m) where
       ∙ any-tab (moveIn c d m) (λ x. listed x && p x) n
     where
       listed : Move → Bool
-      listed x = eqb (markIn c m (x .number)) 1
+      listed x = eqb (flagIn c m (x .number)) 1
 
-  -- The marks say who is in the list.
+  -- The flags say who is in the list.
   pub held-listed : (i : ℕ) → i < n → isListed c m i ≡ not (hidden d (movesIn (lineFrom c d n m)) (moveIn c d m i))
   unfolding isListed keptFrom skyline moveIn
   held-listed i h =
       tab-each (moveIn c d m) Right n i h (subst (Each Right) (movesIn-line c d n m) (select-same _ _ (movesIn (lineFrom c d n m)) held-kept))
     where
       Right : Move → Type 0
-      Right x = eqb (markIn c m (x .number)) 1 ≡ not (hidden d (movesIn (lineFrom c d n m)) x)
+      Right x = eqb (flagIn c m (x .number)) 1 ≡ not (hidden d (movesIn (lineFrom c d n m)) x)
 
   module _ (b : Bytes m) where
     pub held-fit : Each (Fit c d) (movesIn (lineFrom c d n m))

@@ -13,12 +13,12 @@ use lib.Seq.{getD-set-same, getD-take, length-take-le}
 use Rattle.zorder.specs.Address.{rowCosts, padded}
 use Rattle.zorder.specs.Between.{RowCosts}
 use Rattle.zorder.specs.Laws.Between.{row-padded}
-use Rattle.promises.specs.Layout.{setWord, formatNumber, numberPlace, heightPlace, markPlace, costPlace, workPlace, sizeIn, dimensionIn, formatIn, countIn, numberIn, heightIn, markIn, costIn, workIn, costsIn}
+use Rattle.promises.specs.Layout.{setWord, formatNumber, numberPlace, heightPlace, flagPlace, costPlace, workPlace, sizeIn, dimensionIn, formatIn, countIn, numberIn, heightIn, flagIn, costIn, workIn, costsIn}
 use Rattle.memory.specs.Room.{Room}
 use Rattle.memory.specs.Stores.{setHead, setCount, setNumber, setHeight, setListed, setCostsFrom, setCosts, setWork}
-use Rattle.memory.specs.Frame.{DifferWithin, RowsOnly, MarksOnly, CostsOnly, WorkOnly}
+use Rattle.memory.specs.Frame.{DifferWithin, RowsOnly, FlagsOnly, CostsOnly, WorkOnly}
 use Rattle.memory.specs.Laws.Frames.{frame-refl, frame-trans, frame-widen, byte-frame, word-frame, byte-across, word-across, word-stored, word-length}
-use Rattle.memory.specs.Laws.Fields.{number-over, height-over, mark-over, costs-over, work-over}
+use Rattle.memory.specs.Laws.Fields.{number-over, height-over, flag-over, costs-over, work-over}
 use Rattle.promises.specs.Laws.Tab.{tab-of}
 
 apart : {i j : ℕ} → j ≢ i → (j < i) ⊎ (i < j)
@@ -53,9 +53,9 @@ module _ (c i : ℕ) (m : List ℕ) where
   unfolding setHeight
   setHeight-frame h = byte-frame (heightPlace c i) h m
 
-  pub setListed-frame : (b : Bool) → DifferWithin (markPlace c i) (markPlace c i + 1) m (setListed c i b m)
+  pub setListed-frame : (b : Bool) → DifferWithin (flagPlace c i) (flagPlace c i + 1) m (setListed c i b m)
   unfolding setListed
-  setListed-frame b = byte-frame (markPlace c i) (cond b 1 0) m
+  setListed-frame b = byte-frame (flagPlace c i) (cond b 1 0) m
 
   pub setWork-frame : (v : ℕ) → DifferWithin (workPlace c i) (workPlace c i + 2) m (setWork c i v m)
   unfolding setWork
@@ -80,8 +80,8 @@ module _ (c i : ℕ) (m : List ℕ) (h : i < c) where
   pub setHeight-rows : (k : ℕ) → RowsOnly c m (setHeight c i k m)
   setHeight-rows k = frame-widen (omega arith) (omega arith) (setHeight-frame c i m k)
 
-  pub setListed-marks : (b : Bool) → MarksOnly c m (setListed c i b m)
-  setListed-marks b = frame-widen (omega arith) (omega arith) (setListed-frame c i m b)
+  pub setListed-flags : (b : Bool) → FlagsOnly c m (setListed c i b m)
+  setListed-flags b = frame-widen (omega arith) (omega arith) (setListed-frame c i m b)
 
   pub setCosts-costs : (costs : List ℕ) → length costs ≤ rowCosts → CostsOnly c m (setCosts c i costs m)
   setCosts-costs costs few = frame-widen (omega arith) (omega arith) (setCosts-frame c i costs m)
@@ -151,7 +151,7 @@ module _ (n : ℕ) (m : List ℕ) where
   unfolding formatIn
   format-setCount = byte-across (setCount-frame n m) 3 (inl (omega arith))
 
--- ---- rows, marks and work by index
+-- ---- rows, flags and work by index
 
 module _ (c i : ℕ) (m : List ℕ) where
   module _ (room : Room c m) (h : i < c) where
@@ -163,16 +163,16 @@ module _ (c i : ℕ) (m : List ℕ) where
     unfolding heightIn setHeight
     height-setHeight k = getD-set-same m (heightPlace c i) k 0 (omega arith)
 
-    pub mark-setListed : (b : Bool) → markIn c (setListed c i b m) i ≡ cond b 1 0
-    unfolding markIn setListed
-    mark-setListed b = getD-set-same m (markPlace c i) (cond b 1 0) 0 (omega arith)
+    pub flag-setListed : (b : Bool) → flagIn c (setListed c i b m) i ≡ cond b 1 0
+    unfolding flagIn setListed
+    flag-setListed b = getD-set-same m (flagPlace c i) (cond b 1 0) 0 (omega arith)
 
     pub work-setWork : (v : ℕ) → workIn c (setWork c i v m) i ≡ v
     unfolding workIn setWork
     work-setWork v = word-stored (workPlace c i) v m (omega arith)
 
-    pub listed-setListed : (b : Bool) → eqb (markIn c (setListed c i b m) i) 1 ≡ b
-    listed-setListed b = ap (λ (n : ℕ). eqb n 1) (mark-setListed b) ∙ one-or-zero b
+    pub listed-setListed : (b : Bool) → eqb (flagIn c (setListed c i b m) i) 1 ≡ b
+    listed-setListed b = ap (λ (n : ℕ). eqb n 1) (flag-setListed b) ∙ one-or-zero b
       where
         one-or-zero : (b : Bool) → eqb (cond b 1 0) 1 ≡ b
         one-or-zero true = refl
@@ -185,8 +185,8 @@ module _ (c i : ℕ) (m : List ℕ) where
     pub height-setHeight-other : (k : ℕ) → heightIn c (setHeight c i k m) j ≡ heightIn c m j
     height-setHeight-other k = height-over (setHeight-frame c i m k) c j (⊎-map (λ l. omega arith) (λ l. omega arith) (apart ne))
 
-    pub mark-setListed-other : (b : Bool) → markIn c (setListed c i b m) j ≡ markIn c m j
-    mark-setListed-other b = mark-over (setListed-frame c i m b) c j (⊎-map (λ l. omega arith) (λ l. omega arith) (apart ne))
+    pub flag-setListed-other : (b : Bool) → flagIn c (setListed c i b m) j ≡ flagIn c m j
+    flag-setListed-other b = flag-over (setListed-frame c i m b) c j (⊎-map (λ l. omega arith) (λ l. omega arith) (apart ne))
 
     pub work-setWork-other : (v : ℕ) → workIn c (setWork c i v m) j ≡ workIn c m j
     work-setWork-other v = work-over (setWork-frame c i m v) c j (⊎-map (λ l. omega arith) (λ l. omega arith) (apart ne))

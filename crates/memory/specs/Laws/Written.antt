@@ -13,7 +13,7 @@ use Rattle.promises.specs.Written.{inArea, movesWrite, loadWrites, Only}
 use Rattle.promises.specs.Laws.Written.{in-area, writes-count, writes-rows, writes-costs, leaves-head, leaves-blocks}
 use Rattle.memory.specs.Room.{Room}
 use Rattle.memory.specs.Stores.{setHead, setCount}
-use Rattle.memory.specs.Frame.{DifferWithin, MovesOnly, RowsOnly, MarksOnly, BlocksOnly, CostsOnly, WorkOnly}
+use Rattle.memory.specs.Frame.{DifferWithin, MovesOnly, RowsOnly, FlagsOnly, BlocksOnly, CostsOnly, WorkOnly}
 use Rattle.memory.specs.Laws.Frames.{byte-frame, word-frame}
 
 -- ---- frames over a test
@@ -42,8 +42,8 @@ module _ (c : ℕ) {m m' : List ℕ} where
   pub rows-written : RowsOnly c m m' → MovesOnly c m m'
   rows-written = range-only (movesWrite c) (λ i l u. writes-rows c i l (omega arith))
 
-  pub marks-written : MarksOnly c m m' → MovesOnly c m m'
-  marks-written = range-only (movesWrite c) (λ i l u. writes-rows c i (omega arith) u)
+  pub flags-written : FlagsOnly c m m' → MovesOnly c m m'
+  flags-written = range-only (movesWrite c) (λ i l u. writes-rows c i (omega arith) u)
 
   pub costs-written : CostsOnly c m m' → MovesOnly c m m'
   costs-written = range-only (movesWrite c) (λ i l u. writes-costs c i l (omega arith))

@@ -107,7 +107,7 @@ module _ (c d n : ℕ) (k : Exchange) (m : List ℕ) (s : SoundRows c d n m) (b 
   unfolding movesAfter insert
   places =
       record {
-        marks = λ i h. held-listed c d n m s i (place-below n h) ∙ ap (λ (ms : List Move). not (hidden d ms (moveIn c d m i))) (line-places c d n m);
+        flags = λ i h. held-listed c d n m s i (place-below n h) ∙ ap (λ (ms : List Move). not (hidden d ms (moveIn c d m i))) (line-places c d n m);
         there = λ i h e. testCases (λ (t : Bool). List·Memᴰ (moveIn c d m i) (cond t (insertBy (moveBefore d) x rest) rest)) (k .comes)
             (λ _. mem-insert-old (moveBefore d) x (in-rest i h e)) (λ _. in-rest i h e);
         away = λ i h e. testCases (λ (t : Bool). k .comes ≡ t → ¬ List·Memᴰ (moveIn c d m i) (cond t (insertBy (moveBefore d) x rest) rest)) (k .comes)

@@ -12,7 +12,7 @@ use Rattle.model.specs.Basics.{count}
 use Rattle.model.specs.Dominance.{somewhereLess, better, dominates}
 use Rattle.model.specs.Lists.{dominators}
 use Rattle.model.specs.Laws.Bool.{byCases, both-ways, and-left}
-use Rattle.dominance.specs.Lanes.{Lanes, limit, isFirst}
+use Rattle.dominance.specs.Lanes.{Lanes, bound, isFirst}
 use Rattle.line.specs.Line.{movesIn}
 use Rattle.promises.specs.Layout.{numberIn, moveIn, lineFrom}
 use Rattle.promises.specs.Run.{Bytes}
@@ -30,7 +30,7 @@ use Rattle.query.specs.Band.{inBand, dominatesPlace, dominatorsTo}
 
 -- ---- what the search finds
 
-module _ (c d : ℕ) (m : List ℕ) (few : d ≤ rowCosts) (b : Bytes m) (i : ℕ) (q : List ℕ) (limits : Lanes (limit (isFirst d) (moveIn c d m i .costs)) q) where
+module _ (c d : ℕ) (m : List ℕ) (few : d ≤ rowCosts) (b : Bytes m) (i : ℕ) (q : List ℕ) (bounds : Lanes (bound (isFirst d) (moveIn c d m i .costs)) q) where
   abbrev lessAt : ℕ → Bool
   lessAt j = somewhereLess (take d (moveIn c d m j .costs)) (take d (moveIn c d m i .costs))
 
@@ -42,7 +42,7 @@ module _ (c d : ℕ) (m : List ℕ) (few : d ≤ rowCosts) (b : Bytes m) (i : �
   unfolding dominates better fits looksAt looks seenAt seen moveIn
   fits-dominates j =
       ap (λ (t : Bool). t && lessAt j)
-      (sym (words-within c d m few b (numberIn c m j) (moveIn c d m i .costs) q (row-length c d m (numberIn c m i) few) limits))
+      (sym (words-within c d m few b (numberIn c m j) (moveIn c d m i .costs) q (row-length c d m (numberIn c m i) few) bounds))
 
   dominates-fits : (j : ℕ) → dominatesPlace c d m i j ≡ true → fits All c m q j ≡ true
   dominates-fits j e = and-left (fits All c m q j) (lessAt j) (sym (fits-dominates j) ∙ e)

@@ -18,8 +18,8 @@ use Rattle.model.specs.Laws.Bool.{byCases, both-ways, and-left, and-right, and-
 use Rattle.model.specs.Laws.Basics.{each-mem, mem-select}
 use Rattle.model.specs.Laws.Chosen.{chosen-below, chosen-within}
 use Rattle.line.specs.Line.{movesIn}
-use Rattle.dominance.specs.Lanes.{Lanes, limit, isChosen}
-use Rattle.dominance.specs.Laws.Lanes.{places-limits}
+use Rattle.dominance.specs.Lanes.{Lanes, bound, isChosen}
+use Rattle.dominance.specs.Laws.Lanes.{places-bounds}
 use Rattle.promises.specs.Layout.{numberIn, costsIn, moveIn, lineFrom}
 use Rattle.promises.specs.Run.{Bytes}
 use Rattle.memory.specs.Held.{SoundRows}
@@ -40,16 +40,16 @@ use Rattle.query.specs.declared.rule.Rule.the-variants.{Chosen}
 
 -- ---- chosen costs
 
-module _ (c d : ℕ) (m : List ℕ) (few : d ≤ rowCosts) (b : Bytes m) (set : ℕ) (x q : List ℕ) (limits : Lanes (limit (isChosen (set % 2 ^ d)) x) q) where
+module _ (c d : ℕ) (m : List ℕ) (few : d ≤ rowCosts) (b : Bytes m) (set : ℕ) (x q : List ℕ) (bounds : Lanes (bound (isChosen (set % 2 ^ d)) x) q) where
   chosen : (i : ℕ) → i < rowCosts → isChosen (set % 2 ^ d) i ≡ true → List·Memᴰ i (chosenCosts d set)
   unfolding chosenCosts
   chosen i l t = subst (List·Memᴰ i) (chosen-within rowCosts d set few) (mem-select (isChosen (set % 2 ^ d)) (below-place rowCosts i l) t)
 
-  -- What beats x there is within the limits.
+  -- What beats x there is within the bounds.
   beats-within : (k : ℕ) → dominatesAt (chosenCosts d set) (costsIn c d m k) x ≡ true → nowhereGreater (costsIn c rowCosts m k) q ≡ true
   unfolding dominatesAt better
   beats-within k e =
-      places-limits (isChosen (set % 2 ^ d)) (costsIn c rowCosts m k) x q limits (row-length c rowCosts m k (omega arith)) (words-small c m k b) within
+      places-bounds (isChosen (set % 2 ^ d)) (costsIn c rowCosts m k) x q bounds (row-length c rowCosts m k (omega arith)) (words-small c m k b) within
     where
       s : List ℕ
       s = chosenCosts d set

@@ -14,7 +14,7 @@ use Rattle.model.specs.Laws.Bool.{or-cases}
 use Rattle.model.specs.Laws.Basics.{each-mem, any-witness}
 use Rattle.model.specs.Laws.Tree.{ruled-filled}
 use Rattle.line.specs.Laws.Decode.{line-injective}
-use Rattle.promises.specs.Layout.{numberPlace, heightPlace, markPlace, blockPlace, costPlace, workPlace, sizeIn, dimensionIn, countIn, numberIn, tab, boardIn}
+use Rattle.promises.specs.Layout.{numberPlace, heightPlace, flagPlace, blockPlace, costPlace, workPlace, sizeIn, dimensionIn, countIn, numberIn, tab, boardIn}
 use Rattle.promises.specs.Sound.{Stands, Holding}
 use Rattle.promises.specs.Written.{inArea}
 use Rattle.promises.specs.Used.{headUse, rowsUse, moveUse, inUse, longEnough, SameInUse}
@@ -48,10 +48,10 @@ module _ {m : List ℕ} {t : Tree} (s : Stands m t) (i : ℕ) where
   move-front : (number : ℕ) → number < sizeIn m → moveUse (sizeIn m) (dimensionIn m) i number ≡ true → i < workPlace (sizeIn m) 0
   unfolding moveUse
   move-front number l h =
-      or-cases (eqb i (markPlace (sizeIn m) number) || eqb i (blockPlace (sizeIn m) number)) (inArea (costPlace (sizeIn m) number 0) (costPlace (sizeIn m) number (dimensionIn m)) i) h
+      or-cases (eqb i (flagPlace (sizeIn m) number) || eqb i (blockPlace (sizeIn m) number)) (inArea (costPlace (sizeIn m) number 0) (costPlace (sizeIn m) number (dimensionIn m)) i) h
       (λ k.
-      or-cases (eqb i (markPlace (sizeIn m) number)) (eqb i (blockPlace (sizeIn m) number)) k
-      (λ r. omega (arith, eqb-true i (markPlace (sizeIn m) number) r))
+      or-cases (eqb i (flagPlace (sizeIn m) number)) (eqb i (blockPlace (sizeIn m) number)) k
+      (λ r. omega (arith, eqb-true i (flagPlace (sizeIn m) number) r))
       (λ r. omega (arith, eqb-true i (blockPlace (sizeIn m) number) r)))
       (λ r. omega (arith, area-ends (costPlace (sizeIn m) number 0) (costPlace (sizeIn m) number (dimensionIn m)) i r, stands-dimension m t s))
 

@@ -57,11 +57,11 @@ returns-2 c =
     (listed-at (a .h .size) m (a .i) (number .result) (number .ensures) ∙ sym (c .before .is-listed .ensures) ∙ c .if2 .taken)
     (ap (inBlocks (a .blocks) (a .h .size) m) (sym (number .ensures)) ∙ sym (inside .ensures) ∙ not-false (inside .result) (c .before .before .if1 .left))
 
-limits-at-requires : tie.Need-limits-at-requires
-limits-at-requires c κs = let s = c .before .before .before .before .before .before in (held-readable (s .pre .0 .0), s .pre .0 .1)
+bounds-at-requires : tie.Need-bounds-at-requires
+bounds-at-requires c κs = let s = c .before .before .before .before .before .before in (held-readable (s .pre .0 .0), s .pre .0 .1)
 
--- What was found, once the limits are made.
-module _ (c : tie.After-limits-at) where
+-- What was found, once the bounds are made.
+module _ (c : tie.After-bounds-at) where
   abbrev m : List ℕ
   m = c .before .before .before .before .before .before .before .args .m .now
 
@@ -74,7 +74,7 @@ module _ (c : tie.After-limits-at) where
   abbrev blocks : ℕ
   blocks = c .before .before .before .before .before .before .before .args .blocks
 
-  found : {r : ℕ} → Some (fits (InBlocks blocks) (h .size) m (c .limits-at .result)) i r → eqb r i ≡ shownIn h blocks m (moveHeld h m i)
+  found : {r : ℕ} → Some (fits (InBlocks blocks) (h .size) m (c .bounds-at .result)) i r → eqb r i ≡ shownIn h blocks m (moveHeld h m i)
   unfolding Bytes
   found {r} some =
       let pre = c .before .before .before .before .before .before .before .pre .0 in
@@ -82,7 +82,7 @@ module _ (c : tie.After-limits-at) where
       let inside = c .before .before .before .before .in-blocks in
       let bytes : Bytes m = λ i. omega (arith, c .before .before .before .before .before .before .shared-slice-known .given i) in
       open-shown (h .size) (h .dimension) (h .count) m (pre .0) bytes blocks i (pre .1) r
-      (subst (λ (q : List ℕ). Some (fits (InBlocks blocks) (h .size) m q) i r) (c .limits-at .ensures) some)
+      (subst (λ (q : List ℕ). Some (fits (InBlocks blocks) (h .size) m q) i r) (c .bounds-at .ensures) some)
       (ap (inBlocks blocks (h .size) m) (sym (number .ensures)) ∙ sym (inside .ensures) ∙ not-false (inside .result) (c .before .before .before .if1 .left))
 
 fits-at-requires : tie.Need-fits-at-requires
@@ -108,7 +108,7 @@ hider-of-spec =
     returns
     is-listed-requires
     returns-2
-    limits-at-requires
+    bounds-at-requires
     fits-at-requires
     returns-3
     next-within-requires

@@ -12,7 +12,7 @@ returns : tie.Need-returns
 unfolding setListed
 returns c =
     let a = c .before .before .before .args in
-    ap₂ (set (a .m .now)) (c .mark-place .ensures)
+    ap₂ (set (a .m .now)) (c .flag-place .ensures)
     (⊎-elim
     (λ w. w .1 ∙ ap (λ (b : Bool). cond b 1 0) (sym (w .0 .taken)))
     (λ w. w .1 ∙ ap (λ (b : Bool). cond b 1 0) (sym (w .0 .left)))

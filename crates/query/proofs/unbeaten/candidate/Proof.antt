@@ -23,10 +23,10 @@ returns-2 c =
     let m = a .m .now in
     let set = c .before .before .before .rule .given .0 .0 in
     let next = c .next-within .ensures in
-    let limits = c .before .chosen-limits in
+    let bounds = c .before .chosen-bounds in
     let bytes : Bytes m = λ i. omega (arith, c .before .before .before .before .before .shared-slice-known .given i) in
     subst (λ (rule : Rule). Next (a .h) rule m (a .costs) (a .j) (c .next-within .result)) (sym (c .before .before .before .rule .given .1))
-    (record { from = next .from; to = next .to; passed = passed-beat-not (a .h .size) (a .h .dimension) m (s .pre .0 .0 .dimension) bytes set (a .costs) (limits .result) (limits .ensures) (next .passed) })
+    (record { from = next .from; to = next .to; passed = passed-beat-not (a .h .size) (a .h .dimension) m (s .pre .0 .0 .dimension) bytes set (a .costs) (bounds .result) (bounds .ensures) (next .passed) })
 
 pub candidate-spec : {M : Type 1} → statement M
 candidate-spec =
