@@ -3,6 +3,7 @@
 // promises.
 mod answers;
 mod ranges;
+mod row;
 
 pub use answers::accepts;
 pub use answers::counted;
@@ -11,6 +12,8 @@ pub use answers::number_of;
 pub use ranges::block_bad;
 pub use ranges::memory_need;
 pub use ranges::size_bad;
+pub use row::WORDS;
+pub use row::costs_from;
 
 // How a call ends: accepted, or by which refusal of document 01.
 pub enum Outcome {
