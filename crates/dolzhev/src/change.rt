@@ -17,7 +17,8 @@ ghost use Rattle.dolzhev.specs.Exported.{rowsOf, ChangeExported};
 
 // A change planned, told and carried out.
 pub fn change(memory: &mut [u8], x: Change, rows: &mut [Row]) -> Answer
-    ensures { λ r. ⌜ ChangeExported (callOf x) (now (memory .entry)) (rowsOf (now (rows .entry))) r (now (memory .exit)) (rowsOf (now (rows .exit))) ⌝ }
+    ensures { λ r. ⌜ ChangeExported (callOf x) (now (memory .entry)) (rowsOf (now (rows .entry))) r
+        (now (memory .exit)) (rowsOf (now (rows .exit))) ⌝ }
 {
     let p = plan_change(memory, x, rows.len());
     tell(rows, memory, p);
@@ -27,21 +28,24 @@ pub fn change(memory: &mut [u8], x: Change, rows: &mut [Row]) -> Answer
 
 #[no_mangle]
 pub extern "C" fn dolzhev_enter(memory: &mut [u8], given: Move, rows: &mut [Row]) -> Answer
-    ensures { λ r. ⌜ ChangeExported (spec.entering given) (now (memory .entry)) (rowsOf (now (rows .entry))) r (now (memory .exit)) (rowsOf (now (rows .exit))) ⌝ }
+    ensures { λ r. ⌜ ChangeExported (spec.entering given) (now (memory .entry))
+        (rowsOf (now (rows .entry))) r (now (memory .exit)) (rowsOf (now (rows .exit))) ⌝ }
 {
     change(memory, entering(given), rows)
 }
 
 #[no_mangle]
 pub extern "C" fn dolzhev_withdraw(memory: &mut [u8], number: u16, rows: &mut [Row]) -> Answer
-    ensures { λ r. ⌜ ChangeExported (withdraw number) (now (memory .entry)) (rowsOf (now (rows .entry))) r (now (memory .exit)) (rowsOf (now (rows .exit))) ⌝ }
+    ensures { λ r. ⌜ ChangeExported (withdraw number) (now (memory .entry))
+        (rowsOf (now (rows .entry))) r (now (memory .exit)) (rowsOf (now (rows .exit))) ⌝ }
 {
     change(memory, withdrawing(number), rows)
 }
 
 #[no_mangle]
 pub extern "C" fn dolzhev_recost(memory: &mut [u8], given: Move, rows: &mut [Row]) -> Answer
-    ensures { λ r. ⌜ ChangeExported (spec.recosting given) (now (memory .entry)) (rowsOf (now (rows .entry))) r (now (memory .exit)) (rowsOf (now (rows .exit))) ⌝ }
+    ensures { λ r. ⌜ ChangeExported (spec.recosting given) (now (memory .entry))
+        (rowsOf (now (rows .entry))) r (now (memory .exit)) (rowsOf (now (rows .exit))) ⌝ }
 {
     change(memory, recosting(given), rows)
 }

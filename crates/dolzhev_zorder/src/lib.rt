@@ -5,7 +5,8 @@ use zorder::COSTS;
 use zorder::Verdict;
 ghost use mathlib.Core.Path.{_≡_};
 ghost use Rattle.zorder.specs.Promise.{numberOf};
-ghost use Rattle.dolzhev_zorder.specs.Exported.{AddressExported, CostsExported, RegionExported};
+ghost use Rattle.dolzhev_zorder.specs.Exported.{AddressExported, CostsExported};
+ghost use Rattle.dolzhev_zorder.specs.Exported.{RegionExported};
 
 #[repr(C)]
 pub struct Costs {

@@ -18,7 +18,8 @@ use planning::plan_change;
 use promises::number_of;
 ghost use mathlib.Core.Path.{_≡_};
 ghost use Rattle.frame_lines.specs.Frames as frames;
-ghost use Rattle.framing.specs.Serving.{HoldsState, Lent, CallAsked, Answers, askedBy, Served, ChangeServed};
+ghost use Rattle.framing.specs.Serving.{HoldsState, Lent, CallAsked, Answers, askedBy};
+ghost use Rattle.framing.specs.Serving.{Served, ChangeServed};
 
 // The answer has `answered` bytes, and the board `dimension` costs from now on: 0 before the first
 // accepted load.

@@ -4,7 +4,7 @@ use crate::plan::ChangePlan;
 use promises::counted;
 use rows::Coming;
 use rows::Telling;
-use rows::Told;
+use rows::View;
 use rows::nobody;
 use search::Among;
 ghost use mathlib.Core.Path.{_≡_};
@@ -19,7 +19,7 @@ pub fn left_of(p: ChangePlan) -> Telling
     let head = p.head;
     let numbers = p.upkeep.changed;
     Telling {
-        told: Told {
+        told: View {
             head,
             mark: 1,
             among: Among::Listed,
@@ -40,7 +40,7 @@ pub fn entered_of(p: ChangePlan) -> Telling
     let change = p.change;
     let numbers = p.upkeep.changed;
     Telling {
-        told: Told {
+        told: View {
             head,
             mark: 2,
             among: Among::Hidden,

@@ -1,5 +1,5 @@
-// The answers of the board's calls and the ranges of a board's numbers; in specs/ the layout of the lent
-// memory, when it is sound, what each call promises, and the theorem of demand 3 over these
+// The answers of the board's calls and the ranges of a board's numbers; in specs/ the layout of the
+// lent memory, when it is sound, what each call promises, and the theorem of demand 3 over these
 // promises.
 mod answers;
 mod ranges;
@@ -38,7 +38,7 @@ pub struct Verdict {
 
 // What every call on a board but load answers: the verdict, how many rows it told, and the nodes
 // that it opened.
-pub struct Answer {
+pub struct CallResult {
     pub verdict: Verdict,
     pub count: usize,
     pub opened: usize,

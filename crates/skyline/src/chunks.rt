@@ -86,7 +86,8 @@ fn run_unhidden(
     columns: &[u16; CELLS],
 ) -> bool
     requires { ⌜ Readable h (now m) × (chunk .to ≤ i) × (i ≤ to) × (to ≤ h .count) ⌝ }
-    requires { ⌜ spec.GatheredChunk h (now m) (now columns) chunk × spec.SomeListed h (now m) chunk ⌝ }
+    requires { ⌜ spec.GatheredChunk h (now m) (now columns) chunk × spec.SomeListed h
+        (now m) chunk ⌝ }
     ensures { λ r. ⌜ spec.UnhiddenSaid h (now (m .entry)) (chunk .from) (chunk .to) i to r ⌝ }
 {
     let low = chunk.low;
@@ -115,9 +116,11 @@ fn later_unhidden(
     highs: &[[u16; COSTS]; RUNS],
 ) -> bool
     requires { ⌜ Readable h (now m) × (chunk .to ≤ h .count) ⌝ }
-    requires { ⌜ spec.GatheredChunk h (now m) (now columns) chunk × (chunk .to < h .count → spec.SomeListed h (now m) chunk) ⌝ }
+    requires { ⌜ spec.GatheredChunk h (now m) (now columns) chunk × (chunk .to < h .count
+        → spec.SomeListed h (now m) chunk) ⌝ }
     requires { ⌜ spec.Highs (h .size) (h .dimension) (now m) (h .count) (now highs) ⌝ }
-    ensures { λ r. ⌜ spec.UnhiddenSaid h (now (m .entry)) (chunk .from) (chunk .to) (chunk .to) (h .count) r ⌝ }
+    ensures { λ r. ⌜ spec.UnhiddenSaid h (now (m .entry)) (chunk .from) (chunk .to) (chunk .to)
+        (h .count) r ⌝ }
 {
     let n = h.count;
     let low = chunk.low;

@@ -34,7 +34,8 @@ fn run_high(m: &[u8], h: Head, i: usize, to: usize, high: [u16; COSTS]) -> [u16;
 // Raises each run's row to what its listed moves are held to.
 pub(crate) fn put_highs(m: &[u8], h: Head, highs: &mut [[u16; COSTS]; RUNS])
     requires { ⌜ Readable h (now m) × (length (now highs) ≡ 64) ⌝ }
-    ensures { λ _. ⌜ spec.Highs (h .size) (h .dimension) (now (m .entry)) (h .count) (now (highs .exit)) ⌝ }
+    ensures { λ _. ⌜ spec.Highs (h .size) (h .dimension) (now (m .entry)) (h .count)
+        (now (highs .exit)) ⌝ }
 {
     let n = h.count;
     let mut i = 0;

@@ -47,7 +47,8 @@ pub fn hidden_by_others(
 ) -> bool
     requires { ⌜ Readable h (now m) × spec.AllCorners h (now m) (now corners) ⌝ }
     requires { ⌜ spec.Parted (h .size) (h .dimension) (h .count) i (asMove x) (now m) ⌝ }
-    ensures { λ r. ⌜ r ≡ spec.hiddenByOthers (h .size) (h .dimension) (h .count) goes (asMove x) (now (m .entry)) ⌝ }
+    ensures { λ r. ⌜ r ≡ spec.hiddenByOthers (h .size) (h .dimension) (h .count) goes (asMove x)
+        (now (m .entry)) ⌝ }
 {
     let costs = x.costs;
     let q = bounds_of(h.dimension, costs);

@@ -27,7 +27,8 @@ fn set_flag(m: &mut [u8], c: usize, i: usize, changed: &[u64; WORDS])
 pub fn set_flags(m: &mut [u8], h: Head, u: Upkeep)
     requires { ⌜ Readable h (now m) ⌝ }
     requires { ⌜ spec.Once (h .size) (h .count) (now m) ⌝ }
-    ensures { λ _. ⌜ spec.SetFlags (h .size) (h .count) (u .changed) (now (m .entry)) (now (m .exit)) ⌝ }
+    ensures { λ _. ⌜ spec.SetFlags (h .size) (h .count) (u .changed) (now (m .entry))
+        (now (m .exit)) ⌝ }
 {
     let n = h.count;
     let mut i = 0;

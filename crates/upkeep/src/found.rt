@@ -20,7 +20,8 @@ pub struct Found {
 // numbers it added.
 pub fn add_found(m: &[u8], h: Head, i: usize, found: bool, numbers: &mut [u64; WORDS]) -> usize
     requires { ⌜ Readable h (now m) × (i < h .count) ⌝ }
-    ensures { λ r. ⌜ spec.Adds h (now (m .entry)) i found (now (numbers .entry)) (now (numbers .exit)) r ⌝ }
+    ensures { λ r. ⌜ spec.Adds h (now (m .entry)) i found (now (numbers .entry))
+        (now (numbers .exit)) r ⌝ }
 {
     if found {
         add(numbers, number_at(m, h.size, i));

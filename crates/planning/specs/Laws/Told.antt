@@ -35,7 +35,7 @@ use Rattle.memory.specs.Laws.Held.{held-dimension, held-order, held-listed, hel
 use Rattle.upkeep.specs.Change.{dropAt, movesAfter, stays, placesIn, AskedRows, UpkeptRows}
 use Rattle.rows.specs.Rows.{moveNumbers}
 use Rattle.rows.specs.Telling.{tellsPlace, rowsAt, comingRows, toldRows}
-use Rattle.rows.specs.declared.telling.Told.{Told}
+use Rattle.rows.specs.declared.telling.View.{View}
 use Rattle.upkeep.specs.Laws.Places.{place-below, below-place}
 use Rattle.upkeep.specs.Laws.Change.{line-places, rest-places}
 use Rattle.upkeep.specs.Laws.Place.{place-low, place-high}
@@ -281,7 +281,7 @@ module _ (c d n : ℕ) (k : Exchange) (m : List ℕ) (s : SoundRows c d n m) (b 
 
       -- ---- who enters
 
-      abbrev entering : Told
+      abbrev entering : View
       entering = enteringBy head (record { told = u .listed; place = p; entrant = k .coming })
 
       part-entered : (i : ℕ) → i < n → tellsPlace entering (u .changed) m i ≡ enters i

@@ -22,7 +22,7 @@ use Rattle.promises.specs.Written.{inArea, movesWrite, blockWrites, chan
 use Rattle.promises.specs.Promise.{Leaves, MemoryAfter, LoadPromise, ChangePromise}
 use Rattle.promises.specs.Answers.{numberOf}
 use Rattle.promises.specs.declared.Verdict.{Verdict}
-use Rattle.promises.specs.declared.Answer.{Answer}
+use Rattle.promises.specs.declared.CallResult.{CallResult}
 
 -- ---- areas
 
@@ -132,7 +132,7 @@ module _ {m m' : List ℕ} where
   load-past {c} {d} {rows} {v} p =
       past-left c (loadWrites c) m m' (loaded c d rows) (loadTree d (map moveOf rows)) (numberOf v) (λ _. load-ends c) (p .left)
 
-  pub change-past : {x : Change} {lent lent' : List Row} {r : Answer} → Sound m → ChangePromise x m lent r m' lent' → drop (memoryNeed (sizeIn m)) m' ≡ drop (memoryNeed (sizeIn m)) m
+  pub change-past : {x : Change} {lent lent' : List Row} {r : CallResult} → Sound m → ChangePromise x m lent r m' lent' → drop (memoryNeed (sizeIn m)) m' ≡ drop (memoryNeed (sizeIn m)) m
   unfolding boardIn
   change-past {x} {lent} {r = r} s p =
       past-left (sizeIn m) (changeWrites (sizeIn m) x) m m' (changed (boardIn m) x) (changeTree (dimensionIn m) x (s .tree)) (numberOf (r .verdict))
