@@ -1,4 +1,3 @@
 -- Laws of the exported calls.
-pub mod Exported
 pub mod Previews
 pub mod Demand3

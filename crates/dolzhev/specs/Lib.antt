@@ -1,4 +1,3 @@
--- What the exported calls promise, and their runs; then laws.
-pub mod Exported
+-- Runs of the exported calls; then laws.
 pub mod Run
 pub mod Laws

@@ -9,8 +9,8 @@ use Rattle.model.specs.Calls as calls
 use Rattle.model.specs.Calls.{Change, Query, list, loaded}
 use Rattle.model.specs.Holder.{change, preview, listCall, other, Event, Demand3}
 use Rattle.promises.specs.Run.{Bytes}
-use Rattle.dolzhev.specs.Exported.{LoadExported, ChangeExported, PreviewExported, QueryExported}
-use Rattle.dolzhev.specs.declared.answer.Answer.{Answer}
+use Rattle.calls.specs.Exported.{LoadExported, ChangeExported, PreviewExported, QueryExported}
+use Rattle.calls.specs.declared.answer.Answer.{Answer}
 
 -- One call, from the memory before it to the memory after it. Previews and lists are lent the memory for reading only: it stays.
 pub data ExportedStep : List ℕ → List ℕ → Type 0 where

@@ -12,9 +12,9 @@ use Rattle.promises.specs.Run as run
 use Rattle.promises.specs.Run.{Step, History, eventOf, runOf, EachRun}
 use Rattle.promises.specs.Laws.Demand3.{each-run}
 use Rattle.promises.specs.declared.Verdict.{Verdict}
-use Rattle.dolzhev.specs.Exported.{Handed}
+use Rattle.calls.specs.Exported.{Handed}
 use Rattle.dolzhev.specs.Run.{ExportedStep, changes, previews, lists, queries, loadRefused, answered, exportedEvent, ExportedHistory, end, call, load, exportedRun, EachExported}
-use Rattle.dolzhev.specs.declared.answer.Answer.{Answer}
+use Rattle.calls.specs.declared.answer.Answer.{Answer}
 
 stepOf : {m m' : List ℕ} → ExportedStep m m' → Step m m'
 stepOf (changes x lent lent' r bytes p) = run.changes x lent lent' (p .answer) bytes (p .promise)

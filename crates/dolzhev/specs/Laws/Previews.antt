@@ -9,8 +9,8 @@ use Rattle.promises.specs.Answers.{numberOf}
 use Rattle.promises.specs.Run.{Bytes}
 use Rattle.promises.specs.declared.CallResult as said
 use Rattle.soundness.specs.Laws.Answers.{preview-equal}
-use Rattle.dolzhev.specs.Exported.{Handed, ChangeExported, PreviewExported}
-use Rattle.dolzhev.specs.declared.answer.Answer.{Answer}
+use Rattle.calls.specs.Exported.{Handed, ChangeExported, PreviewExported}
+use Rattle.calls.specs.declared.answer.Answer.{Answer}
 
 -- The same handed on is the same.
 handed-same : {a b : said.CallResult} {r s : Answer} → a ≡ b → Handed (a .verdict) (a .count) (a .opened) r → Handed (b .verdict) (b .count) (b .opened) s → r ≡ s

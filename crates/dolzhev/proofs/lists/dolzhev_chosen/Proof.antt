@@ -1,33 +1,22 @@
--- `dolzhev_chosen` meets its contract, by the walk that it shares with band and on k.
+-- `dolzhev_chosen` meets its contract, by the walk that it shares with other lists and the previews.
 -- Assumes nothing.
-use denote.Triple.Spec.{tripleOf}
-use denote.Triple.Table.{entered, cited}
-use contract.Running.{givenOf, tables, tablesOf}
+use Rattle.calls.proofs.Steps.{givenOf, tables, tablesOf, tripleOf, entered, cited}
 use Rattle.model.specs.Calls.{chosenQuery}
-use Rattle.query.proofs.plan_chosen.Symbol as plan-def
-use Rattle.query.proofs.plan_chosen.Symbol.{name as #query·plan-chosen}
-use Rattle.query.proofs.plan_chosen.Met as plan-thm
-use Rattle.rows.proofs.fill.Symbol as fill-def
-use Rattle.rows.proofs.fill.Symbol.{name as #rows·fill}
-use Rattle.rows.proofs.fill.Met as fill-thm
-use Rattle.dolzhev.proofs.answer.answered.Symbol as answered-def
-use Rattle.dolzhev.proofs.answer.answered.Symbol.{name as #dolzhev·answer·answered}
-use Rattle.dolzhev.proofs.answer.answered.Met as answered-thm
-use Rattle.dolzhev.proofs.ByValue.{word, listed}
-use Rattle.dolzhev.proofs.Filled.{FillC, AnswerC}
-use Rattle.dolzhev.proofs.Planning.{PlanOf}
-use Rattle.dolzhev.proofs.Queried.{Planned, queried-meets}
-use Rattle.dolzhev.proofs.lists.dolzhev_chosen.Key.{name as #dolzhev·lists·dolzhev-chosen}
+use Rattle.rows.specs.Planned.{QueryPlanned}
+use Rattle.query.proofs.plan_chosen as plan
+use Rattle.calls.specs.Told.{ListAsked, ListTold}
+use Rattle.calls.proofs.tell_list as tell
+use Rattle.calls.proofs.ByValue.{word, listed}
+use Rattle.calls.proofs.Planning.{PlanOf}
+use Rattle.calls.proofs.Telling.{TellOf}
+use Rattle.dolzhev.proofs.Queried.{lists-meet}
 use Rattle.dolzhev.proofs.lists.dolzhev_chosen as f
-use Rattle.dolzhev.proofs.lists.dolzhev_chosen.Statement as stated
-use Rattle.dolzhev.proofs.lists.dolzhev_chosen.Code as code
 
-pub dolzhev-chosen-spec : {M : Type 1} → stated.statement M
-unfolding code.routine tablesOf
+pub dolzhev-chosen-spec : {M : Type 1} → f.Statement.statement M
+unfolding f.Code.routine tablesOf
 dolzhev-chosen-spec 𝓤 H 𝓜 𝓖 𝓡 =
     entered 𝓤 H (tripleOf 𝓤 H (𝓖 .A) f.signature (f.spec 𝓤 H (𝓖 .A) (𝓜 .mem) (𝓡 .run)))
-    (tables 𝓤 H 𝓜 𝓡 code.env .C) (tables 𝓤 H 𝓜 𝓡 code.env .Λ) #dolzhev·lists·dolzhev-chosen code.function (code.unfolded 𝓤 H 𝓜 𝓡)
-    (queried-meets 𝓤 H (𝓖 .A) (givenOf 𝓤 H 𝓜 𝓖) (𝓜 .mem) (𝓡 .run) chosenQuery (tablesOf 𝓤 H 𝓜 (tables 𝓤 H 𝓜 𝓡 code.env)) #query·plan-chosen
-    (cited 𝓤 H (PlanOf word listed (Planned chosenQuery) 𝓤 H (𝓖 .A)) 𝓜 𝓡 code.env #query·plan-chosen plan-def.routine code.calls-query·plan-chosen (plan-thm.met 𝓤 H 𝓜 𝓖 𝓡))
-    (cited 𝓤 H (FillC 𝓤 H (𝓖 .A) (𝓜 .mem) (𝓡 .run)) 𝓜 𝓡 code.env #rows·fill fill-def.routine code.calls-rows·fill (fill-thm.met 𝓤 H 𝓜 𝓖 𝓡))
-    (cited 𝓤 H (AnswerC 𝓤 H (𝓖 .A) (𝓜 .mem) (𝓡 .run)) 𝓜 𝓡 code.env #dolzhev·answer·answered answered-def.routine code.calls-dolzhev·answer·answered (answered-thm.met 𝓤 H 𝓜 𝓖 𝓡)))
+    (tables 𝓤 H 𝓜 𝓡 f.Code.env .C) (tables 𝓤 H 𝓜 𝓡 f.Code.env .Λ) f.Key.name f.Code.function (f.Code.unfolded 𝓤 H 𝓜 𝓡)
+    (lists-meet word chosenQuery 𝓤 H (𝓖 .A) (givenOf 𝓤 H 𝓜 𝓖) (tablesOf 𝓤 H 𝓜 (tables 𝓤 H 𝓜 𝓡 f.Code.env)) plan.Symbol.name tell.Symbol.name
+    (cited 𝓤 H (PlanOf word listed (λ x m lent p. QueryPlanned (chosenQuery x) m lent p) 𝓤 H (𝓖 .A)) 𝓜 𝓡 f.Code.env plan.Symbol.name plan.Symbol.routine f.Code.calls-query·plan-chosen (plan.Met.met 𝓤 H 𝓜 𝓖 𝓡))
+    (cited 𝓤 H (TellOf listed ListAsked ListTold 𝓤 H (𝓖 .A)) 𝓜 𝓡 f.Code.env tell.Symbol.name tell.Symbol.routine f.Code.calls-calls·tell-list (tell.Met.met 𝓤 H 𝓜 𝓖 𝓡)))

@@ -1,28 +1,24 @@
--- `dolzhev_preview_enter` meets its contract, by the walk that the three previews share.
+-- `dolzhev_preview_enter` meets its contract, by the walk that it shares with other previews and the lists.
 -- Assumes nothing.
-use contract.Running.{givenOf, tables, tablesOf}
-use denote.Triple.Spec.{tripleOf}
-use denote.Triple.Table.{entered, cited}
-use Rattle.dolzhev.specs.Exported.{entering, askedEnter, enter-asked}
-use Rattle.dolzhev.proofs.asked.entering.Symbol as ask-def
-use Rattle.dolzhev.proofs.asked.entering.Symbol.{name as #dolzhev·asked·entering}
-use Rattle.dolzhev.proofs.asked.entering.Met as ask-thm
-use Rattle.dolzhev.proofs.preview.preview.Symbol as preview-def
-use Rattle.dolzhev.proofs.preview.preview.Symbol.{name as #dolzhev·preview·preview}
-use Rattle.dolzhev.proofs.preview.preview.Met as preview-thm
-use Rattle.dolzhev.proofs.ByValue.{given}
-use Rattle.dolzhev.proofs.Passed.{AskOf, PreviewC}
-use Rattle.dolzhev.proofs.Previewed.{previewed-meets}
-use Rattle.dolzhev.proofs.preview.dolzhev_preview_enter.Key.{name as #dolzhev·preview·dolzhev-preview-enter}
+use Rattle.calls.proofs.Steps.{givenOf, tables, tablesOf, tripleOf, entered, cited}
+use Rattle.calls.specs.Exported.{entering}
+use Rattle.planning.specs.Plan.{Planned}
+use Rattle.calls.specs.Asked.{askedEnter}
+use Rattle.calls.specs.Told.{NoticeAsked, NoticeTold}
+use Rattle.calls.specs.Laws.Asked.{enter-asked}
+use Rattle.calls.proofs.plan_enter as plan
+use Rattle.calls.proofs.tell_notice as tell
+use Rattle.calls.proofs.ByValue.{given, planned}
+use Rattle.calls.proofs.Planning.{PlanOf}
+use Rattle.calls.proofs.Telling.{TellOf}
+use Rattle.dolzhev.proofs.Queried.{previews-meet}
 use Rattle.dolzhev.proofs.preview.dolzhev_preview_enter as f
-use Rattle.dolzhev.proofs.preview.dolzhev_preview_enter.Statement as stated
-use Rattle.dolzhev.proofs.preview.dolzhev_preview_enter.Code as code
 
-pub dolzhev-preview-enter-spec : {M : Type 1} → stated.statement M
-unfolding code.routine tablesOf
+pub dolzhev-preview-enter-spec : {M : Type 1} → f.Statement.statement M
+unfolding f.Code.routine tablesOf
 dolzhev-preview-enter-spec 𝓤 H 𝓜 𝓖 𝓡 =
     entered 𝓤 H (tripleOf 𝓤 H (𝓖 .A) f.signature (f.spec 𝓤 H (𝓖 .A) (𝓜 .mem) (𝓡 .run)))
-    (tables 𝓤 H 𝓜 𝓡 code.env .C) (tables 𝓤 H 𝓜 𝓡 code.env .Λ) #dolzhev·preview·dolzhev-preview-enter code.function (code.unfolded 𝓤 H 𝓜 𝓡)
-    (previewed-meets 𝓤 H (𝓖 .A) (givenOf 𝓤 H 𝓜 𝓖) (𝓜 .mem) (𝓡 .run) given askedEnter entering enter-asked (tablesOf 𝓤 H 𝓜 (tables 𝓤 H 𝓜 𝓡 code.env)) #dolzhev·asked·entering
-    (cited 𝓤 H (AskOf given askedEnter 𝓤 H (𝓖 .A)) 𝓜 𝓡 code.env #dolzhev·asked·entering ask-def.routine code.calls-dolzhev·asked·entering (ask-thm.met 𝓤 H 𝓜 𝓖 𝓡))
-    (cited 𝓤 H (PreviewC 𝓤 H (𝓖 .A) (𝓜 .mem) (𝓡 .run)) 𝓜 𝓡 code.env #dolzhev·preview·preview preview-def.routine code.calls-dolzhev·preview·preview (preview-thm.met 𝓤 H 𝓜 𝓖 𝓡)))
+    (tables 𝓤 H 𝓜 𝓡 f.Code.env .C) (tables 𝓤 H 𝓜 𝓡 f.Code.env .Λ) f.Key.name f.Code.function (f.Code.unfolded 𝓤 H 𝓜 𝓡)
+    (previews-meet given askedEnter entering enter-asked 𝓤 H (𝓖 .A) (givenOf 𝓤 H 𝓜 𝓖) (tablesOf 𝓤 H 𝓜 (tables 𝓤 H 𝓜 𝓡 f.Code.env)) plan.Symbol.name tell.Symbol.name
+    (cited 𝓤 H (PlanOf given planned (λ x m lent p. Planned (askedEnter x) m lent p) 𝓤 H (𝓖 .A)) 𝓜 𝓡 f.Code.env plan.Symbol.name plan.Symbol.routine f.Code.calls-calls·plan-enter (plan.Met.met 𝓤 H 𝓜 𝓖 𝓡))
+    (cited 𝓤 H (TellOf planned NoticeAsked NoticeTold 𝓤 H (𝓖 .A)) 𝓜 𝓡 f.Code.env tell.Symbol.name tell.Symbol.routine f.Code.calls-calls·tell-notice (tell.Met.met 𝓤 H 𝓜 𝓖 𝓡)))

@@ -3,7 +3,7 @@ use promises::Verdict;
 use promises::counted;
 use promises::number_of;
 use zorder::COSTS;
-ghost use Rattle.dolzhev.specs.Exported.{Handed, Answered};
+ghost use Rattle.calls.specs.Exported.{Handed, Answered};
 
 // A move that enters or gets new costs.
 #[repr(C)]

@@ -1,25 +1,17 @@
 -- The exported calls keep the promises of `promises`, with rows as structs and the verdict by number and detail.
-use Prim.Native.Nat.{ℕ, _+_, _<_, _≤_}
+use Prim.Native.Nat.{ℕ}
 use mathlib.Core.List.{List, map}
-use mathlib.Core.Path.{_≡_, refl}
-use lib.ListN.{length, replicate}
+use mathlib.Core.Path.{_≡_}
 use Rattle.model.specs.Moves as model
 use Rattle.model.specs.Calls as calls
 use Rattle.promises.specs.Answers.{numberOf, counted, resultRow}
 use Rattle.promises.specs.Promise.{LoadPromise, ChangePromise, PreviewPromise, QueryPromise}
 use Rattle.promises.specs.declared.CallResult as said
 use Rattle.promises.specs.declared.Verdict.{Verdict}
-use Rattle.zorder.specs.Address.{rowCosts}
-use Rattle.rows.specs.Telling.{TellingAsked}
 use Rattle.rows.specs.Rows.{rowNumbers}
 use Rattle.rows.specs.declared.row.Row.{Row}
-use Rattle.planning.specs.Kind.{changeOf, callOf}
-use Rattle.planning.specs.Plan.{leftOf, enteredOf, rowsFilled}
-use Rattle.planning.specs.declared.change.Change.{Change}
-use Rattle.planning.specs.declared.change.Kind.the-variants.{Enter, Withdraw, Recost}
-use Rattle.planning.specs.declared.plan.ChangePlan.{ChangePlan}
-use Rattle.dolzhev.specs.declared.answer.Answer.{Answer}
-use Rattle.dolzhev.specs.declared.answer.Move.{Move}
+use Rattle.calls.specs.declared.answer.Answer.{Answer}
+use Rattle.calls.specs.declared.answer.Move.{Move}
 
 -- A verdict handed on: its number and detail, and the counts of rows told and of nodes opened.
 pub record Handed (v : Verdict) (told nodes : ℕ) (r : Answer) : Type 0 where
@@ -43,28 +35,6 @@ entering given = calls.enter (given .number) (given .block) (given .costs)
 abbrev pub recosting : Move → calls.Change
 recosting given = calls.recost (given .number) (given .block) (given .costs)
 
--- The same as the code asks for them.
-abbrev pub askedEnter : Move → Change
-askedEnter given = record { kind = Enter; number = given .number; block = given .block; costs = given .costs }
-
-abbrev pub askedWithdraw : ℕ → Change
-askedWithdraw number = record { kind = Withdraw; number = number; block = 0; costs = replicate rowCosts 0 }
-
-abbrev pub askedRecost : Move → Change
-askedRecost given = record { kind = Recost; number = given .number; block = given .block; costs = given .costs }
-
-pub enter-asked : (given : Move) → callOf (askedEnter given) ≡ entering given
-unfolding changeOf
-enter-asked given = refl
-
-pub withdraw-asked : (number : ℕ) → callOf (askedWithdraw number) ≡ calls.withdraw number
-unfolding changeOf
-withdraw-asked number = refl
-
-pub recost-asked : (given : Move) → callOf (askedRecost given) ≡ recosting given
-unfolding changeOf
-recost-asked given = refl
-
 -- ---- what is promised
 
 pub record LoadExported (c d : ℕ) (rows : List model.InputRow) (m : List ℕ) (r : Answer) (m' : List ℕ) : Type 0 where
@@ -86,16 +56,3 @@ PreviewExported x m lent r lent' = AnswerExported (λ a. PreviewPromise x m lent
 
 abbrev pub QueryExported : calls.Query → List ℕ → List model.Row → Answer → List model.Row → Type 0
 QueryExported q m lent r lent' = AnswerExported (λ a. QueryPromise q m lent a lent') r
-
--- ---- the notice of a planned change
-
--- What telling asks of a plan.
-pub record TellAsked (p : ChangePlan) (m : List ℕ) (lent : List Row) : Type 0 where
-  pub left : 0 < leftOf p .count → TellingAsked (leftOf p .told) m
-  pub entered : 0 < enteredOf p .count → TellingAsked (enteredOf p .told) m
-  pub within : p .upkeep .left ≤ p .need
-  pub enough : leftOf p .count + enteredOf p .count ≤ length lent
-
--- The rows of the notice are put into the lent ones.
-abbrev pub Noticed : ChangePlan → List ℕ → List Row → List Row → Type 0
-Noticed p m lent lent' = map rowNumbers lent' ≡ rowsFilled p m (map rowNumbers lent)

@@ -1,0 +1,3 @@
+-- Laws of what the exported calls promise.
+pub mod Asked
+pub mod Exported
