@@ -1,4 +1,5 @@
-// What the exported calls are made of: what they take and hand back, the changes planned, and plans told in the lent rows.
+// What the exported calls are made of: what they take and hand back, the changes planned, and plans
+// told in the lent rows.
 mod answer;
 mod change;
 mod list;
