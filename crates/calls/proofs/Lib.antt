@@ -1,3 +1,4 @@
+-- What the walks share.
 pub mod Steps
 pub mod ByValue
 pub mod Shared

@@ -23,7 +23,7 @@ pub struct Answer {
     pub opened: usize,
 }
 
-// A verdict handed on, with the counts of rows and nodes.
+// Hands a verdict on, with the counts of rows and nodes.
 pub fn handed(verdict: Verdict, count: usize, opened: usize) -> Answer
     ensures { λ r. ⌜ Handed verdict count opened r ⌝ }
 {
@@ -35,7 +35,7 @@ pub fn handed(verdict: Verdict, count: usize, opened: usize) -> Answer
     }
 }
 
-// What a plan foresees, handed on: the counts are zero of a refused call.
+// Hands on what a plan foresees: the counts are zero of a refused call.
 pub fn answered(verdict: Verdict, need: usize, opened: usize) -> Answer
     ensures { λ r. ⌜ Answered verdict need opened r ⌝ }
 {

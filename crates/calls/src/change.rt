@@ -8,7 +8,7 @@ use zorder::COSTS;
 ghost use Rattle.planning.specs.Plan.{Planned};
 ghost use Rattle.calls.specs.Asked.{askedEnter, askedWithdraw, askedRecost};
 
-// Plans that a move enters.
+// Plans the entry of a move.
 pub fn plan_enter(memory: &[u8], given: Move, lent: usize) -> ChangePlan
     ensures { λ r. ⌜ Planned (askedEnter given) (now (memory .entry)) lent r ⌝ }
 {
@@ -22,7 +22,7 @@ pub fn plan_enter(memory: &[u8], given: Move, lent: usize) -> ChangePlan
     plan_change(memory, x, lent)
 }
 
-// Plans that the move of a number is withdrawn.
+// Plans the withdrawal of the move of a number.
 pub fn plan_withdraw(memory: &[u8], number: u16, lent: usize) -> ChangePlan
     ensures { λ r. ⌜ Planned (askedWithdraw number) (now (memory .entry)) lent r ⌝ }
 {
@@ -35,7 +35,7 @@ pub fn plan_withdraw(memory: &[u8], number: u16, lent: usize) -> ChangePlan
     plan_change(memory, x, lent)
 }
 
-// Plans that a move gets new costs and a block.
+// Plans new costs and a block for a move.
 pub fn plan_recost(memory: &[u8], given: Move, lent: usize) -> ChangePlan
     ensures { λ r. ⌜ Planned (askedRecost given) (now (memory .entry)) lent r ⌝ }
 {

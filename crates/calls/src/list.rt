@@ -22,8 +22,8 @@ fn answer_of(p: Plan) -> Answer
     answered(verdict, p.need, p.opened)
 }
 
-// Tells a list as planned. What the plan holds is read by functions of its own: the walk of this
-// one then looks into no struct.
+// Tells a list as planned. What the plan holds is read by functions of its own, so that the walk of
+// this one looks into no struct.
 pub fn tell_list(rows: &mut [Row], memory: &[u8], p: Plan) -> Answer
     requires { ⌜ ListAsked p (now memory) (now rows) ⌝ }
     ensures { λ r. ⌜ ListTold p (now (memory .entry)) (now (rows .entry)) r (now (rows .exit)) ⌝ }

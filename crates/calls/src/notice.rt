@@ -25,7 +25,7 @@ fn answer_of(p: ChangePlan) -> Answer
     answered(verdict, p.need, p.opened)
 }
 
-// Tells a change as planned.
+// Tells a change as planned; the walk of this one looks into no struct either.
 pub fn tell_notice(rows: &mut [Row], memory: &[u8], p: ChangePlan) -> Answer
     requires { ⌜ NoticeAsked p (now memory) (now rows) ⌝ }
     ensures { λ r. ⌜ NoticeTold p (now (memory .entry)) (now (rows .entry)) r (now (rows .exit)) ⌝ }

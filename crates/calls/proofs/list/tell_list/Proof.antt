@@ -1,33 +1,24 @@
 -- `tell_list` meets its contract: a walk of its MIR, by hand, over any types of the plan P and of what it tells, T. The rows are given up for good.
 -- Assumes nothing.
-use Rattle.calls.proofs.Steps.{List, [], _∷_, _≡_, refl, sym, subst, ℕ, lit<, length, URA, Name, Fn, Ty, named, erased, imm, mut, w8, w64, tyInt, tyRef, tyUnit, deref, field, place, copy, int, local, valueLocal, assign, addrOf, aggregate, call, seq, return, Val, vint, ent, emp, id⊢, Lft, Share, GName, ftrue, flft, Heap, WpFn, Tables, Atoms, givenOf, tables, tablesOf, Given, Item, ‵, _⊛_, ⋆, _$_, _∵_, !, qed, by, move, drop, use1, split, fsplit, agg, whole, sub, look-in, look, init, forget, stop, hop, fld, from, load, lit, addr, and-then, no-more, assigns, land, returns, enter, alloc1, alloc0, params1, pass1, pass0, FmC, fmOf, WpFn-mono, owns, Is, u8, pointee, sliceTy, sliceVal, shr-slice-copy, MutSlice, ShrSlice, Room, onEntry, Meets, tripleOf, Triple, entered, cited, envOf, free-all, gets}
+use Rattle.calls.proofs.Steps.{List, [], _∷_, _≡_, refl, sym, subst, ℕ, lit<, length, URA, Name, Fn, Ty, named, erased, imm, mut, w8, w64, tyInt, tyRef, tyUnit, deref, field, place, copy, int, local, valueLocal, assign, addrOf, aggregate, call, seq, return, vint, emp, id⊢, Lft, Share, GName, Heap, WpFn, Tables, Atoms, givenOf, tables, tablesOf, Given, Item, ‵, _⊛_, _$_, _∵_, !, qed, by, move, drop, use1, split, fsplit, agg, whole, sub, look-in, look, init, forget, stop, hop, fld, from, load, lit, addr, and-then, no-more, assigns, land, returns, enter, alloc1, alloc0, params1, pass1, pass0, FmC, fmOf, WpFn-mono, u8, pointee, sliceTy, sliceVal, shr-slice-copy, ShrSlice, tripleOf, Triple, entered, cited, envOf, free-all, gets}
 use native.Mathlib.Omega.{arith}
 use Rattle.rows.specs.declared.row.Row.{Row}
 use Rattle.rows.specs.declared.plan.Plan.{Plan}
 use Rattle.rows.specs.declared.telling.Telling.{Telling}
 use Rattle.rows.proofs.row.Row as T
 use Rattle.rows.proofs.row.Row.Laws as T′
-use Rattle.rows.proofs.fill.Symbol as fill-def
-use Rattle.rows.proofs.fill.Symbol.{name as #rows·fill}
-use Rattle.rows.proofs.fill.Met as fill-thm
+use Rattle.rows.proofs.fill as fill
 use Rattle.calls.specs.Exported.{Answered}
 use Rattle.calls.specs.Told.{ListAsked, ListTold}
 use Rattle.calls.specs.declared.answer.Answer.{Answer}
-use Rattle.calls.proofs.ByValue.{ByValue, typeOf, answer, listed, telling}
+use Rattle.calls.proofs.ByValue.{ByValue, answer, listed, telling}
 use Rattle.calls.proofs.Shared.{at-list}
 use Rattle.calls.proofs.Reading.{ReadOf, calls-read}
 use Rattle.calls.proofs.Filling.{FillOf, FillAsks, Fills, calls-fill}
 use Rattle.calls.proofs.Telling.{TellEntry, TellWalk, tell-ends, tell-meets}
-use Rattle.calls.proofs.list.telling_of.Symbol as telling-def
-use Rattle.calls.proofs.list.telling_of.Symbol.{name as #calls·list·telling-of}
-use Rattle.calls.proofs.list.telling_of.Met as telling-thm
-use Rattle.calls.proofs.list.answer_of.Symbol as answer-def
-use Rattle.calls.proofs.list.answer_of.Symbol.{name as #calls·list·answer-of}
-use Rattle.calls.proofs.list.answer_of.Met as answer-thm
-use Rattle.calls.proofs.list.tell_list.Key.{name as #calls·list·tell-list}
+use Rattle.calls.proofs.list.telling_of as telling-of
+use Rattle.calls.proofs.list.answer_of as answer-of
 use Rattle.calls.proofs.list.tell_list as f
-use Rattle.calls.proofs.list.tell_list.Statement as stated
-use Rattle.calls.proofs.list.tell_list.Code as code
 
 abbrev row : Ty
 row = pointee (T.the-row .written)
@@ -88,16 +79,16 @@ list-asks p t m ys asked e = subst (λ (t : Telling). FillAsks t 0 m ys) (sym e)
 list-told : (p : Plan) (t : Telling) (m : List ℕ) (ys zs : List Row) (r : Answer) → t ≡ p .telling → Fills t 0 m ys zs → Answered (p .verdict) (p .need) (p .opened) r → ListTold p m ys r zs
 list-told p t m ys zs r e filled handed = record { rows = subst (λ (t : Telling). Fills t 0 m ys zs) e filled; handed = handed }
 
-pub tell-list-spec : {M : Type 1} → stated.statement M
-unfolding code.routine tablesOf
+pub tell-list-spec : {M : Type 1} → f.Statement.statement M
+unfolding f.Code.routine tablesOf
 tell-list-spec 𝓤 H 𝓜 𝓖 𝓡 =
     let A = 𝓖 .A in
     let W = givenOf 𝓤 H 𝓜 𝓖 in
-    let 𝓣 = tablesOf 𝓤 H 𝓜 (tables 𝓤 H 𝓜 𝓡 code.env) in
+    let 𝓣 = tablesOf 𝓤 H 𝓜 (tables 𝓤 H 𝓜 𝓡 f.Code.env) in
     entered 𝓤 H (tripleOf 𝓤 H (𝓖 .A) f.signature (f.spec 𝓤 H (𝓖 .A) (𝓜 .mem) (𝓡 .run)))
-    (tables 𝓤 H 𝓜 𝓡 code.env .C) (tables 𝓤 H 𝓜 𝓡 code.env .Λ) #calls·list·tell-list code.function (code.unfolded 𝓤 H 𝓜 𝓡)
-    (tell-meets listed ListAsked ListTold 𝓤 H A W (WpFn 𝓤 H (𝓣 .C) (𝓣 .Λ) code.function) (WpFn-mono 𝓤 H (W .laws) 𝓣 code.function)
-    (walk listed telling ListAsked ListTold (λ p t. t ≡ p .telling) FillAsks Fills (λ p r. Answered (p .verdict) (p .need) (p .opened) r) list-asks list-told 𝓤 H A W 𝓣 (fmOf 𝓤 H (W .laws) 𝓣) #calls·list·telling-of #rows·fill #calls·list·answer-of
-    (cited 𝓤 H (ReadOf listed telling (λ p t. t ≡ p .telling) 𝓤 H A (λ _. emp 𝓤)) 𝓜 𝓡 code.env #calls·list·telling-of telling-def.routine code.calls-calls·list·telling-of (telling-thm.met 𝓤 H 𝓜 𝓖 𝓡))
-    (cited 𝓤 H (FillOf telling FillAsks Fills 𝓤 H A) 𝓜 𝓡 code.env #rows·fill fill-def.routine code.calls-rows·fill (fill-thm.met 𝓤 H 𝓜 𝓖 𝓡))
-    (cited 𝓤 H (ReadOf listed answer (λ p r. Answered (p .verdict) (p .need) (p .opened) r) 𝓤 H A (λ _. emp 𝓤)) 𝓜 𝓡 code.env #calls·list·answer-of answer-def.routine code.calls-calls·list·answer-of (answer-thm.met 𝓤 H 𝓜 𝓖 𝓡))))
+    (tables 𝓤 H 𝓜 𝓡 f.Code.env .C) (tables 𝓤 H 𝓜 𝓡 f.Code.env .Λ) f.Key.name f.Code.function (f.Code.unfolded 𝓤 H 𝓜 𝓡)
+    (tell-meets listed ListAsked ListTold 𝓤 H A W (WpFn 𝓤 H (𝓣 .C) (𝓣 .Λ) f.Code.function) (WpFn-mono 𝓤 H (W .laws) 𝓣 f.Code.function)
+    (walk listed telling ListAsked ListTold (λ p t. t ≡ p .telling) FillAsks Fills (λ p r. Answered (p .verdict) (p .need) (p .opened) r) list-asks list-told 𝓤 H A W 𝓣 (fmOf 𝓤 H (W .laws) 𝓣) telling-of.Symbol.name fill.Symbol.name answer-of.Symbol.name
+    (cited 𝓤 H (ReadOf listed telling (λ p t. t ≡ p .telling) 𝓤 H A (λ _. emp 𝓤)) 𝓜 𝓡 f.Code.env telling-of.Symbol.name telling-of.Symbol.routine f.Code.calls-calls·list·telling-of (telling-of.Met.met 𝓤 H 𝓜 𝓖 𝓡))
+    (cited 𝓤 H (FillOf telling FillAsks Fills 𝓤 H A) 𝓜 𝓡 f.Code.env fill.Symbol.name fill.Symbol.routine f.Code.calls-rows·fill (fill.Met.met 𝓤 H 𝓜 𝓖 𝓡))
+    (cited 𝓤 H (ReadOf listed answer (λ p r. Answered (p .verdict) (p .need) (p .opened) r) 𝓤 H A (λ _. emp 𝓤)) 𝓜 𝓡 f.Code.env answer-of.Symbol.name answer-of.Symbol.routine f.Code.calls-calls·list·answer-of (answer-of.Met.met 𝓤 H 𝓜 𝓖 𝓡))))

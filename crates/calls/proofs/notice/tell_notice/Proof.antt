@@ -1,43 +1,30 @@
 -- `tell_notice` meets its contract: a walk of its MIR, by hand, over any types of the plan P and of what it tells, Y. The rows are lent to the first `fill` and had again; then they are given up for good.
 -- Assumes nothing.
-use Rattle.calls.proofs.Steps.{List, [], _∷_, _≡_, refl, ap, sym, subst, ℕ, _<_, _^_, lit<, length, URA, Name, Fn, Ty, named, erased, imm, mut, w8, w64, tyInt, tyRef, tyUnit, deref, field, place, copy, int, local, valueLocal, assign, addrOf, aggregate, call, seq, return, Val, vint, ent, emp, id⊢, Lft, Share, GName, ftrue, fat, flft, fullShare, Heap, WpFn, Tables, Atoms, fact, factI, givenOf, tables, tablesOf, Given, Item, ‵, _⊛_, ⋆, _$_, _∵_, !, qed, by, move, drop, use1, split, fsplit, rewrite, agg, whole, sub, look-in, look, init, store, forget, stop, hop, fld, from, load, lit, addr, and-then, no-more, assigns, land, returns, enter, alloc1, alloc0, params1, pass1, pass0, FmC, fmOf, WpFn-mono, owns, Is, u8, pointee, sliceTy, sliceVal, shr-slice-copy, MutSlice, ShrSlice, Room, onEntry, tripleOf, Triple, entered, cited, localType, envOf, free-all, gets}
+use Rattle.calls.proofs.Steps.{List, [], _∷_, _≡_, refl, ap, sym, subst, ℕ, _<_, _^_, lit<, length, URA, Name, Fn, Ty, named, erased, imm, mut, w8, w64, tyInt, tyRef, tyUnit, deref, field, place, copy, int, local, valueLocal, assign, addrOf, aggregate, call, seq, return, vint, emp, id⊢, Lft, Share, GName, fat, fullShare, Heap, WpFn, Tables, Atoms, fact, factI, givenOf, tables, tablesOf, Given, Item, ‵, _⊛_, _$_, _∵_, !, qed, by, move, drop, use1, split, fsplit, rewrite, agg, whole, sub, look-in, look, init, store, forget, stop, hop, fld, from, load, lit, addr, and-then, no-more, assigns, land, returns, enter, alloc1, alloc0, params1, pass1, pass0, FmC, fmOf, WpFn-mono, u8, pointee, sliceTy, sliceVal, shr-slice-copy, ShrSlice, tripleOf, Triple, entered, cited, envOf, free-all, gets}
 use mathlib.Core.Path.{_∙_}
 use native.Mathlib.Omega.{arith}
 use Prim.Native.Nat.{_≤_}
 use Rattle.rows.specs.Telling.{filledRows}
 use Rattle.planning.specs.Plan.{leftOf, enteredOf}
 use Rattle.planning.specs.declared.plan.ChangePlan.{ChangePlan}
-use Rattle.planning.proofs.left_of.Symbol as left-def
-use Rattle.planning.proofs.left_of.Symbol.{name as #planning·left-of}
-use Rattle.planning.proofs.left_of.Met as left-thm
-use Rattle.planning.proofs.entered_of.Symbol as entered-def
-use Rattle.planning.proofs.entered_of.Symbol.{name as #planning·entered-of}
-use Rattle.planning.proofs.entered_of.Met as entered-thm
+use Rattle.planning.proofs.left_of as left-of
+use Rattle.planning.proofs.entered_of as entered-of
 use Rattle.rows.specs.declared.row.Row.{Row}
 use Rattle.rows.specs.declared.telling.Telling.{Telling}
 use Rattle.rows.proofs.row.Row as T
 use Rattle.rows.proofs.row.Row.Laws as T′
-use Rattle.rows.proofs.fill.Symbol as fill-def
-use Rattle.rows.proofs.fill.Symbol.{name as #rows·fill}
-use Rattle.rows.proofs.fill.Met as fill-thm
+use Rattle.rows.proofs.fill as fill
 use Rattle.calls.specs.Exported.{Answered}
 use Rattle.calls.specs.Told.{NoticeAsked, NoticeTold}
 use Rattle.calls.specs.declared.answer.Answer.{Answer}
-use Rattle.calls.proofs.ByValue.{ByValue, typeOf, word, answer, planned, telling}
+use Rattle.calls.proofs.ByValue.{ByValue, word, answer, planned, telling}
 use Rattle.calls.proofs.Shared.{at-list, lends-out, lends-back}
 use Rattle.calls.proofs.Reading.{ReadOf, calls-read}
 use Rattle.calls.proofs.Filling.{FillOf, FillAsks, Fills, calls-fill}
 use Rattle.calls.proofs.Telling.{TellEntry, TellWalk, tell-ends, tell-meets}
-use Rattle.calls.proofs.notice.count_of.Symbol as count-def
-use Rattle.calls.proofs.notice.count_of.Symbol.{name as #calls·notice·count-of}
-use Rattle.calls.proofs.notice.count_of.Met as count-thm
-use Rattle.calls.proofs.notice.answer_of.Symbol as answer-def
-use Rattle.calls.proofs.notice.answer_of.Symbol.{name as #calls·notice·answer-of}
-use Rattle.calls.proofs.notice.answer_of.Met as answer-thm
-use Rattle.calls.proofs.notice.tell_notice.Key.{name as #calls·notice·tell-notice}
+use Rattle.calls.proofs.notice.count_of as count-of
+use Rattle.calls.proofs.notice.answer_of as answer-of
 use Rattle.calls.proofs.notice.tell_notice as f
-use Rattle.calls.proofs.notice.tell_notice.Statement as stated
-use Rattle.calls.proofs.notice.tell_notice.Code as code
 
 abbrev row : Ty
 row = pointee (T.the-row .written)
@@ -134,20 +121,20 @@ module _ (p : ChangePlan) (t : Telling) (m : List ℕ) (ys : List Row) where
           handed = handed;
         }
 
-pub tell-notice-spec : {M : Type 1} → stated.statement M
-unfolding code.routine tablesOf
+pub tell-notice-spec : {M : Type 1} → f.Statement.statement M
+unfolding f.Code.routine tablesOf
 tell-notice-spec 𝓤 H 𝓜 𝓖 𝓡 =
     let A = 𝓖 .A in
     let W = givenOf 𝓤 H 𝓜 𝓖 in
-    let 𝓣 = tablesOf 𝓤 H 𝓜 (tables 𝓤 H 𝓜 𝓡 code.env) in
+    let 𝓣 = tablesOf 𝓤 H 𝓜 (tables 𝓤 H 𝓜 𝓡 f.Code.env) in
     entered 𝓤 H (tripleOf 𝓤 H (𝓖 .A) f.signature (f.spec 𝓤 H (𝓖 .A) (𝓜 .mem) (𝓡 .run)))
-    (tables 𝓤 H 𝓜 𝓡 code.env .C) (tables 𝓤 H 𝓜 𝓡 code.env .Λ) #calls·notice·tell-notice code.function (code.unfolded 𝓤 H 𝓜 𝓡)
-    (tell-meets planned NoticeAsked NoticeTold 𝓤 H A W (WpFn 𝓤 H (𝓣 .C) (𝓣 .Λ) code.function) (WpFn-mono 𝓤 H (W .laws) 𝓣 code.function)
+    (tables 𝓤 H 𝓜 𝓡 f.Code.env .C) (tables 𝓤 H 𝓜 𝓡 f.Code.env .Λ) f.Key.name f.Code.function (f.Code.unfolded 𝓤 H 𝓜 𝓡)
+    (tell-meets planned NoticeAsked NoticeTold 𝓤 H A W (WpFn 𝓤 H (𝓣 .C) (𝓣 .Λ) f.Code.function) (WpFn-mono 𝓤 H (W .laws) 𝓣 f.Code.function)
     (walk planned telling NoticeAsked NoticeTold (λ p t. t ≡ leftOf p) (λ p t. t ≡ enteredOf p) (λ p. p .upkeep .left ≤ p .need) (λ t n. n ≡ t .count) FillAsks Fills (λ p r. Answered (p .verdict) (p .need) (p .opened) r)
     asks-left (λ p m ys asked. asked .within) (λ p t u n m ys zs asked e e₁ c l. asks-entered p t m ys u n zs e e₁ c asked l) (λ p t u n m ys zs zs₁ r e e₁ c left entered handed. told p t m ys u n zs e e₁ c zs₁ r left entered handed)
-    𝓤 H A W 𝓣 (fmOf 𝓤 H (W .laws) 𝓣) #planning·left-of #planning·entered-of #calls·notice·count-of #rows·fill #calls·notice·answer-of
-    (cited 𝓤 H (ReadOf planned telling (λ p t. t ≡ leftOf p) 𝓤 H A (λ _. emp 𝓤)) 𝓜 𝓡 code.env #planning·left-of left-def.routine code.calls-planning·left-of (left-thm.met 𝓤 H 𝓜 𝓖 𝓡))
-    (cited 𝓤 H (ReadOf planned telling (λ p t. t ≡ enteredOf p) 𝓤 H A (λ p. fact 𝓤 (p .upkeep .left ≤ p .need))) 𝓜 𝓡 code.env #planning·entered-of entered-def.routine code.calls-planning·entered-of (entered-thm.met 𝓤 H 𝓜 𝓖 𝓡))
-    (cited 𝓤 H (ReadOf telling word (λ t n. n ≡ t .count) 𝓤 H A (λ _. emp 𝓤)) 𝓜 𝓡 code.env #calls·notice·count-of count-def.routine code.calls-calls·notice·count-of (count-thm.met 𝓤 H 𝓜 𝓖 𝓡))
-    (cited 𝓤 H (FillOf telling FillAsks Fills 𝓤 H A) 𝓜 𝓡 code.env #rows·fill fill-def.routine code.calls-rows·fill (fill-thm.met 𝓤 H 𝓜 𝓖 𝓡))
-    (cited 𝓤 H (ReadOf planned answer (λ p r. Answered (p .verdict) (p .need) (p .opened) r) 𝓤 H A (λ _. emp 𝓤)) 𝓜 𝓡 code.env #calls·notice·answer-of answer-def.routine code.calls-calls·notice·answer-of (answer-thm.met 𝓤 H 𝓜 𝓖 𝓡))))
+    𝓤 H A W 𝓣 (fmOf 𝓤 H (W .laws) 𝓣) left-of.Symbol.name entered-of.Symbol.name count-of.Symbol.name fill.Symbol.name answer-of.Symbol.name
+    (cited 𝓤 H (ReadOf planned telling (λ p t. t ≡ leftOf p) 𝓤 H A (λ _. emp 𝓤)) 𝓜 𝓡 f.Code.env left-of.Symbol.name left-of.Symbol.routine f.Code.calls-planning·left-of (left-of.Met.met 𝓤 H 𝓜 𝓖 𝓡))
+    (cited 𝓤 H (ReadOf planned telling (λ p t. t ≡ enteredOf p) 𝓤 H A (λ p. fact 𝓤 (p .upkeep .left ≤ p .need))) 𝓜 𝓡 f.Code.env entered-of.Symbol.name entered-of.Symbol.routine f.Code.calls-planning·entered-of (entered-of.Met.met 𝓤 H 𝓜 𝓖 𝓡))
+    (cited 𝓤 H (ReadOf telling word (λ t n. n ≡ t .count) 𝓤 H A (λ _. emp 𝓤)) 𝓜 𝓡 f.Code.env count-of.Symbol.name count-of.Symbol.routine f.Code.calls-calls·notice·count-of (count-of.Met.met 𝓤 H 𝓜 𝓖 𝓡))
+    (cited 𝓤 H (FillOf telling FillAsks Fills 𝓤 H A) 𝓜 𝓡 f.Code.env fill.Symbol.name fill.Symbol.routine f.Code.calls-rows·fill (fill.Met.met 𝓤 H 𝓜 𝓖 𝓡))
+    (cited 𝓤 H (ReadOf planned answer (λ p r. Answered (p .verdict) (p .need) (p .opened) r) 𝓤 H A (λ _. emp 𝓤)) 𝓜 𝓡 f.Code.env answer-of.Symbol.name answer-of.Symbol.routine f.Code.calls-calls·notice·answer-of (answer-of.Met.met 𝓤 H 𝓜 𝓖 𝓡))))

@@ -45,16 +45,17 @@ stayed = (stay-none-slice (0 ∷ []) tt (plain (λ _. u8)) yes, (gave-slice (1 �
 abbrev plan-ended : ByValue → Ended
 plan-ended R = record { signature = record { lifetimes = 1; outlives = []; params = SliceRefOf (0 ∷ []) tt (plain (λ κs. u8)) (λ κs. tt) ∷ plain (λ κs. usize) ∷ []; result = plain (λ κs. typeOf R) }; kept = (yes, (yes, tt)) }
 
-module _ (R : ByValue) (Plans : List ℕ → ℕ → R .Denot → Type 0) (Asks : R .Denot → List ℕ → List Row → Type 0) (Tells : R .Denot → List ℕ → List Row → Answer → List Row → Type 0)
-    (asks : (p : R .Denot) (m : List ℕ) (ys : List Row) → Plans m (length ys) p → Asks p m ys)
-    (keeps : (p : R .Denot) (m : List ℕ) (ys zs : List Row) (r : Answer) → Plans m (length ys) p → Tells p m ys r zs → QueryExported list m (rowsOf ys) r (rowsOf zs)) where
+module _ (R : ByValue) (Plans : List ℕ → ℕ → R .Denot → Type 0) where
   abbrev plan-clauses : {M : Type 1} (𝓤 : URA M) → Clauses 𝓤 (plan-ended R)
   plan-clauses 𝓤 κs a = record { ghost = Unit {0}; requires = λ _. emp 𝓤; ensures = λ _ r e. fact 𝓤 (Plans (a .0 .now) (a .1 .0) r) }
 
   abbrev PlanC : {M : Type 1} (𝓤 : URA M) (H : Heap 𝓤) (A : Atoms 𝓤) → Contract 𝓤
   PlanC 𝓤 H A = tripleOf 𝓤 H A (plan-ended R .signature) (closing 𝓤 H A (plan-ended R) (plan-clauses 𝓤))
 
-  module _ {M : Type 1} (𝓤 : URA M) (H : Heap 𝓤) (A : Atoms 𝓤) (W : Given 𝓤 H A) (mem : Memory → SProp 𝓤) (run : Routine → Fun 𝓤) (𝓣 : Tables 𝓤 H) (plans tells : Name) (known-plan : Triple 𝓤 (𝓣 .C plans) (PlanC 𝓤 H A)) (known-tell : Triple 𝓤 (𝓣 .C tells) (TellOf R Asks Tells 𝓤 H A)) where
+  module _ (Asks : R .Denot → List ℕ → List Row → Type 0) (Tells : R .Denot → List ℕ → List Row → Answer → List Row → Type 0)
+      (asks : (p : R .Denot) (m : List ℕ) (ys : List Row) → Plans m (length ys) p → Asks p m ys)
+      (keeps : (p : R .Denot) (m : List ℕ) (ys zs : List Row) (r : Answer) → Plans m (length ys) p → Tells p m ys r zs → QueryExported list m (rowsOf ys) r (rowsOf zs))
+      {M : Type 1} (𝓤 : URA M) (H : Heap 𝓤) (A : Atoms 𝓤) (W : Given 𝓤 H A) (mem : Memory → SProp 𝓤) (run : Routine → Fun 𝓤) (𝓣 : Tables 𝓤 H) (plans tells : Name) (known-plan : Triple 𝓤 (𝓣 .C plans) (PlanC 𝓤 H A)) (known-tell : Triple 𝓤 (𝓣 .C tells) (TellOf R Asks Tells 𝓤 H A)) where
     module _ (κ κr : Lft) (q qr : Share) (b o br or : ℕ) (γ γr : GName) (m : List ℕ) (ys : List Row) where
       abbrev s : Val
       s = sliceVal (b, o) (length m)
@@ -132,5 +133,5 @@ dolzhev-list-spec 𝓤 H 𝓜 𝓖 𝓡 =
     entered 𝓤 H (tripleOf 𝓤 H (𝓖 .A) f.signature (f.spec 𝓤 H (𝓖 .A) (𝓜 .mem) (𝓡 .run)))
     (tables 𝓤 H 𝓜 𝓡 f.Code.env .C) (tables 𝓤 H 𝓜 𝓡 f.Code.env .Λ) f.Key.name f.Code.function (f.Code.unfolded 𝓤 H 𝓜 𝓡)
     (meets listed (QueryPlanned list) ListAsked ListTold (λ p m ys e. list-asked list ys e) (λ p m ys zs r e told. query-exported list ys e zs told) 𝓤 H (𝓖 .A) (givenOf 𝓤 H 𝓜 𝓖) (𝓜 .mem) (𝓡 .run) (tablesOf 𝓤 H 𝓜 (tables 𝓤 H 𝓜 𝓡 f.Code.env)) plan.Symbol.name tell.Symbol.name
-    (cited 𝓤 H (PlanC listed (QueryPlanned list) ListAsked ListTold (λ p m ys e. list-asked list ys e) (λ p m ys zs r e told. query-exported list ys e zs told) 𝓤 H (𝓖 .A)) 𝓜 𝓡 f.Code.env plan.Symbol.name plan.Symbol.routine f.Code.calls-listing·plan-list (plan.Met.met 𝓤 H 𝓜 𝓖 𝓡))
+    (cited 𝓤 H (PlanC listed (QueryPlanned list) 𝓤 H (𝓖 .A)) 𝓜 𝓡 f.Code.env plan.Symbol.name plan.Symbol.routine f.Code.calls-listing·plan-list (plan.Met.met 𝓤 H 𝓜 𝓖 𝓡))
     (cited 𝓤 H (TellOf listed ListAsked ListTold 𝓤 H (𝓖 .A)) 𝓜 𝓡 f.Code.env tell.Symbol.name tell.Symbol.routine f.Code.calls-calls·tell-list (tell.Met.met 𝓤 H 𝓜 𝓖 𝓡)))
