@@ -21,7 +21,7 @@ use Rattle.query.proofs.band.few_before.Statement.{statement}
 use Rattle.query.proofs.band.few_before.Tie as tie
 
 abbrev Inv-loop : tie.InvT-loop
-Inv-loop m h most i corners costs q found₀ j₀ found j = (found ≤ most) × CountedTo (fits All (h .size) m q) (dominatesPlace (h .size) (h .dimension) m i) i j found
+Inv-loop m h most i corners costs q found₀ j₀ found j = CountedTo (fits All (h .size) m q) (dominatesPlace (h .size) (h .dimension) m i) i j found × (found ≤ most)
 
 abbrev μ-loop : tie.MeasureT-loop
 μ-loop m h most i corners costs q found₀ j₀ found j = i - j
@@ -42,7 +42,7 @@ loop-holds : tie.Need-loop-holds Inv-loop μ-loop
 loop-holds c =
     let s = c .before .before .before .before in
     let a = s .args in
-    (omega arith, dominators-first (a .h .size) (a .h .dimension) (a .m .now) (s .pre .0 .0 .dimension) (bytes (c .before)) (a .i) (c .before .bounds-of .result) (bounds (c .before)) (omega arith) (c .next-within .ensures))
+    (dominators-first (a .h .size) (a .h .dimension) (a .m .now) (s .pre .0 .0 .dimension) (bytes (c .before)) (a .i) (c .before .bounds-of .result) (bounds (c .before)) (omega arith) (c .next-within .ensures), omega arith)
 
 costs-at-requires-2 : tie.Need-costs-at-requires-2 Inv-loop μ-loop
 costs-at-requires-2 c κs = (c .before .before .before .before .before .before .pre .0 .0, omega arith)
@@ -55,7 +55,7 @@ returns c =
     let at = c .before .before .before .before .before .before .before in
     let lower = ap₂ (λ (p q : List ℕ). somewhereLess (take (a .h .dimension) p) (take (a .h .dimension) q)) (sym (c .before .before .before .costs-at2 .ensures)) (sym (at .before .costs-at .ensures)) ∙ sym (c .before .before .exceeds .ensures) in
     sym
-    (dominators-over (a .h .size) (a .h .dimension) (a .m .now) (s .pre .0 .0 .dimension) (bytes at) (a .i) (at .bounds-of .result) (bounds at) (own .inv .1) (a .most) (c .before .before .before .before .loop-test .taken)
+    (dominators-over (a .h .size) (a .h .dimension) (a .m .now) (s .pre .0 .0 .dimension) (bytes at) (a .i) (at .bounds-of .result) (bounds at) (own .inv .0) (a .most) (c .before .before .before .before .loop-test .taken)
     (lower ∙ c .before .if1 .taken) (c .if2 .taken))
 
 next-within-requires-2 : tie.Need-next-within-requires-2 Inv-loop μ-loop
@@ -70,10 +70,10 @@ loop-again c =
     let own = c .before .before .before .before .before .loop in
     let at = c .before .before .before .before .before .before .before in
     let lower = ap₂ (λ (p q : List ℕ). somewhereLess (take (a .h .dimension) p) (take (a .h .dimension) q)) (sym (c .before .before .before .costs-at2 .ensures)) (sym (at .before .costs-at .ensures)) ∙ sym (c .before .before .exceeds .ensures) in
-    let turn = dominators-next (a .h .size) (a .h .dimension) (a .m .now) (s .pre .0 .0 .dimension) (bytes at) (a .i) (at .bounds-of .result) (bounds at) (own .inv .1) in
+    let turn = dominators-next (a .h .size) (a .h .dimension) (a .m .now) (s .pre .0 .0 .dimension) (bytes at) (a .i) (at .bounds-of .result) (bounds at) (own .inv .0) in
     ⊎-elim
-    (λ w. (omega (arith, w .1 .left, w .2, own .inv .0), turn true (c .before .before .before .before .loop-test .taken) (lower ∙ w .0 .taken) (w .2) (c .next-within2 .ensures)))
-    (λ w. (omega (arith, w .1, own .inv .0), turn false (c .before .before .before .before .loop-test .taken) (lower ∙ w .0 .left) (omega (arith, w .1)) (c .next-within2 .ensures)))
+    (λ w. (turn true (c .before .before .before .before .loop-test .taken) (lower ∙ w .0 .taken) (w .2) (c .next-within2 .ensures), omega (arith, w .1 .left, w .2, own .inv .1)))
+    (λ w. (turn false (c .before .before .before .before .loop-test .taken) (lower ∙ w .0 .left) (omega (arith, w .1)) (c .next-within2 .ensures), omega (arith, w .1, own .inv .1)))
     (c .before .if1 .came)
 
 returns-2 : tie.Need-returns-2 Inv-loop μ-loop
@@ -82,7 +82,7 @@ returns-2 c =
     let a = s .args in
     let at = c .before .before .before in
     sym
-    (dominators-within (a .h .size) (a .h .dimension) (a .m .now) (s .pre .0 .0 .dimension) (bytes at) (a .i) (at .bounds-of .result) (bounds at) (c .before .loop .inv .1) (a .most) (omega arith) (c .before .loop .inv .0))
+    (dominators-within (a .h .size) (a .h .dimension) (a .m .now) (s .pre .0 .0 .dimension) (bytes at) (a .i) (at .bounds-of .result) (bounds at) (c .before .loop .inv .0) (a .most) (omega arith) (c .before .loop .inv .1))
 
 pub few-before-spec : {M : Type 1} → statement M
 few-before-spec =
