@@ -72,7 +72,7 @@ fn branches_are_found() {
         ("dominance::dominates", DOMINATES, "!exceeds(d, p, q) && exceeds(d, q, p)", "`&&`"),
         ("dominance::hides", "lower | exceeds(d, b, a)", "lower || exceeds(d, b, a)", "`||`"),
         ("dominance::choose", CHOOSE, "if factor == 1 { a } else { b }", "`else`"),
-        ("dominance::limits_of", "i += 1;", "i += if i < d { 1 } else { COSTS };", "`if`"),
+        ("dominance::bounds_of", "i += 1;", "i += if i < d { 1 } else { COSTS };", "`if`"),
         ("dominance::over", OVER, "if b < a { a - b } else { 0 }", "`else`"),
         ("dominance::least", LEAST, "if less(q[i], p[i]) == 1 { row[i] = q[i]; }", "`if`"),
         (
@@ -110,7 +110,7 @@ fn signs_are_found() {
         ("dominance::dominates", DOMINATES, "exceeds(d, p, q) < exceeds(d, q, p)", "`<`"),
         ("dominance::hides", LOWER, "less(p.costs[0], q.costs[0])", "`<`"),
         ("dominance::hides", "(lower |", "(p.number < q.number) & (lower |", "`<`"),
-        ("dominance::limits_in", LOOP, "while (i < COSTS) & (q[i] < 65535) {", "`<`"),
+        ("dominance::bounds_in", LOOP, "while (i < COSTS) & (q[i] < 65535) {", "`<`"),
         ("dominance::over", OVER, "(b < a) as u16 * (a - b)", "`<`"),
         ("dominance::least", LEAST, "row[i] = p[i] - (q[i] < p[i]) as u16 * over(p[i], q[i]);", "`<`"),
         ("dominance::greatest", LOOP, "while (i < COSTS) & (p[i] < 65535) {", "`<`"),
@@ -157,7 +157,7 @@ fn calls_are_found() {
 /// The name is called as before, but means another function.
 #[test]
 fn imports_are_found() {
-    let found = edited("query", "use dominance::exceeds_in;", "dominance::", "crate::kept::");
+    let found = edited("query", "use dominance::exceeds_in;", "dominance::", "crate::band::");
     assert!(found.contains(&"query::dominates_at: which `exceeds_in` is meant?".to_string()), "{found:?}");
 }
 

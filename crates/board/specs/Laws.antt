@@ -1,7 +1,7 @@
 -- What the steps of each change leave, and the call's promise from plan, rows and steps.
 pub mod Rows
-pub mod Kept
-pub mod Marks
+pub mod Made
+pub mod Flags
 pub mod Steps
 pub mod Enter
 pub mod Withdraw

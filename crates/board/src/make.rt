@@ -14,7 +14,7 @@ use tree::enter_line;
 use tree::with_rows;
 use tree::withdraw_line;
 use upkeep::Upkeep;
-use upkeep::set_marks;
+use upkeep::set_flags;
 ghost use Rattle.dominance.specs.Move.{asMove};
 ghost use Rattle.planning.specs.Change as spec;
 ghost use Rattle.planning.specs.Plan as plan;
@@ -25,7 +25,7 @@ fn make_enter(m: &mut [u8], h: Head, x: Move, u: Upkeep)
 {
     let n = h.count;
     let costs = x.costs;
-    set_marks(m, h, u);
+    set_flags(m, h, u);
     set_listed(m, h.size, x.number, u.listed);
     set_costs(m, h.size, x.number, costs);
     enter_line(m, h, x);
@@ -37,7 +37,7 @@ fn make_withdraw(m: &mut [u8], h: Head, p: usize, u: Upkeep)
     ensures { λ _. ⌜ spec.WithdrawMade (h .size) p (now (m .entry)) (now (m .exit)) ⌝ }
 {
     let n = h.count;
-    set_marks(m, h, u);
+    set_flags(m, h, u);
     withdraw_line(m, h, p);
     set_count(m, n - 1);
 }
@@ -48,7 +48,7 @@ fn make_recost(m: &mut [u8], h: Head, p: usize, x: Move, u: Upkeep)
 {
     let n = h.count;
     let costs = x.costs;
-    set_marks(m, h, u);
+    set_flags(m, h, u);
     set_listed(m, h.size, x.number, u.listed);
     withdraw_line(m, h, p);
     set_costs(m, h.size, x.number, costs);

@@ -6,7 +6,7 @@ use Rattle.model.specs.Moves as model
 use Rattle.model.specs.Calls as calls
 use Rattle.promises.specs.Answers.{numberOf, counted, resultRow}
 use Rattle.promises.specs.Promise.{LoadPromise, ChangePromise, PreviewPromise, QueryPromise}
-use Rattle.promises.specs.declared.Answer as said
+use Rattle.promises.specs.declared.CallResult as said
 use Rattle.promises.specs.declared.Verdict.{Verdict}
 use Rattle.rows.specs.Rows.{rowNumbers}
 use Rattle.rows.specs.declared.row.Row.{Row}
@@ -43,8 +43,8 @@ pub record LoadExported (c d : ℕ) (rows : List model.InputRow) (m : List ℕ) 
   pub promise : LoadPromise c d rows m verdict m'
 
 -- An answer handed on, of which this is promised.
-pub record AnswerExported (Promised : said.Answer → Type 0) (r : Answer) : Type 0 where
-  pub answer : said.Answer
+pub record AnswerExported (Promised : said.CallResult → Type 0) (r : Answer) : Type 0 where
+  pub answer : said.CallResult
   pub handed : Handed (answer .verdict) (answer .count) (answer .opened) r
   pub promise : Promised answer
 

@@ -46,7 +46,7 @@ pub fn at_most(n: usize, bound: usize) -> usize
 
 fn rank(m: &[u8], k: Call, b: Plain, rows: &mut [Row]) -> Plain {
     let lent = at_most(k.lent, rows.len());
-    let a = query::rank(m, k.argument, &mut rows[..lent]);
+    let a = ranking::rank(m, k.argument, &mut rows[..lent]);
     let v = a.verdict;
     spoken(b, v, a.count, a.opened)
 }

@@ -1,11 +1,12 @@
 // Addresses and regions for C and Rust: the calls of `zorder` with plain structs. They refuse as
 // those do.
+use zorder::AddressWords;
 use zorder::COSTS;
 use zorder::Verdict;
-use zorder::Words;
 ghost use mathlib.Core.Path.{_≡_};
 ghost use Rattle.zorder.specs.Promise.{numberOf};
-ghost use Rattle.dolzhev_zorder.specs.Exported.{AddressExported, CostsExported, RegionExported};
+ghost use Rattle.dolzhev_zorder.specs.Exported.{AddressExported, CostsExported};
+ghost use Rattle.dolzhev_zorder.specs.Exported.{RegionExported};
 
 #[repr(C)]
 pub struct Costs {
@@ -15,21 +16,21 @@ pub struct Costs {
 // Each answer: document 01's number of the refusal and its detail, then what is told, zero where
 // refused.
 #[repr(C)]
-pub struct AddressOf {
+pub struct AddressAnswer {
     pub refusal: usize,
     pub detail: usize,
-    pub address: Words,
+    pub address: AddressWords,
 }
 
 #[repr(C)]
-pub struct CostsOf {
+pub struct CostsAnswer {
     pub refusal: usize,
     pub detail: usize,
     pub costs: Costs,
 }
 
 #[repr(C)]
-pub struct RegionOf {
+pub struct RegionAnswer {
     pub refusal: usize,
     pub detail: usize,
     pub near: Costs,
@@ -48,14 +49,14 @@ fn number_of(v: Verdict) -> usize
 }
 
 #[no_mangle]
-pub extern "C" fn dolzhev_address(d: usize, costs: Costs) -> AddressOf
+pub extern "C" fn dolzhev_address(d: usize, costs: Costs) -> AddressAnswer
     ensures { λ r. ⌜ AddressExported d (costs .costs) r ⌝ }
 {
     let cs = costs.costs;
     let r = zorder::address(d, cs);
     let v = r.verdict;
     let address = r.address;
-    AddressOf {
+    AddressAnswer {
         refusal: number_of(v),
         detail: 0,
         address,
@@ -63,14 +64,14 @@ pub extern "C" fn dolzhev_address(d: usize, costs: Costs) -> AddressOf
 }
 
 #[no_mangle]
-pub extern "C" fn dolzhev_costs_of(d: usize, address: Words) -> CostsOf
+pub extern "C" fn dolzhev_costs_of(d: usize, address: AddressWords) -> CostsAnswer
     ensures { λ r. ⌜ CostsExported d address r ⌝ }
 {
     let r = zorder::costs(d, address);
     let v = r.verdict;
     let cs = r.costs;
     let costs = Costs { costs: cs };
-    CostsOf {
+    CostsAnswer {
         refusal: number_of(v),
         detail: 0,
         costs,
@@ -78,7 +79,7 @@ pub extern "C" fn dolzhev_costs_of(d: usize, address: Words) -> CostsOf
 }
 
 #[no_mangle]
-pub extern "C" fn dolzhev_region(d: usize, a: Words, b: Words) -> RegionOf
+pub extern "C" fn dolzhev_region(d: usize, a: AddressWords, b: AddressWords) -> RegionAnswer
     ensures { λ r. ⌜ RegionExported d a b r ⌝ }
 {
     let r = zorder::region(d, a, b);
@@ -87,7 +88,7 @@ pub extern "C" fn dolzhev_region(d: usize, a: Words, b: Words) -> RegionOf
     let f = r.far;
     let near = Costs { costs: n };
     let far = Costs { costs: f };
-    RegionOf {
+    RegionAnswer {
         refusal: number_of(v),
         detail: 0,
         near,

@@ -14,8 +14,8 @@ pub record Lanes (f : ℕ → ℕ) (row : List ℕ) : Type 0 where
   pub holds : (i : ℕ) → i < rowCosts → getD row i 0 ≡ f i
 
 -- The cost where a test holds, elsewhere 65535.
-abbrev pub limit : (ℕ → Bool) → List ℕ → ℕ → ℕ
-limit test q i = cond (test i) (getD q i 0) 65535
+abbrev pub bound : (ℕ → Bool) → List ℕ → ℕ → ℕ
+bound test q i = cond (test i) (getD q i 0) 65535
 
 -- The tests: one of the first d costs, one of a set.
 abbrev pub isFirst : ℕ → ℕ → Bool

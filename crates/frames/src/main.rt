@@ -1,5 +1,6 @@
-// Answers the frames of standard input, one a line, on standard output (document 01, "Frames"). Only reading and writing is
-// here: which bytes are a line, and what is answered, is `framing::feed`.
+// Answers the frames of standard input, one a line, on standard output (document 01, "Frames").
+// Only reading and writing are here: which bytes are a line, and what is answered, is
+// `framing::feed`.
 use framing::BYTES;
 use framing::Point;
 use framing::TEXT;
@@ -14,7 +15,7 @@ struct Turn {
     more: bool,
 }
 
-// All of these bytes, and the answers to the lines that they end.
+// Feeds all of these bytes, and writes the answers to the lines that they end.
 fn answer_all(p: Point, bytes: &[u8], m: &mut [u8], out: &mut [u8]) -> Point
     requires { ⌜ HoldsState (p .dimension) (now m) ⌝ }
     requires { ⌜ Lent (now m) (now out) ⌝ }
@@ -33,6 +34,7 @@ fn answer_all(p: Point, bytes: &[u8], m: &mut [u8], out: &mut [u8]) -> Point
     q
 }
 
+// Answers the bytes of one read.
 fn answer_read(p: Point, m: &mut [u8], out: &mut [u8]) -> Turn
     requires { ⌜ HoldsState (p .dimension) (now m) ⌝ }
     requires { ⌜ Lent (now m) (now out) ⌝ }

@@ -4,11 +4,12 @@ use mathlib.Core.List.{List, [], _∷_, _++_, flatMap}
 use mathlib.Core.Path.{_≡_, refl}
 use Rattle.model.specs.Computing.{computing}
 use Rattle.model.specs.Changing.{changeTree}
-use Rattle.framing.specs.Digits.{isDigit, valueOf, digitOf, joined, bytesOf, numbersOf}
-use Rattle.framing.specs.State.{dimensionOf}
-use Rattle.framing.specs.Frames.{sized, frameNumber, frameCosts, callFrame, boardFrame, callCodes, frameIn, wholeBytes, frameOf}
-use Rattle.framing.specs.Text.{byteText, wordText, rowText, rowsText, saidText, lineEnd, answerText}
-use Rattle.framing.specs.Session.{saidBy, heldBy, loadSays, said, held, answerTo, after, answersTo, linesFrom, printed, output}
+use Rattle.frame_lines.specs.Digits.{isDigit, valueOf, digitOf, joined, bytesOf, numbersOf}
+use Rattle.frame_lines.specs.State.{dimensionOf}
+use Rattle.frame_lines.specs.Frames.{sized, frameNumber, frameCosts, callFrame, boardFrame, callCodes, frameIn, wholeBytes, frameOf}
+use Rattle.frame_lines.specs.Text.{byteText, wordText, rowText, rowsText, saidText, lineEnd, answerText}
+use Rattle.frame_lines.specs.Lines.{linesFrom}
+use Rattle.framing.specs.Session.{saidBy, heldBy, loadSays, said, held, answerTo, after, answersTo, printed, output}
 
 -- The line that spells n in k digits.
 pub spelled : ℕ → ℕ → List ℕ

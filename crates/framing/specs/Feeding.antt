@@ -1,30 +1,14 @@
 -- What the functions that take the input as it comes promise: what they put, one after the other, is `printed`.
 use Prim.Native.Nat.{ℕ, _<_, _≤_}
-use mathlib.Core.Bool.{true, false}
 use mathlib.Core.List.{List, [], _++_}
 use mathlib.Core.Path.{_≡_}
-use lib.ListN.{length, getD, take, drop}
-use Rattle.framing.specs.State.{State}
-use Rattle.framing.specs.Text.{lineEnd}
-use Rattle.framing.specs.Session.{linesFrom, printed}
-use Rattle.framing.specs.Reading.{Judged}
+use lib.ListN.{length, take, drop}
+use Rattle.frame_lines.specs.State.{State}
+use Rattle.frame_lines.specs.Reading.{Judged}
+use Rattle.framing.specs.Session.{printed}
 use Rattle.framing.specs.Serving.{StateIn, HoldsState}
-use Rattle.framing.specs.declared.reading.Line.{Line}
-use Rattle.framing.specs.declared.feeding.Read.{Read}
 use Rattle.framing.specs.declared.feeding.Point.{Point}
 use Rattle.framing.specs.declared.feeding.Fed.{Fed}
-
--- The first n bytes added to a line, whatever it was; the lines of the input are as before.
-pub record ReadOn (l : Line) (bytes : List ℕ) (n : ℕ) (l' : Line) : Type 0 where
-  pub within : n ≤ length bytes
-  pub line : (line : List ℕ) → Judged line l → Judged (line ++ take n bytes) l'
-  pub lines : (line more : List ℕ) → linesFrom line (bytes ++ more) ≡ linesFrom (line ++ take n bytes) (drop n bytes ++ more)
-
--- .. up to a line end, or all.
-pub record LineRead (l : Line) (bytes : List ℕ) (r : Read) : Type 0 where
-  pub read : ReadOn l bytes (r .count) (r .line)
-  pub ended : r .ended ≡ true → (r .count < length bytes) × (getD bytes (r .count) 0 ≡ lineEnd)
-  pub whole : r .ended ≡ false → r .count ≡ length bytes
 
 -- What is held, and what was read of a line, as the code has them.
 pub record At (s : State) (line : List ℕ) (p : Point) (m : List ℕ) : Type 0 where

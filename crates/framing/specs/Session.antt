@@ -8,13 +8,16 @@ use Rattle.model.specs.Nodes.{nodesOpened}
 use Rattle.model.specs.Changing.{changeTree}
 use Rattle.model.specs.Calls as calls
 use Rattle.model.specs.Calls.{memoryNeed, loadAnswer, changeAnswer, changeNotice, changed, queryAnswer, queryRows}
-use Rattle.framing.specs.State.{State, unloaded, holds, dimensionOf}
-use Rattle.framing.specs.Frames.{Frame, load, change, list, early, wrong, frameOf}
-use Rattle.framing.specs.Text.{Reply, refused, notice, listed, answerText, lineEnd}
+use Rattle.frame_lines.specs.State.{State, unloaded, holds, dimensionOf}
+use Rattle.frame_lines.specs.Frames.{Frame, load, change, list, early, wrong, frameOf}
+use Rattle.frame_lines.specs.Text.{Reply, refused, notice, listed, answerText}
+use Rattle.frame_lines.specs.Lines.{linesFrom}
 
+-- C.
 abbrev pub boardSize : ℕ
 boardSize = 256
 
+-- C + 1: a notice never has more.
 abbrev pub lentRows : ℕ
 lentRows = 257
 
@@ -60,12 +63,6 @@ after s line = held (frameOf s line) s
 unfoldable pub answersTo : State → List (List ℕ) → List ℕ
 answersTo s [] = []
 answersTo s (l ∷ ls) = answerTo s l ++ answersTo (after s l) ls
-
--- The lines of an input, where `line` was read of the first: "A last line needs no line end; empty input prints nothing."
-unfoldable pub linesFrom : List ℕ → List ℕ → List (List ℕ)
-linesFrom [] [] = []
-linesFrom (b ∷ line) [] = (b ∷ line) ∷ []
-linesFrom line (b ∷ bs) = cond (eqb b lineEnd) (line ∷ linesFrom [] bs) (linesFrom (line ++ b ∷ []) bs)
 
 -- What is printed of an input, where s is held and `line` was read of its first line.
 unfoldable pub printed : State → List ℕ → List ℕ → List ℕ

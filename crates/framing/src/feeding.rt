@@ -1,8 +1,9 @@
 // The input as it comes, in parts of any length that may end in the middle of a line.
-use crate::reading::Line;
 use crate::serving::answer;
+use frame_lines::Line;
+use frame_lines::read_on;
 ghost use Rattle.framing.specs.Serving.{HoldsState, Lent};
-ghost use Rattle.framing.specs.Feeding.{LineRead, AtStart, Feeds, Finishes};
+ghost use Rattle.framing.specs.Feeding.{AtStart, Feeds, Finishes};
 
 // What was read of a line, and the board's number of costs, 0 before the first accepted load.
 pub struct Point {
@@ -17,37 +18,7 @@ pub struct Fed {
     pub answered: usize,
 }
 
-// A line with `count` bytes more, and whether it ends after them.
-struct Read {
-    line: Line,
-    count: usize,
-    ended: bool,
-}
-
-fn read_on(line: Line, bytes: &[u8]) -> Read
-    ensures { λ r. ⌜ LineRead line (now (bytes .entry)) r ⌝ }
-{
-    let mut l = line;
-    let mut i = 0;
-    while i < bytes.len() {
-        let b = bytes[i];
-        if b == b'\n' {
-            return Read {
-                line: l,
-                count: i,
-                ended: true,
-            };
-        }
-        l = l.step(b);
-        i += 1;
-    }
-    Read {
-        line: l,
-        count: i,
-        ended: false,
-    }
-}
-
+// Gives the point before the first byte.
 pub fn start() -> Point
     ensures { λ r. ⌜ AtStart r ⌝ }
 {
@@ -57,16 +28,18 @@ pub fn start() -> Point
     }
 }
 
-// Takes bytes up to a line end and with it, or all where there is none. The answer to a line that ended is put at the start of
-// `out`.
+// Takes bytes up to a line end and with it, or all where there is none. The answer to a line that
+// ended is put at the start of `out`.
 pub fn feed(p: Point, bytes: &[u8], m: &mut [u8], out: &mut [u8]) -> Fed
     requires { ⌜ HoldsState (p .dimension) (now m) ⌝ }
     requires { ⌜ Lent (now m) (now out) ⌝ }
-    ensures { λ r. ⌜ Feeds p (now (bytes .entry)) (now (m .entry)) r (now (m .exit)) (now (out .exit)) ⌝ }
+    ensures { λ r.
+        ⌜ Feeds p (now (bytes .entry)) (now (m .entry))
+        r (now (m .exit)) (now (out .exit)) ⌝ }
 {
     let begun = p.line;
     let read = read_on(begun, bytes);
-    let n = read.count;
+    let n = read.taken;
     let line = read.line;
     if !read.ended {
         return Fed {
@@ -85,20 +58,21 @@ pub fn feed(p: Point, bytes: &[u8], m: &mut [u8], out: &mut [u8]) -> Fed
             dimension: r.dimension,
         },
         taken: n + 1,
-        answered: r.count,
+        answered: r.answered,
     }
 }
 
-// The end of the input: a last line without a line end is answered. Gives how many bytes were put at the start of `out`.
+// Ends the input: a last line without a line end is answered. Gives how many bytes were put at the
+// start of `out`.
 pub fn finish(p: Point, m: &mut [u8], out: &mut [u8]) -> usize
     requires { ⌜ HoldsState (p .dimension) (now m) ⌝ }
     requires { ⌜ Lent (now m) (now out) ⌝ }
     ensures { λ r. ⌜ Finishes p (now (m .entry)) r (now (out .exit)) ⌝ }
 {
     let line = p.line;
-    if line.count == 0 {
+    if !line.is_begun() {
         return 0;
     }
     let r = answer(m, p.dimension, line, out);
-    r.count
+    r.answered
 }

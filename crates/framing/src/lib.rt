@@ -1,26 +1,26 @@
-// Frames (document 01, "Frames"): where a line ends, which line is which frame, what the board's call says of it, and which bytes
-// that is.
-mod digits;
+// Frames (document 01, "Frames") answered: what the board's call says of a line's frame, which
+// bytes that is, and the input as it comes.
 mod feeding;
-mod frame;
-mod reading;
 mod said;
 mod serving;
-mod text;
+mod told;
 
 pub use feeding::Fed;
 pub use feeding::Point;
 pub use feeding::feed;
 pub use feeding::finish;
 pub use feeding::start;
-use zorder::COSTS;
+use frame_lines::DIGITS;
 
-// The board's size, the bytes that it needs, and the rows lent to each call: an answer has space for so many.
+// The board's size.
 const SIZE: usize = 256;
 
-pub const BYTES: usize = 17408;
+// The memory that a board of this size needs.
+pub const BYTES: usize = 64 * SIZE + 1024;
 
-const ROWS: usize = 257;
+// The rows lent to each call: a notice never has more.
+const ROWS: usize = SIZE + 1;
 
-// The longest answer: ten digits before the rows, 22 for each row, and a line end.
-pub const TEXT: usize = ROWS * (4 * COSTS + 6) + 11;
+// Room for the longest answer: ten digits before the rows, for each row as many as the longest
+// frame has, and a line end.
+pub const TEXT: usize = ROWS * DIGITS + 11;

@@ -1,57 +1,38 @@
-// What a call says, as the bytes of an answer line.
-use crate::text::put_byte;
-use crate::text::put_told;
-use crate::text::put_word;
+// What a call says, as an answer line put at the start of a lent buffer; each function gives how
+// many bytes it put.
+use crate::told::put_told;
+use frame_lines::put_head;
+use frame_lines::put_refusal;
+use frame_lines::put_word;
+use frame_lines::two_bytes;
 use planning::ChangePlan;
 use planning::entered_of;
 use planning::left_of;
 use promises::Verdict;
 use promises::number_of;
 use rows::Plan;
-ghost use mathlib.Core.Path.{_≡_};
-ghost use Prim.Native.Nat.{_+_, _%_, _≤_};
+ghost use Prim.Native.Nat.{_≤_};
 ghost use lib.ListN.{length};
-ghost use Rattle.framing.specs.Text.{refused, answerText};
-ghost use Rattle.framing.specs.Writing.{TextPut, headText, ListRoom, ChangeRoom, loadSaid, listSaid, changeSaid};
+ghost use Rattle.frame_lines.specs.Text.{answerText};
+ghost use Rattle.frame_lines.specs.Put.{TextPut};
+ghost use Rattle.framing.specs.Writing as spec;
 
-// A number in two bytes.
-fn two_bytes(n: usize) -> u16
-    ensures { λ r. ⌜ r ≡ n % 65536 ⌝ }
-{
-    (n % 65536) as u16
-}
-
-// The number of a refusal, 0 of an accepted call, and a number of two bytes after it.
-fn put_head(out: &mut [u8], number: u8, n: usize) -> usize
-    requires { ⌜ 6 ≤ length (now out) ⌝ }
-    ensures { λ r. ⌜ TextPut (headText number n) (now (out .entry)) 0 (now (out .exit)) r ⌝ }
-{
-    let next = put_byte(out, 0, number as u16);
-    put_word(out, next, two_bytes(n))
-}
-
-// A refusal and its detail.
-pub fn put_refusal(out: &mut [u8], number: u8, detail: usize) -> usize
-    requires { ⌜ 7 ≤ length (now out) ⌝ }
-    ensures { λ r. ⌜ TextPut (answerText 0 (refused number detail)) (now (out .entry)) 0 (now (out .exit)) r ⌝ }
-{
-    let end = put_head(out, number, detail);
-    out[end] = b'\n';
-    end + 1
-}
-
-// What a load says: it tells no row, and accepted it says 0 and 0.
+// Puts what a load says: it tells no row, and accepted it says 0 and 0.
 pub fn put_loaded(out: &mut [u8], verdict: Verdict) -> usize
     requires { ⌜ 7 ≤ length (now out) ⌝ }
-    ensures { λ n. ⌜ TextPut (answerText 0 (loadSaid verdict)) (now (out .entry)) 0 (now (out .exit)) n ⌝ }
+    ensures { λ r.
+        ⌜ TextPut (answerText 0 (spec.loadSaid verdict))
+        (now (out .entry)) 0 (now (out .exit)) r ⌝ }
 {
     put_refusal(out, number_of(verdict), verdict.detail)
 }
 
-// What a list says, with the nodes opened and its rows.
+// Puts what a list says, with the nodes opened and its rows.
 pub fn put_list(out: &mut [u8], m: &[u8], d: usize, p: Plan) -> usize
-    requires { ⌜ ListRoom d p (now m) (now out) ⌝ }
-    ensures { λ n. ⌜ TextPut (answerText d (listSaid p (now (m .entry)))) (now (out .entry)) 0 (now (out .exit)) n ⌝ }
+    requires { ⌜ spec.ListRoom d p (now m) (now out) ⌝ }
+    ensures { λ r.
+        ⌜ TextPut (answerText d (spec.listSaid p (now (m .entry))))
+        (now (out .entry)) 0 (now (out .exit)) r ⌝ }
 {
     let verdict = p.verdict;
     let telling = p.telling;
@@ -66,10 +47,12 @@ pub fn put_list(out: &mut [u8], m: &[u8], d: usize, p: Plan) -> usize
     end + 1
 }
 
-// What a change says, with its notice.
+// Puts what a change says, with its notice.
 pub fn put_change(out: &mut [u8], m: &[u8], d: usize, p: ChangePlan) -> usize
-    requires { ⌜ ChangeRoom d p (now m) (now out) ⌝ }
-    ensures { λ n. ⌜ TextPut (answerText d (changeSaid p (now (m .entry)))) (now (out .entry)) 0 (now (out .exit)) n ⌝ }
+    requires { ⌜ spec.ChangeRoom d p (now m) (now out) ⌝ }
+    ensures { λ r.
+        ⌜ TextPut (answerText d (spec.changeSaid p (now (m .entry))))
+        (now (out .entry)) 0 (now (out .exit)) r ⌝ }
 {
     let verdict = p.verdict;
     let number = number_of(verdict);

@@ -1,8 +1,8 @@
 // Yard block hours (Card 8): the list over the moves in open blocks, planned without writing. It
 // has no `requires`: it refuses.
 mod blocks;
-mod open;
 mod plan;
+mod shown;
 mod windows;
 
 pub use plan::plan_hours;

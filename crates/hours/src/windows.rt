@@ -3,14 +3,19 @@ use crate::HOURS;
 ghost use mathlib.Core.Path.{_≡_};
 ghost use Prim.Native.Nat.{_≤_, _<_};
 ghost use Rattle.model.specs.Basics.{any};
-ghost use Rattle.model.specs.Hours.{windowsOf, windowBad, hoursBad, openIn};
+ghost use Rattle.model.specs.Hours.{windowsOf, minuteBad, windowBad, hoursBad, openIn};
 ghost use Rattle.promises.specs.Layout.{tab};
 ghost use Rattle.promises.specs.Answers.{windowAt, blockHours};
 
+// How many windows a block has at most.
 const WINDOWS: u16 = 4;
 
-// The last minute of the week.
-const LAST: u16 = 10079;
+// Says whether the week has no such minute.
+pub(crate) fn minute_bad(t: usize) -> bool
+    ensures { λ r. ⌜ r ≡ minuteBad t ⌝ }
+{
+    10079 < t
+}
 
 // How many slots hold a window.
 fn windows_in(entry: [u16; HOURS]) -> usize
@@ -24,16 +29,18 @@ fn windows_in(entry: [u16; HOURS]) -> usize
     }
 }
 
+// Says whether a window starts where it ends, or reaches past the week.
 fn window_bad(entry: [u16; HOURS], i: usize) -> bool
     requires { ⌜ i < 4 ⌝ }
     ensures { λ r. ⌜ r ≡ windowBad (windowAt entry i) ⌝ }
 {
     let start = entry[1 + 2 * i];
     let end = entry[2 + 2 * i];
-    (LAST < start) | (LAST < end) | (start == end)
+    minute_bad(start as usize) | minute_bad(end as usize) | (start == end)
 }
 
-// Start included, end not; an end below the start runs over the week's end.
+// Says whether a window is open at a minute: start included, end not; an end below the start runs
+// over the week's end.
 fn open_in(entry: [u16; HOURS], i: usize, minute: u16) -> bool
     requires { ⌜ i < 4 ⌝ }
     ensures { λ r. ⌜ r ≡ openIn minute (windowAt entry i) ⌝ }

@@ -6,8 +6,7 @@ use lib.ListN.{drop, getD}
 use Rattle.model.specs.Basics.{count}
 use Rattle.model.specs.Nodes.{Node, nodeOf}
 use Rattle.line.specs.Line.{Placed, none, movesIn}
-use Rattle.line.specs.Places.{heightAt}
-use Rattle.line.specs.Places.{tailOf}
+use Rattle.line.specs.Places.{heightAt, tailOf}
 
 -- The node at level l that starts with row r: its moves stand before the next row with height l or more.
 unfoldable pub nodeAt : ℕ → Placed → List Placed → Node

@@ -1,2 +1,2 @@
--- The marked moves are the list.
+-- The flaged moves are the list.
 pub mod List

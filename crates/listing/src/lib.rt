@@ -1,4 +1,4 @@
-// List: the list, read off the marks, and the nodes opened. It is planned without writing.
+// List: the list, read off the flags, and the nodes opened. It is planned without writing.
 use nodes::nodes_opened;
 use promises::Outcome;
 use rows::Plan;

@@ -11,7 +11,8 @@ ghost use Rattle.loading.specs.Blocks.{Storable, BlocksGiven};
 // From the last row on, as the definition gives them.
 pub fn give_blocks(m: &mut [u8], c: usize, rows: &[[u16; INPUT]])
     requires { ⌜ Room c (now m) × Storable c (map inputRow (now rows)) ⌝ }
-    ensures { λ _. ⌜ BlocksGiven c (map inputRow (now (rows .entry))) (now (m .entry)) (now (m .exit)) ⌝ }
+    ensures { λ _. ⌜ BlocksGiven c (map inputRow (now (rows .entry))) (now (m .entry))
+        (now (m .exit)) ⌝ }
 {
     let mut left = rows.len();
     while 0 < left {

@@ -8,6 +8,6 @@ pub mod Lines
 pub mod Blocks
 pub mod Places
 pub mod Turns
-pub mod Marks
+pub mod Flags
 pub mod Ordered
 pub mod Held

@@ -3,7 +3,7 @@ use Prim.Native.Nat.{ℕ, suc}
 use mathlib.Core.Bool.{Bool, cond}
 use mathlib.Core.List.{List, [], _∷_}
 use lib.ListN.{set}
-use Rattle.promises.specs.Layout.{setWord, formatNumber, sizePlace, dimensionPlace, formatPlace, countPlace, numberPlace, heightPlace, markPlace, blockPlace, costPlace, workPlace}
+use Rattle.promises.specs.Layout.{setWord, formatNumber, sizePlace, dimensionPlace, formatPlace, countPlace, numberPlace, heightPlace, flagPlace, blockPlace, costPlace, workPlace}
 
 unfoldable pub setHead : ℕ → ℕ → ℕ → List ℕ → List ℕ
 setHead c d n m = setWord countPlace n (set (set (setWord sizePlace c m) dimensionPlace d) formatPlace formatNumber)
@@ -12,13 +12,13 @@ unfoldable pub setCount : ℕ → List ℕ → List ℕ
 setCount n m = setWord countPlace n m
 
 unfoldable pub setNumber : ℕ → ℕ → ℕ → List ℕ → List ℕ
-setNumber c i v m = setWord (numberPlace c i) v m
+setNumber c i v m = setWord (numberPlace i) v m
 
 unfoldable pub setHeight : ℕ → ℕ → ℕ → List ℕ → List ℕ
 setHeight c i h m = set m (heightPlace c i) h
 
 unfoldable pub setListed : ℕ → ℕ → Bool → List ℕ → List ℕ
-setListed c n listed m = set m (markPlace c n) (cond listed 1 0)
+setListed c n listed m = set m (flagPlace c n) (cond listed 1 0)
 
 unfoldable pub setBlock : ℕ → ℕ → ℕ → List ℕ → List ℕ
 setBlock c n block m = set m (blockPlace c n) block

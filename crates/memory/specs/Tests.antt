@@ -9,7 +9,7 @@ use Rattle.zorder.specs.Refusal.{costCountBad}
 use Rattle.model.specs.Moves.{Move, moveBefore}
 use Rattle.model.specs.Dominance.{hides}
 use Rattle.model.specs.Calls.{sizeBad, memoryNeed, blockBad}
-use Rattle.promises.specs.Layout.{sizeIn, dimensionIn, formatIn, formatNumber, countIn, numberIn, markIn, blockIn, moveIn}
+use Rattle.promises.specs.Layout.{sizeIn, dimensionIn, formatIn, formatNumber, countIn, numberIn, flagIn, blockIn, moveIn}
 use Rattle.promises.specs.Sound.{Sound}
 
 -- A test passes at 0, 1, .., n-1.
@@ -39,11 +39,11 @@ unfoldable pub orderRight : ℕ → ℕ → ℕ → List ℕ → Bool
 orderRight c d n m = allTo (λ i. moveBefore d (moveIn c d m i) (moveIn c d m (suc i))) (n - 1)
 
 -- Whether the move with a number is listed, and the one at place i.
-abbrev pub isMarked : ℕ → List ℕ → ℕ → Bool
-isMarked c m k = eqb (markIn c m k) 1
+abbrev pub isFlaged : ℕ → List ℕ → ℕ → Bool
+isFlaged c m k = eqb (flagIn c m k) 1
 
 unfoldable pub isListed : ℕ → List ℕ → ℕ → Bool
-isListed c m i = isMarked c m (numberIn c m i)
+isListed c m i = isFlaged c m (numberIn c m i)
 
 -- A listed move at a place before i hides x.
 unfoldable pub hiddenBefore : ℕ → ℕ → List ℕ → ℕ → Move → Bool
@@ -52,8 +52,8 @@ hiddenBefore c d m i x = anyTo (λ j. isListed c m j && hides d (moveIn c d m j)
 abbrev pub hiddenAt : ℕ → ℕ → List ℕ → ℕ → Bool
 hiddenAt c d m i = hiddenBefore c d m i (moveIn c d m i)
 
-unfoldable pub marksRight : ℕ → ℕ → ℕ → List ℕ → Bool
-marksRight c d n m = allTo (λ i. Bool·beq (isListed c m i) (not (hiddenAt c d m i))) n
+unfoldable pub flagsRight : ℕ → ℕ → ℕ → List ℕ → Bool
+flagsRight c d n m = allTo (λ i. Bool·beq (isListed c m i) (not (hiddenAt c d m i))) n
 
 -- The two halves of that: each move that is not listed is hidden, and no listed one is.
 unfoldable pub hiddenRight : ℕ → ℕ → ℕ → List ℕ → Bool

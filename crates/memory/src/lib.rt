@@ -3,9 +3,11 @@ mod bytes;
 mod fields;
 mod head;
 mod order;
+mod places;
 mod stores;
 
 pub use fields::block_of;
+pub use fields::costs_at;
 pub use fields::costs_of;
 pub use fields::has_format;
 pub use fields::height_at;

@@ -1,6 +1,16 @@
 // Each field written.
 use crate::bytes::set_word;
 use crate::fields::FORMAT;
+use crate::places::COUNT_PLACE;
+use crate::places::DIMENSION_PLACE;
+use crate::places::FORMAT_PLACE;
+use crate::places::SIZE_PLACE;
+use crate::places::block_place;
+use crate::places::costs_place;
+use crate::places::flag_place;
+use crate::places::height_place;
+use crate::places::number_place;
+use crate::places::work_place;
 use zorder::COSTS;
 ghost use mathlib.Core.Path.{_≡_};
 ghost use Prim.Native.Nat.{_≤_, _<_};
@@ -13,10 +23,10 @@ pub fn set_head(m: &mut [u8], c: usize, d: usize, n: usize)
     requires { ⌜ (16 ≤ length (now m)) × (c < 65536) × (d < 256) × (n < 65536) ⌝ }
     ensures { λ _. ⌜ now (m .exit) ≡ stores.setHead c d n (now (m .entry)) ⌝ }
 {
-    set_word(m, 0, c as u16);
-    m[2] = d as u8;
-    m[3] = FORMAT;
-    set_word(m, 4, n as u16);
+    set_word(m, SIZE_PLACE, c as u16);
+    m[DIMENSION_PLACE] = d as u8;
+    m[FORMAT_PLACE] = FORMAT;
+    set_word(m, COUNT_PLACE, n as u16);
 }
 
 // Writes the number of moves.
@@ -24,7 +34,7 @@ pub fn set_count(m: &mut [u8], n: usize)
     requires { ⌜ (16 ≤ length (now m)) × (n < 65536) ⌝ }
     ensures { λ _. ⌜ now (m .exit) ≡ stores.setCount n (now (m .entry)) ⌝ }
 {
-    set_word(m, 4, n as u16);
+    set_word(m, COUNT_PLACE, n as u16);
 }
 
 // Writes the number of the move at place i.
@@ -32,7 +42,7 @@ pub fn set_number(m: &mut [u8], c: usize, i: usize, number: u16)
     requires { ⌜ Room c (now m) × (i < c) ⌝ }
     ensures { λ _. ⌜ now (m .exit) ≡ stores.setNumber c i number (now (m .entry)) ⌝ }
 {
-    set_word(m, 16 + 2 * i, number);
+    set_word(m, number_place(i), number);
 }
 
 // Writes the highest level of the nodes that start at place i.
@@ -40,15 +50,15 @@ pub fn set_height(m: &mut [u8], c: usize, i: usize, height: u8)
     requires { ⌜ Room c (now m) × (i < c) ⌝ }
     ensures { λ _. ⌜ now (m .exit) ≡ stores.setHeight c i height (now (m .entry)) ⌝ }
 {
-    m[16 + 2 * c + i] = height;
+    m[height_place(c, i)] = height;
 }
 
-// Marks the move of a number as listed or hidden.
+// Flags the move of a number as listed or hidden.
 pub fn set_listed(m: &mut [u8], c: usize, number: u16, listed: bool)
     requires { ⌜ Room c (now m) × (number < c) ⌝ }
     ensures { λ _. ⌜ now (m .exit) ≡ stores.setListed c number listed (now (m .entry)) ⌝ }
 {
-    m[16 + 3 * c + (number as usize)] = if listed { 1 } else { 0 };
+    m[flag_place(c, number)] = if listed { 1 } else { 0 };
 }
 
 // Writes the block of a number's move.
@@ -56,7 +66,7 @@ pub fn set_block(m: &mut [u8], c: usize, number: u16, block: u16)
     requires { ⌜ Room c (now m) × (number < c) × (block < 256) ⌝ }
     ensures { λ _. ⌜ now (m .exit) ≡ stores.setBlock c number block (now (m .entry)) ⌝ }
 {
-    m[16 + 4 * c + (number as usize)] = block as u8;
+    m[block_place(c, number)] = block as u8;
 }
 
 // Writes the costs of a number's move, all words of the row.
@@ -64,7 +74,7 @@ pub fn set_costs(m: &mut [u8], c: usize, number: u16, costs: [u16; COSTS])
     requires { ⌜ Room c (now m) × (number < c) ⌝ }
     ensures { λ _. ⌜ now (m .exit) ≡ stores.setCosts c number costs (now (m .entry)) ⌝ }
 {
-    let at = 16 + 5 * c + 16 * (number as usize);
+    let at = costs_place(c, number);
     let mut j = 0;
     while j < COSTS {
         set_word(m, at + 2 * j, costs[j]);
@@ -77,5 +87,5 @@ pub fn set_work(m: &mut [u8], c: usize, i: usize, number: u16)
     requires { ⌜ Room c (now m) × (i < c) ⌝ }
     ensures { λ _. ⌜ now (m .exit) ≡ stores.setWork c i number (now (m .entry)) ⌝ }
 {
-    set_word(m, 16 + 21 * c + 2 * i, number);
+    set_word(m, work_place(c, i), number);
 }

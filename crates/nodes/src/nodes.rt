@@ -3,8 +3,8 @@
 // move goes, at place `goes`, it is not among these moves, and a node is opened only if the going
 // move is nowhere greater than its far corner. For a list none goes: the place is past the last.
 use crate::places::node_end;
+use dominance::bounds_of;
 use dominance::exceeds;
-use dominance::limits_of;
 use memory::Head;
 use memory::costs_of;
 use memory::height_at;
@@ -36,9 +36,10 @@ fn corner_dominated(
 ) -> bool
     requires { ⌜ Readable h (now m) × (i ≤ h .count) ⌝ }
     requires { ⌜ ListedCorners h (now m) i (now corners) ⌝ }
-    ensures { λ r. ⌜ r ≡ search.cornerDominated (h .size) (h .dimension) goes i (now (m .entry)) near ⌝ }
+    ensures { λ r. ⌜ r ≡ search.cornerDominated (h .size) (h .dimension) goes i
+        (now (m .entry)) near ⌝ }
 {
-    let q = limits_of(h.dimension, near);
+    let q = bounds_of(h.dimension, near);
     let mut j = next_within(m, h, 0, i, Among::Listed, corners, q);
     while j < i {
         let costs = costs_of(m, h.size, h.dimension, number_at(m, h.size, j));
@@ -54,7 +55,8 @@ fn corner_dominated(
 // this first and this last move.
 fn exceeds_far(m: &[u8], h: Head, goes: usize, first: [u16; COSTS], last: [u16; COSTS]) -> bool
     requires { ⌜ Readable h (now m) ⌝ }
-    ensures { λ r. ⌜ r ≡ not (search.goesWithin (h .size) (h .dimension) goes (h .count) (now (m .entry)) (farOf (h .dimension) first last)) ⌝ }
+    ensures { λ r. ⌜ r ≡ not (search.goesWithin (h .size) (h .dimension) goes (h .count)
+        (now (m .entry)) (farOf (h .dimension) first last)) ⌝ }
 {
     if h.count <= goes {
         return false;
@@ -68,7 +70,8 @@ fn exceeds_far(m: &[u8], h: Head, goes: usize, first: [u16; COSTS], last: [u16; 
 fn opens(m: &[u8], h: Head, goes: usize, corners: &[[u16; COSTS]; RUNS], i: usize, e: usize) -> bool
     requires { ⌜ Readable h (now m) × (i < e) × (e ≤ h .count) ⌝ }
     requires { ⌜ ListedCorners h (now m) i (now corners) ⌝ }
-    ensures { λ r. ⌜ r ≡ search.opensPlaces (h .size) (h .dimension) goes (h .count) (now (m .entry)) i e ⌝ }
+    ensures { λ r. ⌜ r ≡ search.opensPlaces (h .size) (h .dimension) goes (h .count)
+        (now (m .entry)) i e ⌝ }
 {
     let first = costs_of(m, h.size, h.dimension, number_at(m, h.size, i));
     let last = costs_of(m, h.size, h.dimension, number_at(m, h.size, e - 1));

@@ -5,7 +5,8 @@ use memory::number_at;
 use zorder::side_of;
 ghost use Prim.Native.Nat.{_≤_, _<_};
 ghost use Rattle.memory.specs.Room.{Room};
-ghost use Rattle.nodes.specs.Places.{NodeEnd, NodeStart, Entries, EntryAt, SideAt, SideAsked, EntryAsked};
+ghost use Rattle.nodes.specs.Places.{NodeEnd, NodeStart, Entries, EntryAt, SideAt, SideAsked};
+ghost use Rattle.nodes.specs.Places.{EntryAsked};
 
 // Where the node at level l that holds place p ends.
 pub fn node_end(m: &[u8], c: usize, n: usize, l: u8, p: usize) -> usize

@@ -23,7 +23,7 @@ use Rattle.upkeep.specs.declared.exchange.Exchange.{Exchange}
 use Rattle.rows.specs.Telling.{nobody, filledRows}
 use Rattle.rows.specs.Planned.{Foreseen, Tells}
 use Rattle.rows.specs.declared.telling.Coming.{Coming}
-use Rattle.rows.specs.declared.telling.Told.{Told}
+use Rattle.rows.specs.declared.telling.View.{View}
 use Rattle.rows.specs.declared.telling.Telling.{Telling}
 use Rattle.planning.specs.Kind.{callOf, comes, comingOf}
 use Rattle.planning.specs.Change.{Made, ToEnter, ToWithdraw, ToRecost}
@@ -83,11 +83,11 @@ pub record CarriedOut (p : ChangePlan) (m m' : List ℕ) : Type 0 where
 
 -- ---- what a plan tells
 
--- The listed moves whose mark changes leave; the hidden ones enter, and the coming one.
-abbrev pub leavingBy : Head → Told
+-- The listed moves whose flag changes leave; the hidden ones enter, and the coming one.
+abbrev pub leavingBy : Head → View
 leavingBy h = record { head = h; mark = left; among = Listed; coming = nobody }
 
-abbrev pub enteringBy : Head → Coming → Told
+abbrev pub enteringBy : Head → Coming → View
 enteringBy h x = record { head = h; mark = entered; among = Hidden; coming = x }
 
 abbrev pub leftOf : ChangePlan → Telling

@@ -4,14 +4,14 @@ use crate::plan::ChangePlan;
 use promises::counted;
 use rows::Coming;
 use rows::Telling;
-use rows::Told;
+use rows::View;
 use rows::nobody;
 use search::Among;
 ghost use mathlib.Core.Path.{_≡_};
 ghost use Prim.Native.Nat.{_≤_};
 ghost use Rattle.planning.specs.Plan.{leftOf, enteredOf};
 
-// The listed moves whose mark changes.
+// The listed moves whose flag changes.
 pub fn left_of(p: ChangePlan) -> Telling
     ensures { λ r. ⌜ r ≡ leftOf p ⌝ }
 {
@@ -19,7 +19,7 @@ pub fn left_of(p: ChangePlan) -> Telling
     let head = p.head;
     let numbers = p.upkeep.changed;
     Telling {
-        told: Told {
+        told: View {
             head,
             mark: 1,
             among: Among::Listed,
@@ -30,7 +30,7 @@ pub fn left_of(p: ChangePlan) -> Telling
     }
 }
 
-// The hidden moves whose mark changes, and the coming one.
+// The hidden moves whose flag changes, and the coming one.
 pub fn entered_of(p: ChangePlan) -> Telling
     requires { ⌜ p .upkeep .left ≤ p .need ⌝ }
     ensures { λ r. ⌜ r ≡ enteredOf p ⌝ }
@@ -40,7 +40,7 @@ pub fn entered_of(p: ChangePlan) -> Telling
     let change = p.change;
     let numbers = p.upkeep.changed;
     Telling {
-        told: Told {
+        told: View {
             head,
             mark: 2,
             among: Among::Hidden,

@@ -1,5 +1,5 @@
 -- The lent memory: fields at offsets that the size C alone determines (docs/DECISIONS.md has the picture). Numbers are two
--- bytes, the lower first. Marks, blocks and costs go by move number, so that a change of the tree leaves them where they are.
+-- bytes, the lower first. Flags, blocks and costs go by move number, so that a change of the tree leaves them where they are.
 use Prim.Native.Nat.{ℕ, zero, suc, _+_, _*_, _/_, _%_}
 use mathlib.Core.List.{List, [], _∷_, _++_}
 use lib.Dec.{eqb}
@@ -29,22 +29,22 @@ formatPlace = 3
 abbrev pub countPlace : ℕ
 countPlace = 4
 
-unfoldable pub numberPlace : ℕ → ℕ → ℕ
-numberPlace c i = 16 + 2 * i
+abbrev pub numberPlace : ℕ → ℕ
+numberPlace i = 16 + 2 * i
 
-unfoldable pub heightPlace : ℕ → ℕ → ℕ
+abbrev pub heightPlace : ℕ → ℕ → ℕ
 heightPlace c i = 16 + 2 * c + i
 
-unfoldable pub markPlace : ℕ → ℕ → ℕ
-markPlace c n = 16 + 3 * c + n
+abbrev pub flagPlace : ℕ → ℕ → ℕ
+flagPlace c n = 16 + 3 * c + n
 
-unfoldable pub blockPlace : ℕ → ℕ → ℕ
+abbrev pub blockPlace : ℕ → ℕ → ℕ
 blockPlace c n = 16 + 4 * c + n
 
-unfoldable pub costPlace : ℕ → ℕ → ℕ → ℕ
+abbrev pub costPlace : ℕ → ℕ → ℕ → ℕ
 costPlace c n j = 16 + 5 * c + 16 * n + 2 * j
 
-unfoldable pub workPlace : ℕ → ℕ → ℕ
+abbrev pub workPlace : ℕ → ℕ → ℕ
 workPlace c i = 16 + 21 * c + 2 * i
 
 -- The head: C, d, the format and how many moves are on the board.
@@ -64,15 +64,15 @@ formatNumber = 1
 unfoldable pub countIn : List ℕ → ℕ
 countIn m = wordAt countPlace m
 
--- By place in Z-order: the number of the move, and its height. By number: its mark, its block and its costs.
+-- By place in Z-order: the number of the move, and its height. By number: the flag that says whether it is listed, its block and its costs.
 unfoldable pub numberIn : ℕ → List ℕ → ℕ → ℕ
-numberIn c m i = wordAt (numberPlace c i) m
+numberIn c m i = wordAt (numberPlace i) m
 
 unfoldable pub heightIn : ℕ → List ℕ → ℕ → ℕ
 heightIn c m i = getD m (heightPlace c i) 0
 
-unfoldable pub markIn : ℕ → List ℕ → ℕ → ℕ
-markIn c m n = getD m (markPlace c n) 0
+unfoldable pub flagIn : ℕ → List ℕ → ℕ → ℕ
+flagIn c m n = getD m (flagPlace c n) 0
 
 unfoldable pub blockIn : ℕ → List ℕ → ℕ → ℕ
 blockIn c m n = getD m (blockPlace c n) 0
@@ -119,9 +119,9 @@ boardIn m =
       blocks = blocksOn (movesIn (lineIn m)) (blockIn (sizeIn m) m);
     }
 
--- The kept list: the moves whose mark is 1.
+-- The kept list: the moves whose flag is 1.
 unfoldable pub keptFrom : ℕ → List ℕ → List Move → List Move
-keptFrom c m ms = select (λ x. eqb (markIn c m (x .number)) 1) ms
+keptFrom c m ms = select (λ x. eqb (flagIn c m (x .number)) 1) ms
 
 unfoldable pub keptIn : List ℕ → List Move
 keptIn m = keptFrom (sizeIn m) m (movesIn (lineIn m))

@@ -11,7 +11,7 @@ use Rattle.model.specs.Holder.{change, preview, listCall, other, Event, Demand3
 use Rattle.promises.specs.Answers.{answerOf, numberOf}
 use Rattle.promises.specs.Promise.{LoadPromise, QueryPromise, ChangePromise, PreviewPromise}
 use Rattle.promises.specs.declared.Verdict.{Verdict}
-use Rattle.promises.specs.declared.Answer.{Answer}
+use Rattle.promises.specs.declared.CallResult.{CallResult}
 
 -- The lent memory is a list of bytes, as its type in the code says.
 unfoldable pub Bytes : List ℕ → Type 0
@@ -20,9 +20,9 @@ Bytes m = (i : ℕ) → getD m i 0 < 256
 -- One call, from the memory before it to the memory after it. Rows are lent anew to each call, any number of them. Last, any
 -- call that leaves the memory, whatever it answers.
 pub data Step : List ℕ → List ℕ → Type 0 where
-  changes : (x : Change) (lent lent' : List Row) (r : Answer) {m m' : List ℕ} → Bytes m' → ChangePromise x m lent r m' lent' → Step m m'
-  previews : (x : Change) (lent lent' : List Row) (r : Answer) {m : List ℕ} → PreviewPromise x m lent r lent' → Step m m
-  lists : (lent lent' : List Row) (r : Answer) {m : List ℕ} → QueryPromise list m lent r lent' → Step m m
+  changes : (x : Change) (lent lent' : List Row) (r : CallResult) {m m' : List ℕ} → Bytes m' → ChangePromise x m lent r m' lent' → Step m m'
+  previews : (x : Change) (lent lent' : List Row) (r : CallResult) {m : List ℕ} → PreviewPromise x m lent r lent' → Step m m
+  lists : (lent lent' : List Row) (r : CallResult) {m : List ℕ} → QueryPromise list m lent r lent' → Step m m
   loadRefused : (c d : ℕ) (rows : List InputRow) (v : Verdict) {m m' : List ℕ} → LoadPromise c d rows m v m' → (numberOf v ≡ 0 → ⊥) → Step m m'
   leaves : (answer : calls.Answer) {m : List ℕ} → Step m m
 

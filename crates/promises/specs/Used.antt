@@ -7,7 +7,7 @@ use lib.Dec.{eqb, leb}
 use lib.ListN.{length, getD}
 use Rattle.model.specs.Basics.{any}
 use Rattle.model.specs.Calls.{memoryNeed}
-use Rattle.promises.specs.Layout.{sizePlace, formatPlace, countPlace, numberPlace, heightPlace, markPlace, blockPlace, costPlace, sizeIn, dimensionIn, countIn, numberIn, tab}
+use Rattle.promises.specs.Layout.{sizePlace, formatPlace, countPlace, numberPlace, heightPlace, flagPlace, blockPlace, costPlace, sizeIn, dimensionIn, countIn, numberIn, tab}
 use Rattle.promises.specs.Written.{inArea}
 
 -- C, d, the format and the count.
@@ -16,11 +16,11 @@ headUse i = inArea sizePlace (formatPlace + 1) i || inArea countPlace (countPlac
 
 -- Numbers and heights at the first n places.
 unfoldable pub rowsUse : ℕ → ℕ → ℕ → Bool
-rowsUse c n i = inArea (numberPlace c 0) (numberPlace c n) i || inArea (heightPlace c 0) (heightPlace c n) i
+rowsUse c n i = inArea (numberPlace 0) (numberPlace n) i || inArea (heightPlace c 0) (heightPlace c n) i
 
--- The mark, the block and the first d costs of a move's number.
+-- The flag, the block and the first d costs of a move's number.
 unfoldable pub moveUse : ℕ → ℕ → ℕ → ℕ → Bool
-moveUse c d i number = eqb i (markPlace c number) || eqb i (blockPlace c number) || inArea (costPlace c number 0) (costPlace c number d) i
+moveUse c d i number = eqb i (flagPlace c number) || eqb i (blockPlace c number) || inArea (costPlace c number 0) (costPlace c number d) i
 
 unfoldable pub inUse : List ℕ → ℕ → Bool
 inUse m i =

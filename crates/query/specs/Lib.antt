@@ -1,6 +1,5 @@
--- What the other lists compute; then their laws.
+-- What band, on k and chosen costs compute; then their laws.
 pub mod Rule
-pub mod Kept
-pub mod Plan
-pub mod Rank
+pub mod Band
+pub mod Unbeaten
 pub mod Laws

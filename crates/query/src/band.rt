@@ -1,38 +1,37 @@
-// Band: the moves that at most so many others dominate. Who dominates a move stands before it, and a listed move none does.
-use crate::kept::costs_at;
+// Band: the moves that at most so many others dominate. Who dominates a move stands before it, and
+// a listed move none does.
+use dominance::bounds_of;
 use dominance::exceeds;
-use dominance::limits_of;
 use memory::Head;
+use memory::costs_at;
 use memory::is_listed;
 use memory::number_at;
-use numbers::add;
 use numbers::empty;
 use search::Among;
 use search::RUNS;
 use search::corners_of;
 use search::next_within;
 use upkeep::Found;
+use upkeep::add_found;
 use zorder::COSTS;
 ghost use mathlib.Core.Path.{_≡_};
 ghost use Prim.Native.Nat.{_<_};
-ghost use Rattle.promises.specs.Layout.{moveIn};
-ghost use Rattle.memory.specs.Held.{SoundAt};
+ghost use Rattle.memory.specs.Held.{SoundAt, moveHeld};
 ghost use Rattle.memory.specs.Room.{Readable};
 ghost use Rattle.search.specs.Search.{Corners};
-ghost use Rattle.search.specs.declared.search.Among.the-variants as among;
-ghost use Rattle.upkeep.specs.Found.{Finds};
-ghost use Rattle.query.specs.Kept as spec;
-ghost use Rattle.query.specs.declared.rule.Rule.the-variants.{All};
+ghost use Rattle.search.specs.declared.search.Among.the-variants.{All};
+ghost use Rattle.upkeep.specs.Found.{FindsMoves};
+ghost use Rattle.query.specs.Band.{bandOf, fewBefore};
 
-// Whether at most `most` of the moves before place i dominate the one at i. What the search finds is nowhere greater, and
-// dominates if it is somewhere less.
+// Whether at most `most` of the moves before place i dominate the one at i. What the search finds
+// is nowhere greater, and dominates if it is somewhere less.
 fn few_before(m: &[u8], h: Head, most: usize, i: usize, corners: &[[u16; COSTS]; RUNS]) -> bool
     requires { ⌜ Readable h (now m) × (i < h .count) ⌝ }
-    requires { ⌜ Corners among.All (h .size) (now m) (h .count) (now corners) ⌝ }
-    ensures { λ r. ⌜ r ≡ spec.stays (h .dimension) All most (spec.movesTo (h .size) (h .dimension) i (now (m .entry))) (moveIn (h .size) (h .dimension) (now (m .entry)) i .costs) ⌝ }
+    requires { ⌜ Corners All (h .size) (now m) (h .count) (now corners) ⌝ }
+    ensures { λ r. ⌜ r ≡ fewBefore h most (now (m .entry)) i ⌝ }
 {
     let costs = costs_at(m, h, i);
-    let q = limits_of(h.dimension, costs);
+    let q = bounds_of(h.dimension, costs);
     let mut found: usize = 0;
     let mut j = next_within(m, h, 0, i, Among::All, corners, q);
     while j < i {
@@ -47,10 +46,11 @@ fn few_before(m: &[u8], h: Head, most: usize, i: usize, corners: &[[u16; COSTS];
     true
 }
 
-fn stays_at(m: &[u8], h: Head, most: usize, i: usize, corners: &[[u16; COSTS]; RUNS]) -> bool
+// Whether at most `most` moves dominate the one at place i.
+fn in_band(m: &[u8], h: Head, most: usize, i: usize, corners: &[[u16; COSTS]; RUNS]) -> bool
     requires { ⌜ SoundAt h (now m) × (i < h .count) ⌝ }
-    requires { ⌜ Corners among.All (h .size) (now m) (h .count) (now corners) ⌝ }
-    ensures { λ r. ⌜ r ≡ spec.stays (h .dimension) All most (spec.movesTo (h .size) (h .dimension) (h .count) (now (m .entry))) (moveIn (h .size) (h .dimension) (now (m .entry)) i .costs) ⌝ }
+    requires { ⌜ Corners All (h .size) (now m) (h .count) (now corners) ⌝ }
+    ensures { λ r. ⌜ r ≡ bandOf h most (now (m .entry)) (moveHeld h (now (m .entry)) i) ⌝ }
 {
     if is_listed(m, h.size, number_at(m, h.size, i)) {
         return true;
@@ -58,10 +58,10 @@ fn stays_at(m: &[u8], h: Head, most: usize, i: usize, corners: &[[u16; COSTS]; R
     few_before(m, h, most, i, corners)
 }
 
-// The moves that at most `most` others dominate.
-pub fn find_band(m: &[u8], h: Head, most: usize) -> Found
+// Finds the moves that at most `most` others dominate.
+pub(crate) fn find_band(m: &[u8], h: Head, most: usize) -> Found
     requires { ⌜ SoundAt h (now m) ⌝ }
-    ensures { λ r. ⌜ Finds h (spec.staysFor (h .size) (h .dimension) (h .count) All most (now (m .entry))) (now (m .entry)) r ⌝ }
+    ensures { λ r. ⌜ FindsMoves h (bandOf h most (now (m .entry))) (now (m .entry)) r ⌝ }
 {
     let n = h.count;
     let corners = corners_of(m, h, Among::All);
@@ -69,10 +69,8 @@ pub fn find_band(m: &[u8], h: Head, most: usize) -> Found
     let mut count: usize = 0;
     let mut i = 0;
     while i < n {
-        if stays_at(m, h, most, i, &corners) {
-            add(&mut numbers, number_at(m, h.size, i));
-            count += 1;
-        }
+        let found = in_band(m, h, most, i, &corners);
+        count += add_found(m, h, i, found, &mut numbers);
         i += 1;
     }
     Found { numbers, count }

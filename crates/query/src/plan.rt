@@ -1,4 +1,5 @@
-// Band, on k and chosen costs planned: 3, then 7, then the moves that few enough others beat, and 8.
+// Band, on k and chosen costs planned: 3, then 7, then the moves that few enough others beat,
+// and 8.
 use crate::band::find_band;
 use crate::rule::Rule;
 use crate::unbeaten::find_unbeaten;
@@ -11,7 +12,7 @@ use soundness::sound_head;
 ghost use Rattle.model.specs.Calls.{bandQuery, onKQuery, chosenQuery};
 ghost use Rattle.rows.specs.Planned.{QueryPlanned};
 
-// Band (Definition 3): the moves that b others or fewer dominate.
+// Plans band (Definition 3): the moves that b others or fewer dominate.
 pub fn plan_band(m: &[u8], b: usize, lent: usize) -> Plan
     ensures { λ r. ⌜ QueryPlanned (bandQuery b) (now (m .entry)) lent r ⌝ }
 {
@@ -24,7 +25,7 @@ pub fn plan_band(m: &[u8], b: usize, lent: usize) -> Plan
     plan_found(h, find_band(m, h, b), 0, lent)
 }
 
-// On k (Definition 6): the moves that none dominates on k of the costs.
+// Plans on k (Definition 6): the moves that none dominates on k of the costs.
 pub fn plan_on_k(m: &[u8], k: usize, lent: usize) -> Plan
     ensures { λ r. ⌜ QueryPlanned (onKQuery k) (now (m .entry)) lent r ⌝ }
 {
@@ -37,7 +38,8 @@ pub fn plan_on_k(m: &[u8], k: usize, lent: usize) -> Plan
     plan_found(h, find_unbeaten(m, h, Rule::OnK(k)), 0, lent)
 }
 
-// Chosen costs (Definition 8): the moves that none dominates on them, out of all moves. Bit i of the set stands for cost i.
+// Plans chosen costs (Definition 8): the moves that none dominates on them, out of all moves. Bit i
+// of the set stands for cost i.
 pub fn plan_chosen(m: &[u8], set: usize, lent: usize) -> Plan
     ensures { λ r. ⌜ QueryPlanned (chosenQuery set) (now (m .entry)) lent r ⌝ }
 {

@@ -1,31 +1,31 @@
-// On k and chosen costs: the moves that none beats. What some move beats, a listed one does, so each move is held against the
-// listed ones only.
-use crate::kept::costs_at;
+// On k and chosen costs: the moves that none beats. What some move beats, a listed one does, so
+// each move is held against the listed ones only.
 use crate::rule::Rule;
 use crate::rule::beats;
-use dominance::limits_in;
+use dominance::bounds_in;
 use memory::Head;
+use memory::costs_at;
 use memory::is_listed;
 use memory::number_at;
-use numbers::add;
 use numbers::empty;
 use search::Among;
 use search::RUNS;
 use search::corners_of;
-use search::kept;
 use search::next_within;
+use search::tried_next;
 use upkeep::Found;
+use upkeep::add_found;
 use zorder::COSTS;
 ghost use Prim.Native.Nat.{_≤_, _<_, _%_, _^_};
 ghost use Rattle.zorder.specs.Address.{rowCosts};
-ghost use Rattle.dominance.specs.Lanes.{Lanes, limit, isChosen};
+ghost use Rattle.dominance.specs.Lanes.{Lanes, bound, isChosen};
 ghost use Rattle.memory.specs.Held.{SoundAt};
 ghost use Rattle.memory.specs.Room.{Readable};
-ghost use Rattle.search.specs.Search.{First, Some, ListedCorners};
 ghost use Rattle.memory.specs.Tests.{isListed};
-ghost use Rattle.upkeep.specs.Found.{Finds};
-ghost use Rattle.query.specs.Kept as spec;
+ghost use Rattle.search.specs.Search.{First, ListedCorners};
+ghost use Rattle.upkeep.specs.Found.{FindsMoves};
 ghost use Rattle.query.specs.Rule.{Fair};
+ghost use Rattle.query.specs.Unbeaten as spec;
 
 // The next listed place from i on.
 fn next_listed(m: &[u8], h: Head, i: usize) -> usize
@@ -43,15 +43,16 @@ fn next_listed(m: &[u8], h: Head, i: usize) -> usize
     j
 }
 
-// Limits on those of the first d costs that are in the set.
-fn chosen_limits(d: usize, set: usize, q: [u16; COSTS]) -> [u16; COSTS]
+// Bounds on those of the first d costs that are in the set.
+fn chosen_bounds(d: usize, set: usize, q: [u16; COSTS]) -> [u16; COSTS]
     requires { ⌜ d ≤ rowCosts ⌝ }
-    ensures { λ r. ⌜ Lanes (limit (isChosen (set % 2 ^ d)) q) r ⌝ }
+    ensures { λ r. ⌜ Lanes (bound (isChosen (set % 2 ^ d)) q) r ⌝ }
 {
-    limits_in(set % (1usize << d), q)
+    bounds_in(set % (1usize << d), q)
 }
 
-// The next place from j on with a listed move that may beat these costs: on chosen costs one that is nowhere greater there.
+// The next place from j on with a listed move that may beat these costs: on chosen costs one that
+// is nowhere greater there.
 fn candidate(
     m: &[u8],
     h: Head,
@@ -62,13 +63,12 @@ fn candidate(
 ) -> usize
     requires { ⌜ Readable h (now m) × (j ≤ h .count) ⌝ }
     requires { ⌜ ListedCorners h (now m) (h .count) (now corners) ⌝ }
-    ensures { λ r. ⌜ spec.Next (h .size) (h .dimension) (h .count) rule (now (m .entry)) costs j r ⌝ }
+    ensures { λ r. ⌜ spec.Next h rule (now (m .entry)) costs j r ⌝ }
 {
     match rule {
-        Rule::All => next_listed(m, h, j),
         Rule::OnK(_) => next_listed(m, h, j),
         Rule::Chosen(set) => {
-            let q = chosen_limits(h.dimension, set, costs);
+            let q = chosen_bounds(h.dimension, set, costs);
             next_within(m, h, j, h.count, Among::Listed, corners, q)
         }
     }
@@ -84,7 +84,7 @@ fn listed_beater(
 ) -> usize
     requires { ⌜ SoundAt h (now m) × Fair rule ⌝ }
     requires { ⌜ ListedCorners h (now m) (h .count) (now corners) ⌝ }
-    ensures { λ r. ⌜ Some (spec.beatsAt (h .size) (h .dimension) rule (now (m .entry)) costs) (h .count) r ⌝ }
+    ensures { λ r. ⌜ spec.Beater h rule (now (m .entry)) costs r ⌝ }
 {
     let n = h.count;
     let mut j = candidate(m, h, rule, 0, corners, costs);
@@ -108,7 +108,7 @@ fn beater(
 ) -> usize
     requires { ⌜ SoundAt h (now m) × Fair rule ⌝ }
     requires { ⌜ ListedCorners h (now m) (h .count) (now corners) ⌝ }
-    ensures { λ r. ⌜ Some (spec.beatsAt (h .size) (h .dimension) rule (now (m .entry)) costs) (h .count) r ⌝ }
+    ensures { λ r. ⌜ spec.Beater h rule (now (m .entry)) costs r ⌝ }
 {
     if last < h.count {
         if beats(h.dimension, rule, costs_at(m, h, last), costs) {
@@ -118,10 +118,10 @@ fn beater(
     listed_beater(m, h, rule, corners, costs)
 }
 
-// The moves that none beats. What beat one move often beats the next.
-pub fn find_unbeaten(m: &[u8], h: Head, rule: Rule) -> Found
+// Finds the moves that none beats. What beat one move often beats the next.
+pub(crate) fn find_unbeaten(m: &[u8], h: Head, rule: Rule) -> Found
     requires { ⌜ SoundAt h (now m) × Fair rule ⌝ }
-    ensures { λ r. ⌜ Finds h (spec.staysFor (h .size) (h .dimension) (h .count) rule 0 (now (m .entry))) (now (m .entry)) r ⌝ }
+    ensures { λ r. ⌜ FindsMoves h (spec.unbeatenOf h rule (now (m .entry))) (now (m .entry)) r ⌝ }
 {
     let n = h.count;
     let corners = corners_of(m, h, Among::Listed);
@@ -131,11 +131,8 @@ pub fn find_unbeaten(m: &[u8], h: Head, rule: Rule) -> Found
     let mut i = 0;
     while i < n {
         let j = beater(m, h, rule, last, &corners, costs_at(m, h, i));
-        if n <= j {
-            add(&mut numbers, number_at(m, h.size, i));
-            count += 1;
-        }
-        last = kept(j, n, last);
+        count += add_found(m, h, i, n <= j, &mut numbers);
+        last = tried_next(j, n, last);
         i += 1;
     }
     Found { numbers, count }

@@ -15,7 +15,7 @@ use Rattle.promises.specs.Sound.{Stands, Sound}
 use Rattle.promises.specs.Answers.{answerOf, numberOf, counted, resultRow, refusedBy}
 use Rattle.promises.specs.declared.Verdict.{Verdict}
 use Rattle.promises.specs.declared.Outcome.the-variants.{Unsound}
-use Rattle.promises.specs.declared.Answer.{Answer}
+use Rattle.promises.specs.declared.CallResult.{CallResult}
 use Rattle.memory.specs.Held.{SoundAt}
 use Rattle.memory.specs.declared.head.Head.{Head}
 use Rattle.upkeep.specs.Found.{Finds, foundMoves}
@@ -76,5 +76,5 @@ unfoldable pub put : ℕ → List Row → List Row → List Row
 put from new rows = take from rows ++ (new ++ drop (from + length new) rows)
 
 -- What the call answers: of a refused one the counts are zero.
-abbrev pub answered : Verdict → ℕ → ℕ → Answer
+abbrev pub answered : Verdict → ℕ → ℕ → CallResult
 answered v need opened = record { verdict = v; count = counted (numberOf v) need; opened = counted (numberOf v) opened }

@@ -18,15 +18,15 @@ use Rattle.numbers.specs.Set.{inSet}
 use Rattle.upkeep.specs.Change.{placesIn}
 use Rattle.rows.specs.Rows.{moveNumbers}
 use Rattle.rows.specs.declared.telling.Coming.{Coming}
-use Rattle.rows.specs.declared.telling.Told.{Told}
+use Rattle.rows.specs.declared.telling.View.{View}
 use Rattle.rows.specs.declared.telling.Telling.{Telling}
 
-pub record TellingAsked (t : Told) (m : List ℕ) : Type 0 where
+pub record TellingAsked (t : View) (m : List ℕ) : Type 0 where
   pub readable : Readable (t .head) m
   pub place : t .coming .place ≤ t .head .count
 
 -- Whether the move at place i is told.
-unfoldable pub tellsPlace : Told → List ℕ → List ℕ → ℕ → Bool
+unfoldable pub tellsPlace : View → List ℕ → List ℕ → ℕ → Bool
 tellsPlace t numbers m i = inSet numbers (numberIn (t .head .size) m i) && looksAt (t .among) (t .head .size) m i
 
 -- The rows of some places under a mark.
@@ -38,7 +38,7 @@ unfoldable pub comingRows : ℕ → Coming → List (List ℕ)
 comingRows mark x = cond (x .told) (moveNumbers mark (asMove (x .entrant)) ∷ []) []
 
 -- All rows, the coming move's at its place.
-unfoldable pub toldRows : Told → List ℕ → List ℕ → List (List ℕ)
+unfoldable pub toldRows : View → List ℕ → List ℕ → List (List ℕ)
 toldRows t numbers m =
     let h = t .head in
     let p = t .coming .place in
@@ -50,7 +50,7 @@ toldRows t numbers m =
 abbrev pub nobody : Coming
 nobody = record { told = false; place = 0; entrant = record { number = 0; costs = replicate rowCosts 0 } }
 
-abbrev pub listedBy : Head → Told
+abbrev pub listedBy : Head → View
 listedBy h = record { head = h; mark = listed; among = All; coming = nobody }
 
 abbrev pub listing : Head → List ℕ → ℕ → Telling
@@ -59,38 +59,38 @@ listing h numbers count = record { told = listedBy h; numbers = numbers; count =
 -- ---- one by one
 
 -- Positions are the places of the board, with the coming move before its own: so there is one more.
-abbrev pub positions : Told → ℕ
+abbrev pub positions : View → ℕ
 positions t = t .head .count + 1
 
 -- The place shown at a position, the coming move standing before place p; the coming move has none.
 unfoldable pub placeOf : ℕ → ℕ → ℕ
 placeOf p i = cond (ltb i p) i (i - 1)
 
-unfoldable pub toldAt : Told → List ℕ → List ℕ → ℕ → Bool
+unfoldable pub toldAt : View → List ℕ → List ℕ → ℕ → Bool
 toldAt t numbers m i = cond (eqb i (t .coming .place)) (t .coming .told) (tellsPlace t numbers m (placeOf (t .coming .place) i))
 
-unfoldable pub rowAt : Told → List ℕ → ℕ → List ℕ
+unfoldable pub rowAt : View → List ℕ → ℕ → List ℕ
 rowAt t m i =
     cond (eqb i (t .coming .place)) (moveNumbers (t .mark) (asMove (t .coming .entrant)))
     (moveNumbers (t .mark) (moveIn (t .head .size) (t .head .dimension) m (placeOf (t .coming .place) i)))
 
 -- The told positions from one on.
-unfoldable pub toldFrom : Told → List ℕ → List ℕ → ℕ → List ℕ
+unfoldable pub toldFrom : View → List ℕ → List ℕ → ℕ → List ℕ
 toldFrom t numbers m i = select (toldAt t numbers m) (numbersFrom i (positions t - i))
 
 -- The row at the first of them, and the position after it.
-unfoldable pub nextRow : Told → List ℕ → List ℕ → ℕ → List ℕ
+unfoldable pub nextRow : View → List ℕ → List ℕ → ℕ → List ℕ
 nextRow t numbers m i = firstOr (replicate (2 + rowCosts) 0) (map (rowAt t m) (toldFrom t numbers m i))
 
-unfoldable pub nextAt : Told → List ℕ → List ℕ → ℕ → ℕ
+unfoldable pub nextAt : View → List ℕ → List ℕ → ℕ → ℕ
 nextAt t numbers m i = firstOr (positions t) (map suc (toldFrom t numbers m i))
 
 -- Where the row k is looked for.
-unfoldable pub position : Told → List ℕ → List ℕ → ℕ → ℕ
+unfoldable pub position : View → List ℕ → List ℕ → ℕ → ℕ
 position t numbers m zero = 0
 position t numbers m (suc k) = nextAt t numbers m (position t numbers m k)
 
 -- Rows after the first k told ones were put into them, one by one, from a row on.
-unfoldable pub filledRows : Told → List ℕ → List ℕ → ℕ → ℕ → List (List ℕ) → List (List ℕ)
+unfoldable pub filledRows : View → List ℕ → List ℕ → ℕ → ℕ → List (List ℕ) → List (List ℕ)
 filledRows t numbers m from zero rows = rows
 filledRows t numbers m from (suc k) rows = set (filledRows t numbers m from k rows) (from + k) (nextRow t numbers m (position t numbers m k))

@@ -12,8 +12,10 @@ ghost use Rattle.rows.specs.Telling.{TellingAsked, filledRows};
 
 // The rows that a telling tells, put into the lent ones from row `from` on.
 pub fn fill(rows: &mut [Row], m: &[u8], t: Telling, from: usize)
-    requires { ⌜ (0 < t .count → TellingAsked (t .told) (now m)) × (from + t .count ≤ length (now rows)) ⌝ }
-    ensures { λ _. ⌜ map rowNumbers (now (rows .exit)) ≡ filledRows (t .told) (t .numbers) (now (m .entry)) from (t .count) (map rowNumbers (now (rows .entry))) ⌝ }
+    requires { ⌜ (0 < t .count → TellingAsked (t .told) (now m))
+        × (from + t .count ≤ length (now rows)) ⌝ }
+    ensures { λ _. ⌜ map rowNumbers (now (rows .exit)) ≡ filledRows (t .told) (t .numbers)
+        (now (m .entry)) from (t .count) (map rowNumbers (now (rows .entry))) ⌝ }
 {
     let told = t.told;
     let numbers = t.numbers;

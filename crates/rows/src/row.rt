@@ -1,11 +1,13 @@
 // A row that a call tells: mark, number, costs; as a struct and as numbers.
 use dominance::Move;
+use promises::WORDS;
+use promises::costs_from;
 use zorder::COSTS;
 ghost use mathlib.Core.Path.{_≡_};
 ghost use Rattle.dominance.specs.Move.{asMove};
 ghost use Rattle.rows.specs.Rows.{rowNumbers, moveNumbers};
 
-pub const ROW: usize = COSTS + 2;
+pub const ROW: usize = WORDS;
 
 #[repr(C)]
 pub struct Row {
@@ -34,15 +36,9 @@ pub fn row_of(x: Move, mark: u16) -> [u16; ROW]
 pub fn row_from(numbers: [u16; ROW]) -> Row
     ensures { λ x. ⌜ rowNumbers x ≡ numbers ⌝ }
 {
-    let mut costs = [0u16; COSTS];
-    let mut j = 0;
-    while j < COSTS {
-        costs[j] = numbers[j + 2];
-        j += 1;
-    }
     Row {
         mark: numbers[0],
         number: numbers[1],
-        costs,
+        costs: costs_from(numbers),
     }
 }

@@ -23,7 +23,7 @@ pub struct Coming {
 }
 
 // Which moves of a set are told, all or the listed or the hidden ones, and under which mark.
-pub struct Told {
+pub struct View {
     pub head: Head,
     pub mark: u16,
     pub among: Among,
@@ -33,7 +33,7 @@ pub struct Told {
 // `count` rows are told. The set goes by reference where rows are told one by one: it would be
 // copied for each of them.
 pub struct Telling {
-    pub told: Told,
+    pub told: View,
     pub numbers: [u64; WORDS],
     pub count: usize,
 }
@@ -63,7 +63,7 @@ pub(crate) fn listing_of(head: Head, numbers: [u64; WORDS], count: usize) -> Tel
     ensures { λ r. ⌜ r ≡ spec.listing head numbers count ⌝ }
 {
     Telling {
-        told: Told {
+        told: View {
             head,
             mark: 0,
             among: Among::All,
@@ -95,7 +95,7 @@ fn place_at(place: usize, i: usize) -> usize
 }
 
 // Whether a row is told at position i.
-fn is_told(m: &[u8], t: Told, numbers: &[u64; WORDS], i: usize) -> bool
+fn is_told(m: &[u8], t: View, numbers: &[u64; WORDS], i: usize) -> bool
     requires { ⌜ spec.TellingAsked t (now m) × (i ≤ t .head .count) ⌝ }
     ensures { λ r. ⌜ r ≡ spec.toldAt t (now (numbers .entry)) (now (m .entry)) i ⌝ }
 {
@@ -113,7 +113,7 @@ fn is_told(m: &[u8], t: Told, numbers: &[u64; WORDS], i: usize) -> bool
 }
 
 // The row at position i.
-fn row_at(m: &[u8], t: Told, i: usize) -> [u16; ROW]
+fn row_at(m: &[u8], t: View, i: usize) -> [u16; ROW]
     requires { ⌜ spec.TellingAsked t (now m) × (i ≤ t .head .count) ⌝ }
     ensures { λ r. ⌜ r ≡ spec.rowAt t (now (m .entry)) i ⌝ }
 {
@@ -128,9 +128,10 @@ fn row_at(m: &[u8], t: Told, i: usize) -> [u16; ROW]
 }
 
 // The first told row from position i on.
-pub fn told_next(m: &[u8], t: Told, numbers: &[u64; WORDS], i: usize) -> Step
+pub fn told_next(m: &[u8], t: View, numbers: &[u64; WORDS], i: usize) -> Step
     requires { ⌜ spec.TellingAsked t (now m) ⌝ }
-    ensures { λ r. ⌜ (r .row ≡ spec.nextRow t (now (numbers .entry)) (now (m .entry)) i) × (r .next ≡ spec.nextAt t (now (numbers .entry)) (now (m .entry)) i) ⌝ }
+    ensures { λ r. ⌜ (r .row ≡ spec.nextRow t (now (numbers .entry)) (now (m .entry)) i)
+        × (r .next ≡ spec.nextAt t (now (numbers .entry)) (now (m .entry)) i) ⌝ }
 {
     let h = t.head;
     let end = h.count + 1;

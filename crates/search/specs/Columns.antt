@@ -32,9 +32,9 @@ pub record Says (yes no : Type 0) (r : Bool) : Type 0 where
   pub true-says : r ≡ true → yes
   pub false-says : r ≡ false → no
 
--- Limits for d costs: past them every cost of 16 bits fits.
-abbrev pub Limits : ℕ → List ℕ → Type 0
-Limits d q = (k : ℕ) → d ≤ k → k < rowCosts → getD q k 0 ≡ 65535
+-- Bounds for d costs: past them every cost of 16 bits fits.
+abbrev pub Bounds : ℕ → List ℕ → Type 0
+Bounds d q = (k : ℕ) → d ≤ k → k < rowCosts → getD q k 0 ≡ 65535
 
 -- A column that is nowhere greater than q: so is every row of 16 bits that is this column.
 pub record FittingColumn (columns q : List ℕ) : Type 0 where

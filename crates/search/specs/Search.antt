@@ -7,9 +7,9 @@ use lib.Dec.{eqb}
 use lib.ListN.{length, getD}
 use Rattle.zorder.specs.Address.{rowCosts}
 use Rattle.model.specs.Dominance.{nowhereGreater}
-use Rattle.dominance.specs.Lanes.{limit, isFirst}
+use Rattle.dominance.specs.Lanes.{bound, isFirst}
 use Rattle.promises.specs.Layout.{numberIn, blockIn, costsIn, tab}
-use Rattle.memory.specs.Tests.{isMarked}
+use Rattle.memory.specs.Tests.{isFlaged}
 use Rattle.search.specs.declared.search.Among.{Among}
 use Rattle.search.specs.declared.search.Among.the-variants.{All, Listed, Hidden, InBlocks}
 use Rattle.memory.specs.declared.head.Head.{Head}
@@ -21,8 +21,8 @@ inBlocks blocks c m k = eqb (blocks / 2 ^ (blockIn c m k % 64) % 2) 1
 -- Whether a search looks at the move of a number, and at the one at place i.
 unfoldable pub looks : Among → ℕ → List ℕ → ℕ → Bool
 looks All c m k = true
-looks Listed c m k = isMarked c m k
-looks Hidden c m k = not (isMarked c m k)
+looks Listed c m k = isFlaged c m k
+looks Hidden c m k = not (isFlaged c m k)
 looks (InBlocks blocks) c m k = inBlocks blocks c m k
 
 unfoldable pub looksAt : Among → ℕ → List ℕ → ℕ → Bool
@@ -39,8 +39,8 @@ unfoldable pub seenAt : Among → ℕ → List ℕ → ℕ → List ℕ
 seenAt a c m i = seen a (costsIn c rowCosts m (numberIn c m i))
 
 -- What a move before place i that hides the one there is nowhere greater than.
-unfoldable pub limitsAt : ℕ → ℕ → List ℕ → ℕ → List ℕ
-limitsAt c d m i = tab (limit (isFirst d) (seenAt Listed c m i)) rowCosts
+unfoldable pub boundsAt : ℕ → ℕ → List ℕ → ℕ → List ℕ
+boundsAt c d m i = tab (bound (isFirst d) (seenAt Listed c m i)) rowCosts
 
 -- What it looks for: a move that is nowhere greater than q.
 unfoldable pub fits : Among → ℕ → List ℕ → List ℕ → ℕ → Bool

@@ -50,9 +50,9 @@ fn fitting(columns: &[u16; CELLS], w: usize, q: [u16; COSTS]) -> u16
     fitting
 }
 
-// Whether a column is nowhere greater than q, a row of limits for d costs.
+// Whether a column is nowhere greater than q, a row of bounds for d costs.
 pub fn some_fits(columns: &[u16; CELLS], d: usize, q: [u16; COSTS]) -> bool
-    requires { ⌜ spec.Limits d q ⌝ }
+    requires { ⌜ spec.Bounds d q ⌝ }
     ensures { λ r. ⌜ spec.SomeFits (now (columns .entry)) q r ⌝ }
 {
     if d <= 4 {

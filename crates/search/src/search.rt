@@ -1,9 +1,9 @@
 // One search for everything. Places go in runs of 64, and each run has a corner, the least of each
 // cost over its moves: where the corner is somewhere greater than what is looked for, every move of
 // the run is, and the run is passed by.
+use dominance::bounds_of;
 use dominance::exceeds;
 use dominance::least;
-use dominance::limits_of;
 use memory::Head;
 use memory::block_of;
 use memory::costs_of;
@@ -82,7 +82,7 @@ pub fn seen(among: Among, costs: [u16; COSTS]) -> [u16; COSTS]
     }
 }
 
-// All words of the row, also those past d, which the limits of what is looked for leave out.
+// All words of the row, also those past d, which the bounds of what is looked for leave out.
 pub fn seen_at(m: &[u8], h: Head, i: usize, among: Among) -> [u16; COSTS]
     requires { ⌜ Readable h (now m) × (i < h .count) ⌝ }
     ensures { λ r. ⌜ r ≡ spec.seenAt among (h .size) (now (m .entry)) i ⌝ }
@@ -99,11 +99,11 @@ pub fn looks_at(m: &[u8], h: Head, i: usize, among: Among) -> bool
 }
 
 // What a move before place i that hides the one there is nowhere greater than.
-pub fn limits_at(m: &[u8], h: Head, i: usize) -> [u16; COSTS]
+pub fn bounds_at(m: &[u8], h: Head, i: usize) -> [u16; COSTS]
     requires { ⌜ Readable h (now m) × (i < h .count) ⌝ }
-    ensures { λ r. ⌜ r ≡ spec.limitsAt (h .size) (h .dimension) (now (m .entry)) i ⌝ }
+    ensures { λ r. ⌜ r ≡ spec.boundsAt (h .size) (h .dimension) (now (m .entry)) i ⌝ }
 {
-    limits_of(h.dimension, seen_at(m, h, i, Among::Listed))
+    bounds_of(h.dimension, seen_at(m, h, i, Among::Listed))
 }
 
 // A corner with the move at place i, if the search looks at it.
@@ -222,6 +222,6 @@ pub fn next_within(
 }
 
 // The place that is tried first in the next search: the one found, if one was.
-pub fn kept(found: usize, to: usize, first: usize) -> usize {
+pub fn tried_next(found: usize, to: usize, first: usize) -> usize {
     if found < to { found } else { first }
 }

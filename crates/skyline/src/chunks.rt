@@ -9,8 +9,8 @@ use search::CELLS;
 use search::COLUMNS;
 use search::RUN;
 use search::RUNS;
+use search::bounds_at;
 use search::fill;
-use search::limits_at;
 use search::looks_at;
 use search::put;
 use search::run_end;
@@ -46,7 +46,7 @@ fn next_chunk(m: &[u8], h: Head, from: usize, columns: &mut [u16; CELLS]) -> Chu
     let mut i = from;
     while (i < n) & (count < COLUMNS) {
         if looks_at(m, h, i, Among::Listed) {
-            let q = limits_at(m, h, i);
+            let q = bounds_at(m, h, i);
             if (0 < count) & !exceeds(COSTS, low, q) {
                 if some_fits(columns, h.dimension, q) {
                     return Chunk {
@@ -86,14 +86,15 @@ fn run_unhidden(
     columns: &[u16; CELLS],
 ) -> bool
     requires { ⌜ Readable h (now m) × (chunk .to ≤ i) × (i ≤ to) × (to ≤ h .count) ⌝ }
-    requires { ⌜ spec.GatheredChunk h (now m) (now columns) chunk × spec.SomeListed h (now m) chunk ⌝ }
+    requires { ⌜ spec.GatheredChunk h (now m) (now columns) chunk × spec.SomeListed h
+        (now m) chunk ⌝ }
     ensures { λ r. ⌜ spec.UnhiddenSaid h (now (m .entry)) (chunk .from) (chunk .to) i to r ⌝ }
 {
     let low = chunk.low;
     let mut j = i;
     while j < to {
         if looks_at(m, h, j, Among::Listed) {
-            let q = limits_at(m, h, j);
+            let q = bounds_at(m, h, j);
             if !exceeds(COSTS, low, q) {
                 if some_fits(columns, h.dimension, q) {
                     return false;
@@ -115,9 +116,11 @@ fn later_unhidden(
     highs: &[[u16; COSTS]; RUNS],
 ) -> bool
     requires { ⌜ Readable h (now m) × (chunk .to ≤ h .count) ⌝ }
-    requires { ⌜ spec.GatheredChunk h (now m) (now columns) chunk × (chunk .to < h .count → spec.SomeListed h (now m) chunk) ⌝ }
+    requires { ⌜ spec.GatheredChunk h (now m) (now columns) chunk × (chunk .to < h .count
+        → spec.SomeListed h (now m) chunk) ⌝ }
     requires { ⌜ spec.Highs (h .size) (h .dimension) (now m) (h .count) (now highs) ⌝ }
-    ensures { λ r. ⌜ spec.UnhiddenSaid h (now (m .entry)) (chunk .from) (chunk .to) (chunk .to) (h .count) r ⌝ }
+    ensures { λ r. ⌜ spec.UnhiddenSaid h (now (m .entry)) (chunk .from) (chunk .to) (chunk .to)
+        (h .count) r ⌝ }
 {
     let n = h.count;
     let low = chunk.low;
@@ -153,7 +156,7 @@ pub(crate) fn listed_right(
             return false;
         }
         if chunk.to < n {
-            // Where one chunk has all listed moves, no run is asked for its greatest limits.
+            // Where one chunk has all listed moves, no run is asked for its greatest bounds.
             if from == 0 {
                 put_highs(m, h, highs);
             }

@@ -5,10 +5,10 @@ use search::Among;
 use search::CELLS;
 use search::RUN;
 use search::RUNS;
+use search::bounds_at;
 use search::corner_with;
 use search::fits_at;
 use search::fits_column;
-use search::limits_at;
 use search::looks_at;
 use search::next_within;
 use search::put;
@@ -119,7 +119,7 @@ pub(crate) fn hidden_right(
             corners[i / RUN] = corner_with(m, h, i, Among::Listed, low);
             nearest = i;
         } else {
-            let q = limits_at(m, h, i);
+            let q = bounds_at(m, h, i);
             last = guessed(m, h, i, last, columns, &places, q);
             if i <= last {
                 last = found_from(m, h, i, nearest, corners, q);

@@ -4,7 +4,7 @@ use memory::Head;
 use search::Among;
 use search::RUN;
 use search::RUNS;
-use search::limits_at;
+use search::bounds_at;
 use search::looks_at;
 use search::run_end;
 use zorder::COSTS;
@@ -23,7 +23,7 @@ fn run_high(m: &[u8], h: Head, i: usize, to: usize, high: [u16; COSTS]) -> [u16;
     let mut j = i;
     while j < to {
         if looks_at(m, h, j, Among::Listed) {
-            let higher = greatest(top, limits_at(m, h, j));
+            let higher = greatest(top, bounds_at(m, h, j));
             top = higher;
         }
         j += 1;
@@ -34,7 +34,8 @@ fn run_high(m: &[u8], h: Head, i: usize, to: usize, high: [u16; COSTS]) -> [u16;
 // Raises each run's row to what its listed moves are held to.
 pub(crate) fn put_highs(m: &[u8], h: Head, highs: &mut [[u16; COSTS]; RUNS])
     requires { ⌜ Readable h (now m) × (length (now highs) ≡ 64) ⌝ }
-    ensures { λ _. ⌜ spec.Highs (h .size) (h .dimension) (now (m .entry)) (h .count) (now (highs .exit)) ⌝ }
+    ensures { λ _. ⌜ spec.Highs (h .size) (h .dimension) (now (m .entry)) (h .count)
+        (now (highs .exit)) ⌝ }
 {
     let n = h.count;
     let mut i = 0;

@@ -1,8 +1,8 @@
-// Whether the marked moves are the list: each move is held against the listed moves before it.
+// Whether the flaged moves are the list: each move is held against the listed moves before it.
 mod chunks;
+mod flags;
 mod hiders;
 mod highs;
-mod marks;
 
-pub use marks::hider_before;
-pub use marks::marks_right;
+pub use flags::flags_right;
+pub use flags::hider_before;

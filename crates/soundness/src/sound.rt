@@ -10,7 +10,7 @@ use memory::stands_before;
 use promises::block_bad;
 use promises::memory_need;
 use promises::size_bad;
-use skyline::marks_right;
+use skyline::flags_right;
 use zorder::cost_count_bad;
 ghost use mathlib.Core.Path.{_≡_};
 ghost use Prim.Native.Nat.{_≤_};
@@ -93,7 +93,7 @@ fn is_sound(m: &[u8], h: Head) -> bool
     if !heights_right(m, h.size, h.count) {
         return false;
     }
-    marks_right(m, h)
+    flags_right(m, h)
 }
 
 pub enum Held {

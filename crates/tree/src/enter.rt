@@ -20,7 +20,8 @@ ghost use Rattle.tree.specs.Enter as enter;
 // a gap if the later neighbour gets the lesser side.
 fn takes_over(m: &[u8], h: Head, p: usize, x: Move) -> bool
     requires { ⌜ enter.PlaceAsked (h .size) (h .dimension) (h .count) p (now m) ⌝ }
-    ensures { λ r. ⌜ enter.TakesOver (h .size) (h .dimension) (h .count) p (asMove x) (now (m .entry)) r ⌝ }
+    ensures { λ r. ⌜ enter.TakesOver (h .size) (h .dimension) (h .count) p (asMove x)
+        (now (m .entry)) r ⌝ }
 {
     let n = h.count;
     if p == 0 {
@@ -53,7 +54,8 @@ fn takes_over(m: &[u8], h: Head, p: usize, x: Move) -> bool
 // The row of x put at place p.
 fn put_row(m: &mut [u8], h: Head, p: usize, x: Move)
     requires { ⌜ enter.PutAsked (h .size) (h .dimension) (h .count) p (asMove x) (now m) ⌝ }
-    ensures { λ _. ⌜ enter.RowPut (h .size) (h .dimension) (h .count) p (asMove x) (now (m .entry)) (now (m .exit)) ⌝ }
+    ensures { λ _. ⌜ enter.RowPut (h .size) (h .dimension) (h .count) p (asMove x) (now (m .entry))
+        (now (m .exit)) ⌝ }
 {
     if takes_over(m, h, p, x) {
         let k = height_at(m, h.size, p);
@@ -78,7 +80,8 @@ pub fn with_rows(h: Head, n: usize) -> Head
 // x entered among the rows. Its costs stand in the memory already.
 pub fn enter_line(m: &mut [u8], h: Head, x: Move)
     requires { ⌜ enter.EnterAsked (h .size) (h .dimension) (h .count) (asMove x) (now m) ⌝ }
-    ensures { λ _. ⌜ enter.Entered (h .size) (h .dimension) (h .count) (asMove x) (now (m .entry)) (now (m .exit)) ⌝ }
+    ensures { λ _. ⌜ enter.Entered (h .size) (h .dimension) (h .count) (asMove x) (now (m .entry))
+        (now (m .exit)) ⌝ }
 {
     let n = h.count;
     if n == 0 {

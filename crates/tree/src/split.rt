@@ -42,7 +42,8 @@ fn cut_place(m: &[u8], h: Head, l: u8, s: usize, e: usize) -> usize
 // The cut made; a root gets a new root.
 fn cut(m: &mut [u8], h: Head, l: u8, s: usize, e: usize)
     requires { ⌜ split.NodeOfNine (h .size) (h .dimension) (h .count) l s e (now m) ⌝ }
-    ensures { λ _. ⌜ split.Cut (h .size) (h .dimension) (h .count) l s e (now (m .entry)) (now (m .exit)) ⌝ }
+    ensures { λ _. ⌜ split.Cut (h .size) (h .dimension) (h .count) l s e (now (m .entry))
+        (now (m .exit)) ⌝ }
 {
     let q = cut_place(m, h, l, s, e);
     let top = height_at(m, h.size, 0);
@@ -55,7 +56,8 @@ fn cut(m: &mut [u8], h: Head, l: u8, s: usize, e: usize)
 // From the leaf that holds place p up, while the node has nine entries.
 pub fn cascade(m: &mut [u8], h: Head, p: usize)
     requires { ⌜ split.CascadeAsked (h .size) (h .dimension) (h .count) p (now m) ⌝ }
-    ensures { λ _. ⌜ split.Cascaded (h .size) (h .dimension) (h .count) p (now (m .entry)) (now (m .exit)) ⌝ }
+    ensures { λ _. ⌜ split.Cascaded (h .size) (h .dimension) (h .count) p (now (m .entry))
+        (now (m .exit)) ⌝ }
 {
     let mut left = height_at(m, h.size, 0) + 1;
     let mut l: u8 = 1;

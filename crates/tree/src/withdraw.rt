@@ -82,7 +82,8 @@ fn save(m: &mut [u8], c: usize, from: usize, to: usize, number: u16) -> usize
 // The numbers from place `to` on moved down to `from`. One field a loop, as in `insert`.
 fn lower_numbers(m: &mut [u8], c: usize, n: usize, from: usize, to: usize)
     requires { ⌜ withdraw.GapAsked c n from to (now m) ⌝ }
-    ensures { λ _. ⌜ NumbersMoved c (λ i. i + (to - from)) from (n - (to - from)) (now (m .entry)) (now (m .exit)) ⌝ }
+    ensures { λ _. ⌜ NumbersMoved c (λ i. i + (to - from)) from (n - (to - from)) (now (m .entry))
+        (now (m .exit)) ⌝ }
 {
     let mut i = to;
     while i < n {
@@ -95,7 +96,8 @@ fn lower_numbers(m: &mut [u8], c: usize, n: usize, from: usize, to: usize)
 // The heights likewise.
 fn lower_heights(m: &mut [u8], c: usize, n: usize, from: usize, to: usize)
     requires { ⌜ withdraw.GapAsked c n from to (now m) ⌝ }
-    ensures { λ _. ⌜ HeightsMoved c (λ i. i + (to - from)) from (n - (to - from)) (now (m .entry)) (now (m .exit)) ⌝ }
+    ensures { λ _. ⌜ HeightsMoved c (λ i. i + (to - from)) from (n - (to - from)) (now (m .entry))
+        (now (m .exit)) ⌝ }
 {
     let mut i = to;
     while i < n {
@@ -150,7 +152,8 @@ fn lower_root(m: &mut [u8], c: usize, n: usize)
 // The k moves of the work area entered again, in order, among the rows.
 fn enter_saved(m: &mut [u8], h: Head, k: usize)
     requires { ⌜ withdraw.SavedAsked (h .size) (h .dimension) (h .count) k (now m) ⌝ }
-    ensures { λ _. ⌜ withdraw.SavedEntered (h .size) (h .dimension) (h .count) k (now (m .entry)) (now (m .exit)) ⌝ }
+    ensures { λ _. ⌜ withdraw.SavedEntered (h .size) (h .dimension) (h .count) k (now (m .entry))
+        (now (m .exit)) ⌝ }
 {
     let n = h.count;
     let mut j = 0;
@@ -168,7 +171,8 @@ fn enter_saved(m: &mut [u8], h: Head, k: usize)
 // The move at place p taken out of the rows.
 pub fn withdraw_line(m: &mut [u8], h: Head, p: usize)
     requires { ⌜ withdraw.WithdrawAsked (h .size) (h .dimension) (h .count) p (now m) ⌝ }
-    ensures { λ _. ⌜ withdraw.Withdrawn (h .size) (h .dimension) (h .count) p (now (m .entry)) (now (m .exit)) ⌝ }
+    ensures { λ _. ⌜ withdraw.Withdrawn (h .size) (h .dimension) (h .count) p (now (m .entry))
+        (now (m .exit)) ⌝ }
 {
     let n = h.count;
     let number = number_at(m, h.size, p);

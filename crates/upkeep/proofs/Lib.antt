@@ -1,2 +1,2 @@
 -- What the proofs of the functions use.
-pub mod Marking
+pub mod Flaging

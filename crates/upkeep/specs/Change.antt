@@ -63,7 +63,7 @@ pub record PlaceRows (c d n : ℕ) (k : Exchange) (m : List ℕ) (r : ℕ) : Typ
 abbrev pub ComingPlace : Head → Exchange → List ℕ → ℕ → Type 0
 ComingPlace h = PlaceRows (h .size) (h .dimension) (h .count)
 
--- Whose mark changes, and how many leave the list and enter it, by the list of the moves afterwards; and the nodes opened where
+-- Whose flag changes, and how many leave the list and enter it, by the list of the moves afterwards; and the nodes opened where
 -- a move goes, as of its withdrawal (Card 1).
 pub record UpkeptRows (c d n : ℕ) (k : Exchange) (m : List ℕ) (u : Upkeep) : Type 0 where
   pub changed : (i : ℕ) → i < n → inSet (u .changed) (numberIn c m i) ≡ not (Bool·beq (isListed c m i) (stays c d n k m i))

@@ -3,7 +3,7 @@ pub mod Places
 pub mod Passing
 pub mod Change
 pub mod BroughtUp
-pub mod Marks
+pub mod Flags
 pub mod Place
 pub mod Others
 pub mod Notified

@@ -30,8 +30,10 @@ pub struct Entered {
 // Whether the move at place i, which is not listed, comes up: that can be only where the going one,
 // which is listed, hides it.
 fn comes_up(m: &[u8], h: Head, k: Exchange, corners: &[[u16; COSTS]; RUNS], i: usize) -> bool
-    requires { ⌜ spec.GoesListed h k (now m) × spec.AllCorners h (now m) (now corners) × (i < h .count) ⌝ }
-    ensures { λ r. ⌜ r ≡ spec.comesUp (h .size) (h .dimension) (h .count) k (moveIn (h .size) (h .dimension) (now (m .entry)) i) (now (m .entry)) ⌝ }
+    requires { ⌜ spec.GoesListed h k (now m) × spec.AllCorners h (now m) (now corners)
+        × (i < h .count) ⌝ }
+    ensures { λ r. ⌜ r ≡ spec.comesUp (h .size) (h .dimension) (h .count) k
+        (moveIn (h .size) (h .dimension) (now (m .entry)) i) (now (m .entry)) ⌝ }
 {
     let goes = k.goes;
     let x = move_at(m, h.size, h.dimension, i);
@@ -47,7 +49,8 @@ fn comes_up(m: &[u8], h: Head, k: Exchange, corners: &[[u16; COSTS]; RUNS], i: u
 
 // Whether the move at place i enters the list, where a listed one goes.
 fn enters(m: &[u8], h: Head, k: Exchange, corners: &[[u16; COSTS]; RUNS], i: usize) -> bool
-    requires { ⌜ spec.GoesListed h k (now m) × spec.AllCorners h (now m) (now corners) × (i < h .count) ⌝ }
+    requires { ⌜ spec.GoesListed h k (now m) × spec.AllCorners h (now m) (now corners)
+        × (i < h .count) ⌝ }
     ensures { λ r. ⌜ r ≡ spec.entersAt (h .size) (h .dimension) (h .count) k (now (m .entry)) i ⌝ }
 {
     if is_listed(m, h.size, number_at(m, h.size, i)) {
@@ -80,8 +83,10 @@ fn find_in_leaf(
     end: usize,
     changed: &mut [u64; WORDS],
 ) -> usize
-    requires { ⌜ spec.GoesListed h k (now m) × spec.AllCorners h (now m) (now corners) × (start ≤ end) × (end ≤ h .count) ⌝ }
-    ensures { λ r. ⌜ spec.Passing (h .size) (now (m .entry)) (spec.entersAt (h .size) (h .dimension) (h .count) k (now (m .entry))) (now (changed .entry)) start end (now (changed .exit)) r ⌝ }
+    requires { ⌜ spec.GoesListed h k (now m) × spec.AllCorners h (now m) (now corners)
+        × (start ≤ end) × (end ≤ h .count) ⌝ }
+    ensures { λ r. ⌜ spec.Passing (h .size) (now (m .entry)) (spec.entersAt (h .size) (h .dimension)
+        (h .count) k (now (m .entry))) (now (changed .entry)) start end (now (changed .exit)) r ⌝ }
 {
     let mut entered: usize = 0;
     let mut i = start;
@@ -105,7 +110,8 @@ fn find_in_leaves(
     changed: &mut [u64; WORDS],
 ) -> Entered
     requires { ⌜ spec.GoesListed h k (now m) × spec.AllCorners h (now m) (now corners) ⌝ }
-    ensures { λ r. ⌜ spec.Entering (h .size) (h .dimension) (h .count) k (now (m .entry)) (now (changed .entry)) (now (changed .exit)) r ⌝ }
+    ensures { λ r. ⌜ spec.Entering (h .size) (h .dimension) (h .count) k (now (m .entry))
+        (now (changed .entry)) (now (changed .exit)) r ⌝ }
 {
     let n = h.count;
     let listed = corners_of(m, h, Among::Listed);
@@ -130,7 +136,8 @@ pub fn find_entering(
     changed: &mut [u64; WORDS],
 ) -> Entered
     requires { ⌜ SoundAt h (now m) × spec.AllCorners h (now m) (now corners) ⌝ }
-    ensures { λ r. ⌜ spec.Entering (h .size) (h .dimension) (h .count) k (now (m .entry)) (now (changed .entry)) (now (changed .exit)) r ⌝ }
+    ensures { λ r. ⌜ spec.Entering (h .size) (h .dimension) (h .count) k (now (m .entry))
+        (now (changed .entry)) (now (changed .exit)) r ⌝ }
 {
     if goes_listed(m, h, k.goes) {
         return find_in_leaves(m, h, k, corners, changed);

@@ -1,8 +1,8 @@
 // An exchange of moves, what it does to the list, and what hides a move after it. The move at one
 // place goes, or none; a move comes, or none.
 use dominance::Move;
+use dominance::bounds_of;
 use dominance::hides;
-use dominance::limits_of;
 use memory::Head;
 use numbers::WORDS;
 use search::Among;
@@ -23,9 +23,9 @@ pub struct Exchange {
     pub coming: Move,
 }
 
-// The numbers of the moves whose mark changes, the coming one apart; how many leave the list and
+// The numbers of the moves whose flag changes, the coming one apart; how many leave the list and
 // enter it; the nodes opened while looking for those that enter; whether the coming one is listed.
-// The marks before the change say who leaves and who enters: a second set would be copied with
+// The flags before the change say who leaves and who enters: a second set would be copied with
 // each plan.
 pub struct Upkeep {
     pub changed: [u64; WORDS],
@@ -47,10 +47,11 @@ pub fn hidden_by_others(
 ) -> bool
     requires { ⌜ Readable h (now m) × spec.AllCorners h (now m) (now corners) ⌝ }
     requires { ⌜ spec.Parted (h .size) (h .dimension) (h .count) i (asMove x) (now m) ⌝ }
-    ensures { λ r. ⌜ r ≡ spec.hiddenByOthers (h .size) (h .dimension) (h .count) goes (asMove x) (now (m .entry)) ⌝ }
+    ensures { λ r. ⌜ r ≡ spec.hiddenByOthers (h .size) (h .dimension) (h .count) goes (asMove x)
+        (now (m .entry)) ⌝ }
 {
     let costs = x.costs;
-    let q = limits_of(h.dimension, costs);
+    let q = bounds_of(h.dimension, costs);
     let j = next_within(m, h, 0, i, Among::All, corners, q);
     if i <= j {
         return false;

@@ -37,7 +37,9 @@ fn leaves(m: &[u8], h: Head, k: Exchange, i: usize) -> bool
 // The moves that leave the list.
 fn find_leaving(m: &[u8], h: Head, k: Exchange, changed: &mut [u64; WORDS]) -> usize
     requires { ⌜ Readable h (now m) ⌝ }
-    ensures { λ r. ⌜ spec.Passing (h .size) (now (m .entry)) (spec.leavesAt (h .size) (h .dimension) k (now (m .entry))) (now (changed .entry)) 0 (h .count) (now (changed .exit)) r ⌝ }
+    ensures { λ r. ⌜ spec.Passing (h .size) (now (m .entry)) (spec.leavesAt (h .size)
+        (h .dimension) k (now (m .entry))) (now (changed .entry)) 0 (h .count)
+        (now (changed .exit)) r ⌝ }
 {
     let n = h.count;
     let mut left: usize = 0;
@@ -63,7 +65,8 @@ fn coming_listed(
 ) -> bool
     requires { ⌜ spec.ChangeAsked h k (now m) × spec.AllCorners h (now m) (now corners) ⌝ }
     requires { ⌜ spec.ComingPlace h k (now m) place ⌝ }
-    ensures { λ r. ⌜ r ≡ spec.comingListed (h .size) (h .dimension) (h .count) k (now (m .entry)) ⌝ }
+    ensures { λ r. ⌜ r ≡ spec.comingListed (h .size) (h .dimension) (h .count) k
+        (now (m .entry)) ⌝ }
 {
     if !k.comes {
         return false;

@@ -1,15 +1,16 @@
-// The kept list: marked anew after a load, kept up by what a change does.
+// The kept list: flaged anew after a load, kept up by what a change does.
 mod entering;
 mod exchange;
+mod flag;
+mod flags;
 mod found;
 mod kept;
-mod mark;
-mod marks;
 
 pub use exchange::Exchange;
 pub use exchange::Upkeep;
+pub use flag::flag_all;
+pub use flags::set_flags;
 pub use found::Found;
+pub use found::add_found;
 pub use found::find_listed;
 pub use kept::upkeep_of;
-pub use mark::mark_all;
-pub use marks::set_marks;

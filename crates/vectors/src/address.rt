@@ -7,9 +7,9 @@ use crate::values::value;
 use crate::values::value_after;
 use crate::word::ADDRESS;
 use crate::word::COSTS_OF;
+use zorder::AddressWords;
 use zorder::COSTS;
 use zorder::Verdict;
-use zorder::Words;
 
 // The answer of a call of `zorder`, whose detail is always 0.
 fn put_verdict(values: &[u64], s: Said, v: Verdict) -> Said {
@@ -26,8 +26,8 @@ fn put_costs(values: &[u64], s: Said, costs: [u16; COSTS]) -> Said {
 }
 
 // The address whose upper word stands at place i.
-fn words(values: &[u64], i: usize) -> Words {
-    Words {
+fn words(values: &[u64], i: usize) -> AddressWords {
+    AddressWords {
         upper: value(values, i),
         lower: value_after(values, i, 1),
     }

@@ -51,7 +51,7 @@ fn put_ranked(rows: &[[u16; ROW]], count: usize, values: &[u64], s: Said) -> Sai
 
 fn rank_in(memory: &[u8], rows: &mut [[u16; ROW]], values: &[u64], s: Said) -> Said {
     let n = at_most(value(values, 1) as usize, rows.len());
-    let r = query::rank(memory, value(values, 0) as usize, &mut rows[..n]);
+    let r = ranking::rank(memory, value(values, 0) as usize, &mut rows[..n]);
     put_ranked(rows, r.count, values, put_answer(values, s, r, false))
 }
 

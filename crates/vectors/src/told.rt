@@ -5,7 +5,7 @@ use crate::said::put_all;
 use planning::ChangePlan;
 use planning::entered_of;
 use planning::left_of;
-use promises::Answer;
+use promises::CallResult;
 use promises::Verdict;
 use promises::counted;
 use promises::number_of;
@@ -21,7 +21,7 @@ pub fn put_verdict(values: &[u64], s: Said, v: Verdict) -> Said {
     put(values, put(values, s, number_of(v) as u64), v.detail as u64)
 }
 
-pub fn put_answer(values: &[u64], s: Said, a: Answer, nodes: bool) -> Said {
+pub fn put_answer(values: &[u64], s: Said, a: CallResult, nodes: bool) -> Said {
     let verdict = a.verdict;
     let r = put(values, put_verdict(values, s, verdict), a.count as u64);
     if nodes {
@@ -54,8 +54,8 @@ fn put_rows(m: &[u8], t: Telling, values: &[u64], s: Said) -> Said
 }
 
 // A plan has the counts of a refused call too, of which zero is answered.
-fn answer_of(verdict: Verdict, need: usize, opened: usize) -> Answer {
-    Answer {
+fn answer_of(verdict: Verdict, need: usize, opened: usize) -> CallResult {
+    CallResult {
         verdict,
         count: counted(verdict, need),
         opened: counted(verdict, opened),

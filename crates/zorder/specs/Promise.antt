@@ -9,9 +9,9 @@ use Rattle.zorder.specs.Words.{wordsOf}
 use Rattle.zorder.specs.Refusal.{orZero, orZeros, addressRefusal, costsRefusal, regionRefusal}
 use Rattle.zorder.specs.declared.Verdict.{Verdict}
 use Rattle.zorder.specs.declared.Verdict.the-variants.{Accepted, BadCostCount, BadArgument}
-use Rattle.zorder.specs.declared.AddressAnswer.{AddressAnswer}
-use Rattle.zorder.specs.declared.CostsAnswer.{CostsAnswer}
-use Rattle.zorder.specs.declared.RegionAnswer.{RegionAnswer}
+use Rattle.zorder.specs.declared.AddressResult.{AddressResult}
+use Rattle.zorder.specs.declared.CostsResult.{CostsResult}
+use Rattle.zorder.specs.declared.RegionResult.{RegionResult}
 
 -- Document 01's number for each verdict.
 unfoldable pub numberOf : Verdict → ℕ
@@ -26,26 +26,26 @@ detailOf BadCostCount = 0
 detailOf BadArgument = 0
 
 -- "Address from costs"
-pub record AddressPromise (d : ℕ) (costs : List ℕ) (r : AddressAnswer) : Type 0 where
+pub record AddressPromise (d : ℕ) (costs : List ℕ) (r : AddressResult) : Type 0 where
   pub number : numberOf (r .verdict) ≡ addressRefusal d costs
   pub detail : detailOf (r .verdict) ≡ 0
   pub address : r .address ≡ wordsOf (orZero (addressRefusal d costs) (address d costs))
 
 -- "Costs from address"
-pub record CostsPromise (d a : ℕ) (r : CostsAnswer) : Type 0 where
+pub record CostsPromise (d a : ℕ) (r : CostsResult) : Type 0 where
   pub number : numberOf (r .verdict) ≡ costsRefusal d a
   pub detail : detailOf (r .verdict) ≡ 0
   pub costs : r .costs ≡ orZeros (costsRefusal d a) (padded d (costsOf d a))
 
 -- A refused region tells nothing but its verdict.
-pub record RefusedRegion (v : Verdict) (r : RegionAnswer) : Type 0 where
+pub record RefusedRegion (v : Verdict) (r : RegionResult) : Type 0 where
   pub verdict : r .verdict ≡ v
   pub near : r .near ≡ replicate rowCosts 0
   pub far : r .far ≡ replicate rowCosts 0
   pub side : r .side ≡ 0
 
 -- "Region"
-pub record RegionPromise (d a b : ℕ) (r : RegionAnswer) : Type 0 where
+pub record RegionPromise (d a b : ℕ) (r : RegionResult) : Type 0 where
   pub number : numberOf (r .verdict) ≡ regionRefusal d a b
   pub detail : detailOf (r .verdict) ≡ 0
   pub near : r .near ≡ orZeros (regionRefusal d a b) (padded d (nearCorner d a b))

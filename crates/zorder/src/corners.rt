@@ -1,9 +1,9 @@
 // The region of two addresses: a square, by its two corners and its side.
+use crate::AddressWords;
 use crate::BITS;
 use crate::COSTS;
-use crate::RegionAnswer;
+use crate::RegionResult;
 use crate::Verdict;
-use crate::Words;
 use crate::interleave::cost_count_bad;
 use crate::separate::separated;
 use crate::separate::too_large;
@@ -20,7 +20,7 @@ ghost use Rattle.zorder.specs.Promise.{RegionPromise, RefusedRegion};
 ghost use Rattle.zorder.specs.Words.{value};
 
 // How many groups of the two addresses are not kept.
-fn unkept(d: usize, a: Words, b: Words) -> usize
+fn unkept(d: usize, a: AddressWords, b: AddressWords) -> usize
     requires { ⌜ (1 ≤ d) × (d ≤ rowCosts) × (value a < 2 ^ (16 * d)) × (value b < 2 ^ (16 * d)) ⌝ }
     ensures { λ r. ⌜ (r ≡ definition.unkept d (value a) (value b)) × (r ≤ 16) ⌝ }
 {
@@ -73,10 +73,10 @@ pub(crate) fn far(d: usize, u: usize, costs: [u16; COSTS]) -> [u16; COSTS]
     corner
 }
 
-fn refused(verdict: Verdict) -> RegionAnswer
+fn refused(verdict: Verdict) -> RegionResult
     ensures { λ r. ⌜ RefusedRegion verdict r ⌝ }
 {
-    RegionAnswer {
+    RegionResult {
         verdict,
         near: [0u16; COSTS],
         far: [0u16; COSTS],
@@ -84,7 +84,7 @@ fn refused(verdict: Verdict) -> RegionAnswer
     }
 }
 
-pub fn region(d: usize, a: Words, b: Words) -> RegionAnswer
+pub fn region(d: usize, a: AddressWords, b: AddressWords) -> RegionResult
     ensures { λ r. ⌜ RegionPromise d (value a) (value b) r ⌝ }
 {
     if cost_count_bad(d) {
@@ -95,7 +95,7 @@ pub fn region(d: usize, a: Words, b: Words) -> RegionAnswer
     }
     let u = unkept(d, a, b);
     let costs = separated(d, a);
-    RegionAnswer {
+    RegionResult {
         verdict: Verdict::Accepted,
         near: near(d, u, costs),
         far: far(d, u, costs),

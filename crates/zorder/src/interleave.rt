@@ -1,9 +1,9 @@
 // From costs to their address.
-use crate::AddressAnswer;
+use crate::AddressResult;
+use crate::AddressWords;
 use crate::BITS;
 use crate::COSTS;
 use crate::Verdict;
-use crate::Words;
 use crate::two_words::shift_in;
 ghost use mathlib.Core.Path.{_≡_};
 ghost use Prim.Native.Nat.{_≤_, _<_};
@@ -35,11 +35,11 @@ pub(crate) fn group(d: usize, costs: [u16; COSTS], j: usize) -> u64
 }
 
 // The groups of the first d costs, highest first.
-fn interleaved(d: usize, costs: [u16; COSTS]) -> Words
+fn interleaved(d: usize, costs: [u16; COSTS]) -> AddressWords
     requires { ⌜ (1 ≤ d) × (d ≤ rowCosts) ⌝ }
     ensures { λ r. ⌜ value r ≡ definition.address d costs ⌝ }
 {
-    let mut a = Words { upper: 0, lower: 0 };
+    let mut a = AddressWords { upper: 0, lower: 0 };
     let mut j = BITS;
     while 0 < j {
         j -= 1;
@@ -69,23 +69,23 @@ pub fn cost_count_bad(d: usize) -> bool
     d < 2 || COSTS < d
 }
 
-pub fn address(d: usize, costs: [u16; COSTS]) -> AddressAnswer
+pub fn address(d: usize, costs: [u16; COSTS]) -> AddressResult
     ensures { λ r. ⌜ AddressPromise d costs r ⌝ }
 {
     if cost_count_bad(d) {
-        return AddressAnswer {
+        return AddressResult {
             verdict: Verdict::BadCostCount,
-            address: Words { upper: 0, lower: 0 },
+            address: AddressWords { upper: 0, lower: 0 },
         };
     }
     if zero_past(d, costs) {
-        return AddressAnswer {
+        return AddressResult {
             verdict: Verdict::Accepted,
             address: interleaved(d, costs),
         };
     }
-    AddressAnswer {
+    AddressResult {
         verdict: Verdict::BadArgument,
-        address: Words { upper: 0, lower: 0 },
+        address: AddressWords { upper: 0, lower: 0 },
     }
 }

@@ -34,22 +34,22 @@ pub enum Verdict {
 
 // An address of up to 128 bits: upper * 2^64 + lower.
 #[repr(C)]
-pub struct Words {
+pub struct AddressWords {
     pub upper: u64,
     pub lower: u64,
 }
 
-pub struct AddressAnswer {
+pub struct AddressResult {
     pub verdict: Verdict,
-    pub address: Words,
+    pub address: AddressWords,
 }
 
-pub struct CostsAnswer {
+pub struct CostsResult {
     pub verdict: Verdict,
     pub costs: [u16; COSTS],
 }
 
-pub struct RegionAnswer {
+pub struct RegionResult {
     pub verdict: Verdict,
     pub near: [u16; COSTS],
     pub far: [u16; COSTS],

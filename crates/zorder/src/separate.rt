@@ -1,9 +1,9 @@
 // From an address to its costs.
+use crate::AddressWords;
 use crate::BITS;
 use crate::COSTS;
-use crate::CostsAnswer;
+use crate::CostsResult;
 use crate::Verdict;
-use crate::Words;
 use crate::interleave::cost_count_bad;
 use crate::two_words::bit;
 use crate::two_words::leading_zeros;
@@ -16,7 +16,7 @@ ghost use Rattle.zorder.specs.Promise.{CostsPromise};
 ghost use Rattle.zorder.specs.Words.{value};
 
 // The cost whose bits stand at place e, counted from the right, of each group of d.
-fn cost_in(d: usize, a: Words, e: usize) -> u16
+fn cost_in(d: usize, a: AddressWords, e: usize) -> u16
     requires { ⌜ (e < d) × (d ≤ rowCosts) ⌝ }
     ensures { λ r. ⌜ r ≡ definition.costFromBits d e 16 (value a) ⌝ }
 {
@@ -30,7 +30,7 @@ fn cost_in(d: usize, a: Words, e: usize) -> u16
 }
 
 // The d costs of an address, and zeros past them.
-pub(crate) fn separated(d: usize, a: Words) -> [u16; COSTS]
+pub(crate) fn separated(d: usize, a: AddressWords) -> [u16; COSTS]
     requires { ⌜ d ≤ rowCosts ⌝ }
     ensures { λ r. ⌜ r ≡ definition.padded d (definition.costsOf d (value a)) ⌝ }
 {
@@ -44,29 +44,29 @@ pub(crate) fn separated(d: usize, a: Words) -> [u16; COSTS]
 }
 
 // Whether a has a bit beyond the 16 groups of d. With eight costs no two words have.
-pub(crate) fn too_large(d: usize, a: Words) -> bool
+pub(crate) fn too_large(d: usize, a: AddressWords) -> bool
     requires { ⌜ d ≤ rowCosts ⌝ }
     ensures { λ r. ⌜ r ≡ addressBad d (value a) ⌝ }
 {
     leading_zeros(a) < 128 - BITS * d
 }
 
-pub fn costs(d: usize, address: Words) -> CostsAnswer
+pub fn costs(d: usize, address: AddressWords) -> CostsResult
     ensures { λ r. ⌜ CostsPromise d (value address) r ⌝ }
 {
     if cost_count_bad(d) {
-        return CostsAnswer {
+        return CostsResult {
             verdict: Verdict::BadCostCount,
             costs: [0u16; COSTS],
         };
     }
     if too_large(d, address) {
-        return CostsAnswer {
+        return CostsResult {
             verdict: Verdict::BadArgument,
             costs: [0u16; COSTS],
         };
     }
-    CostsAnswer {
+    CostsResult {
         verdict: Verdict::Accepted,
         costs: separated(d, address),
     }

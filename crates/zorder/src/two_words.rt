@@ -1,5 +1,5 @@
 // Numbers of up to 128 bits in two words: shifts, tests and a count over both.
-use crate::Words;
+use crate::AddressWords;
 ghost use mathlib.Core.Path.{_≡_};
 ghost use Prim.Native.Nat.{_≤_, _<_, _+_, _*_, _^_};
 ghost use lib.Bits.{bitXor};
@@ -9,11 +9,11 @@ ghost use Rattle.zorder.specs.Address as definition;
 ghost use Rattle.zorder.specs.Words.{value};
 
 // a shifted up by d bits, with g in the freed ones.
-pub(crate) fn shift_in(a: Words, d: usize, g: u64) -> Words
+pub(crate) fn shift_in(a: AddressWords, d: usize, g: u64) -> AddressWords
     requires { ⌜ (1 ≤ d) × (d < 64) × (g < 2 ^ d) × (value a * 2 ^ d < 2 ^ 128) ⌝ }
     ensures { λ r. ⌜ value r ≡ value a * 2 ^ d + g ⌝ }
 {
-    Words {
+    AddressWords {
         upper: (a.upper << d) | (a.lower >> (64 - d)),
         lower: (a.lower << d) | g,
     }
@@ -26,7 +26,7 @@ fn bit_of(word: u64, place: usize) -> u16
     ((word >> place) & 1) as u16
 }
 
-pub(crate) fn bit(a: Words, place: usize) -> u16
+pub(crate) fn bit(a: AddressWords, place: usize) -> u16
     requires { ⌜ place < 128 ⌝ }
     ensures { λ r. ⌜ (r ≡ definition.bit place (value a)) × (r < 2) ⌝ }
 {
@@ -37,7 +37,7 @@ pub(crate) fn bit(a: Words, place: usize) -> u16
 }
 
 // Those of the upper word, or all of its 64 and those of the lower.
-pub(crate) fn leading_zeros(a: Words) -> usize
+pub(crate) fn leading_zeros(a: AddressWords) -> usize
     ensures { λ r. ⌜ r ≡ leadingZeros 128 (value a) ⌝ }
 {
     if a.upper == 0 {
@@ -46,16 +46,16 @@ pub(crate) fn leading_zeros(a: Words) -> usize
     u64::leading_zeros(a.upper) as usize
 }
 
-pub(crate) fn xor(a: Words, b: Words) -> Words
+pub(crate) fn xor(a: AddressWords, b: AddressWords) -> AddressWords
     ensures { λ r. ⌜ value r ≡ bitXor (value a) (value b) ⌝ }
 {
-    Words {
+    AddressWords {
         upper: a.upper ^ b.upper,
         lower: a.lower ^ b.lower,
     }
 }
 
-pub(crate) fn below(a: Words, b: Words) -> bool
+pub(crate) fn below(a: AddressWords, b: AddressWords) -> bool
     ensures { λ r. ⌜ r ≡ ltb (value a) (value b) ⌝ }
 {
     if a.upper == b.upper {

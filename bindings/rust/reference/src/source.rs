@@ -45,8 +45,8 @@ const FUNCTIONS: [Function; 24] = [
     function("dominance", "count_greater", &["first_factor", "less_times"], &[LOOP]),
     function("dominance", "dominates", &["exceeds", "exceeds"], &[]),
     function("dominance", "hides", &["exceeds", "exceeds", "less"], &[LOWER]),
-    function("dominance", "limits_of", &["choose", "first_factor"], &[LOOP]),
-    function("dominance", "limits_in", &["choose"], &[LOOP]),
+    function("dominance", "bounds_of", &["choose", "first_factor"], &[LOOP]),
+    function("dominance", "bounds_in", &["choose"], &[LOOP]),
     function("dominance", "over", &["choose", "less"], &[]),
     function("dominance", "least", &["over"], &[LOOP]),
     function("dominance", "greatest", &["over"], &[LOOP]),
@@ -152,10 +152,13 @@ fn faults_of(function: &Function, body: &[Word]) -> Vec<String> {
     faults
 }
 
-/// A name that a crate calls is its own, or comes from `dominance`.
+/// A name that a crate calls is its own, or comes from the crate that the table has it of.
 fn is_known(words: &[Word], callee: &str) -> bool {
-    let import = ["use", "dominance", "::", callee, ";"];
-    let imported = words.windows(import.len()).any(|w| w.iter().map(|w| w.text).eq(import));
+    let imports = |krate: &str| {
+        let import = ["use", krate, "::", callee, ";"];
+        words.windows(import.len()).any(|w| w.iter().map(|w| w.text).eq(import))
+    };
+    let imported = FUNCTIONS.iter().any(|f| f.name == callee && imports(f.krate));
     (bodies(words, callee).len() == 1) != imported
 }
 

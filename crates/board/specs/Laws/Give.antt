@@ -19,7 +19,7 @@ use Rattle.line.specs.Line.{movesIn}
 use Rattle.promises.specs.Layout.{blockPlace, sizeIn, dimensionIn, countIn, numberIn, blockIn, lineIn, boardIn}
 use Rattle.promises.specs.Sound.{Stands, Sound}
 use Rattle.promises.specs.Written.{movesWrite, blockWrites, changeWrites}
-use Rattle.promises.specs.Promise.{Kept}
+use Rattle.promises.specs.Promise.{Leaves}
 use Rattle.memory.specs.Room.{Room}
 use Rattle.memory.specs.Stores.{setBlock}
 use Rattle.memory.specs.Frame.{BlocksOnly}
@@ -87,18 +87,21 @@ module _ {m : List ℕ} (s : Sound m) (x : Change) {b : List ℕ} (moved : Moved
     board = λ i. record { size = size i; dimension = dimension i; moves = moves i; blocks = all-blocks i }
 
     kept-by : length m' ≡ length b → ((i : ℕ) → changeWrites (sizeIn m) x i ≡ false → getD m' i 0 ≡ getD b i 0)
-        → Kept (changeWrites (sizeIn m) x) m m' (changed (boardIn m) x) (changeTree (dimensionIn m) x (s .tree))
+        → Leaves (changeWrites (sizeIn m) x) m m' (changed (boardIn m) x) (changeTree (dimensionIn m) x (s .tree))
     unfolding changeWrites
     kept-by long same =
         record {
           holding = record { stands = after; board = board; blocks = changed-fit (boardIn m) x (s .blocks) ok };
-          length = long ∙ moved .only .length;
-          others = λ i free. same i free ∙ moved .only .same i (or-false-left (movesWrite c i) (blockWrites c x i) free);
+          only =
+              record {
+                length = long ∙ moved .only .length;
+                same = λ i free. same i free ∙ moved .only .same i (or-false-left (movesWrite c i) (blockWrites c x i) free);
+              };
         }
 
   -- No block is given.
   kept-alone : blocksOn (changedMoves (dimensionIn m) x (movesIn (lineIn m))) (blockIn (sizeIn m) m) ≡ changedBlocks x (blocksOn (movesIn (lineIn m)) (blockIn (sizeIn m) m))
-      → Kept (changeWrites (sizeIn m) x) m b (changed (boardIn m) x) (changeTree (dimensionIn m) x (s .tree))
+      → Leaves (changeWrites (sizeIn m) x) m b (changed (boardIn m) x) (changeTree (dimensionIn m) x (s .tree))
   kept-alone tie = kept-by (frame-refl b) (blockIn c m) (block-left c (moved .only)) tie refl (λ i _. refl)
 
   -- One is.
@@ -108,7 +111,7 @@ module _ {m : List ℕ} (s : Sound m) (x : Change) {b : List ℕ} (moved : Moved
     unfolding giveBlock
     now-blocks k h = block-setBlock c n block b room-between l k ∙ ap (cond (eqb k n) block) (block-left c (moved .only) k h)
 
-    kept-with : Kept (changeWrites (sizeIn m) x) m (setBlock (sizeIn m) n block b) (changed (boardIn m) x) (changeTree (dimensionIn m) x (s .tree))
+    kept-with : Leaves (changeWrites (sizeIn m) x) m (setBlock (sizeIn m) n block b) (changed (boardIn m) x) (changeTree (dimensionIn m) x (s .tree))
     unfolding changeWrites setBlock
     kept-with =
         let f = setBlock-blocks c n block b l in
@@ -122,19 +125,19 @@ number-below {m} s x ok = change-number (boardIn m) x ok
 -- What a change leaves: its moves, and the block that it gives.
 pub kept-given : {m : List ℕ} (s : Sound m) (kind : Kind) (n block : ℕ) (costs : List ℕ) {b : List ℕ} → Moved (changeOf kind n block costs) m b (s .tree) → changeRefusal (boardIn m) (changeOf kind n block costs) ≡ 0
     → {m' : List ℕ} → (comes kind ≡ true → m' ≡ setBlock (sizeIn m) n block b) → (comes kind ≡ false → m' ≡ b)
-    → Kept (changeWrites (sizeIn m) (changeOf kind n block costs)) m m' (changed (boardIn m) (changeOf kind n block costs)) (changeTree (dimensionIn m) (changeOf kind n block costs) (s .tree))
+    → Leaves (changeWrites (sizeIn m) (changeOf kind n block costs)) m m' (changed (boardIn m) (changeOf kind n block costs)) (changeTree (dimensionIn m) (changeOf kind n block costs) (s .tree))
 unfolding changeOf comes blockWrites changeNumber
 kept-given {m} s Enter n block costs {b} moved ok given kept =
     let x = calls.enter n block costs in
-    subst (λ (w : List ℕ). Kept (changeWrites (sizeIn m) x) m w (changed (boardIn m) x) (changeTree (dimensionIn m) x (s .tree))) (sym (given refl))
+    subst (λ (w : List ℕ). Leaves (changeWrites (sizeIn m) x) m w (changed (boardIn m) x) (changeTree (dimensionIn m) x (s .tree))) (sym (given refl))
     (kept-with s x moved ok n block (number-below s x ok) (λ i e. e) (entered-blocks (dimensionIn m) n block costs (movesIn (lineIn m)) (blockIn (sizeIn m) m)))
 kept-given {m} s Withdraw n block costs {b} moved ok given kept =
     let x = calls.withdraw n in
-    subst (λ (w : List ℕ). Kept (changeWrites (sizeIn m) x) m w (changed (boardIn m) x) (changeTree (dimensionIn m) x (s .tree))) (sym (kept refl))
+    subst (λ (w : List ℕ). Leaves (changeWrites (sizeIn m) x) m w (changed (boardIn m) x) (changeTree (dimensionIn m) x (s .tree))) (sym (kept refl))
     (kept-alone s x moved ok (withdrawn-blocks (dimensionIn m) n (movesIn (lineIn m)) (blockIn (sizeIn m) m)))
 kept-given {m} s Recost n block costs {b} moved ok given kept =
     let x = calls.recost n block costs in
-    subst (λ (w : List ℕ). Kept (changeWrites (sizeIn m) x) m w (changed (boardIn m) x) (changeTree (dimensionIn m) x (s .tree))) (sym (given refl))
+    subst (λ (w : List ℕ). Leaves (changeWrites (sizeIn m) x) m w (changed (boardIn m) x) (changeTree (dimensionIn m) x (s .tree))) (sym (given refl))
     (kept-with s x moved ok n block (number-below s x ok) (λ i e. e) (recosted-blocks (dimensionIn m) n block costs (movesIn (lineIn m)) (blockIn (sizeIn m) m)))
 
 -- A change that keeps the moves writes its block alone.

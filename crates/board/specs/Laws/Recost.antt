@@ -22,7 +22,7 @@ use Rattle.model.specs.Laws.Basics.{equal-true}
 use Rattle.model.specs.Laws.Order.{move-order}
 use Rattle.model.specs.Laws.Entering.{enter-moves}
 use Rattle.line.specs.Line.{movesIn}
-use Rattle.promises.specs.Layout.{numberIn, costsIn, markIn, moveIn, lineFrom}
+use Rattle.promises.specs.Layout.{numberIn, costsIn, flagIn, moveIn, lineFrom}
 use Rattle.promises.specs.Sound.{Stands}
 use Rattle.promises.specs.Run.{Bytes}
 use Rattle.promises.specs.Laws.Tab.{each-tab}
@@ -30,9 +30,9 @@ use Rattle.dominance.specs.Move.{asMove}
 use Rattle.dominance.specs.declared.Move.{Move}
 use Rattle.memory.specs.Held.{SoundRows}
 use Rattle.memory.specs.Stores.{setListed, setCosts, setCount}
-use Rattle.memory.specs.Frame.{MovesOnly, MarksOnly, CostsOnly}
-use Rattle.memory.specs.Laws.Written.{only-trans, rows-written, marks-written, costs-written}
-use Rattle.memory.specs.Laws.Fields.{mark-over-rows, mark-over-costs}
+use Rattle.memory.specs.Frame.{MovesOnly, FlagsOnly, CostsOnly}
+use Rattle.memory.specs.Laws.Written.{only-trans, rows-written, flags-written, costs-written}
+use Rattle.memory.specs.Laws.Fields.{flag-over-rows, flag-over-costs}
 use Rattle.memory.specs.Laws.Lines.{movesIn-line}
 use Rattle.memory.specs.Laws.Blocks.{on-at}
 use Rattle.memory.specs.Laws.Held.{held-few}
@@ -40,21 +40,21 @@ use Rattle.tree.specs.Hold.{RowsHold}
 use Rattle.tree.specs.Enter as tree
 use Rattle.tree.specs.Withdraw as withdraw
 use Rattle.upkeep.specs.Change.{dropAt, movesAfter}
-use Rattle.upkeep.specs.Mark.{SetMarks}
+use Rattle.upkeep.specs.Flag.{SetFlags}
 use Rattle.upkeep.specs.Laws.Change.{rest-without}
 use Rattle.upkeep.specs.declared.exchange.Upkeep.{Upkeep}
 use Rattle.planning.specs.Change.{ToRecost, Moved, RecostMade}
 use Rattle.planning.specs.Laws.Places.{costs-board}
-use Rattle.board.specs.Laws.Rows.{holds-sound, holds-moves, holds-over-marks, holds-counted}
-use Rattle.board.specs.Laws.Kept.{MarksRight, made}
-use Rattle.board.specs.Laws.Marks.{marks-come}
-use Rattle.board.specs.Laws.Steps.{listed-frame, stored-frame, stored-holds, stored-asked, gone-written, gone-mark, gone-holds, gone-moves}
+use Rattle.board.specs.Laws.Rows.{holds-sound, holds-moves, holds-over-flags, holds-counted}
+use Rattle.board.specs.Laws.Made.{FlagsRight, made}
+use Rattle.board.specs.Laws.Flags.{flags-come}
+use Rattle.board.specs.Laws.Steps.{listed-frame, stored-frame, stored-holds, stored-asked, gone-written, gone-flag, gone-holds, gone-moves}
 
 costs-there : (c d n p : ℕ) (m : List ℕ) → p < n → costsOn (numberIn c m p) (movesIn (lineFrom c d n m)) ≡ costsIn c d m (numberIn c m p)
 costs-there c d n p m l = costs-board c d n m (numberIn c m p) (on-at c d n m p l)
 
 module _ {c d n p : ℕ} {x : Move} {u : Upkeep} {m m₁ m₂ : List ℕ} (a : ToRecost c d n p x u m) (b : Bytes m)
-    (set : SetMarks c n (u .changed) m m₁)
+    (set : SetFlags c n (u .changed) m m₁)
     (e₂ : m₂ ≡ setListed c (x .number) (u .listed) m₁) where
   abbrev s : SoundRows c d n m
   s = a .asked .sound
@@ -65,13 +65,13 @@ module _ {c d n p : ℕ} {x : Move} {u : Upkeep} {m m₁ m₂ : List ℕ} (a : T
   abbrev fit : Fit c d (asMove x)
   fit = a .asked .fit refl
 
-  marked : MarksOnly c m m₂
-  marked = listed-frame (x .number) (u .listed) (fit .number) (set .frame) e₂
+  flaged : FlagsOnly c m m₂
+  flaged = listed-frame (x .number) (u .listed) (fit .number) (set .frame) e₂
 
   pub recost-withdraw-asked : withdraw.WithdrawAsked c d n p m₂
   recost-withdraw-asked =
       let t = s .sound .tree in
-      record { tree = record { tree = t; holds = holds-over-marks (holds-sound s b t (s .sound .stands)) marked }; place = a .place }
+      record { tree = record { tree = t; holds = holds-over-flags (holds-sound s b t (s .sound .stands)) flaged }; place = a .place }
 
   rest : without (x .number) before ≡ dropAt p before
   rest = ap (λ (k : ℕ). without k before) (sym (a .number)) ∙ sym (rest-without c d n p m s b (a .place))
@@ -90,14 +90,14 @@ module _ {c d n p : ℕ} {x : Move} {u : Upkeep} {m m₁ m₂ : List ℕ} (a : T
       (λ _. ap (λ (k : ℕ). enterTree d (asMove x) (withdrawTree d k t)) (a .number))
 
   pub recost-written : {m₃ : List ℕ} → withdraw.Withdrawn c d n p m₂ m₃ → MovesOnly c m m₃
-  recost-written w = only-trans (marks-written c marked) (gone-written w)
+  recost-written w = only-trans (flags-written c flaged) (gone-written w)
 
   module _ {m₃ m₄ : List ℕ} (w : withdraw.Withdrawn c d n p m₂ m₃) (e₄ : m₄ ≡ setCosts c (x .number) (x .costs) m₃) where
     gone : (t : Tree) → Stands m t → RowsHold c d (n - 1) m₃ (withdrawTree d (numberIn c m p) t)
-    gone = gone-holds w s b (a .place) marked
+    gone = gone-holds w s b (a .place) flaged
 
     off : (t : Tree) → Stands m t → onBoard (x .number) (movesOf (withdrawTree d (numberIn c m p) t)) ≡ false
-    off t stands = ap (onBoard (x .number)) (gone-moves w s b (a .place) marked t stands) ∙ a .asked .new refl
+    off t stands = ap (onBoard (x .number)) (gone-moves w s b (a .place) flaged t stands) ∙ a .asked .new refl
 
     pub recost-enter-asked : tree.EnterAsked c d (n - 1) (asMove x) m₄
     recost-enter-asked =
@@ -113,7 +113,7 @@ module _ {c d n p : ℕ} {x : Move} {u : Upkeep} {m m₁ m₂ : List ℕ} (a : T
       moves =
           let h = gone t stands in
           enter-moves d (Fit c d) (move-order d c (h .readable .dimension)) (asMove x) fit (withdrawTree d (numberIn c m p) t) (h .rules) (h .fits)
-          ∙ ap (insert d (asMove x)) (gone-moves w s b (a .place) marked t stands)
+          ∙ ap (insert d (asMove x)) (gone-moves w s b (a .place) flaged t stands)
 
       held : RowsHold c d n m₅ (recostTree d (asMove x) t)
       held =
@@ -128,13 +128,13 @@ module _ {c d n p : ℕ} {x : Move} {u : Upkeep} {m m₁ m₂ : List ℕ} (a : T
           (only-trans (recost-written w) (only-trans (costs-written c costs) (rows-written c (entered .frame))))
           held
           (ap movesOf (sym (recost-tree t stands)) ∙ moves ∙ ap (insert d (asMove x)) (sym rest))
-          (subst (MarksRight c d m₅) (ap (insert d (asMove x)) (sym rest))
-          (marks-come (a .asked) (a .upkept) set m₅ refl
+          (subst (FlagsRight c d m₅) (ap (insert d (asMove x)) (sym rest))
+          (flags-come (a .asked) (a .upkept) set m₅ refl
           (λ v l.
-          mark-over-rows c (entered .frame) v
-          ∙ mark-over-costs c costs v l
-          ∙ gone-mark w v l
-          ∙ ap (λ (w : List ℕ). markIn c w v) e₂)))
+          flag-over-rows c (entered .frame) v
+          ∙ flag-over-costs c costs v l
+          ∙ gone-flag w v l
+          ∙ ap (λ (w : List ℕ). flagIn c w v) e₂)))
           e₆
 
     pub recost-count-asked : {m₅ : List ℕ} → tree.Entered c d (n - 1) (asMove x) m₄ m₅ → (16 ≤ length m₅) × (n < 65536)

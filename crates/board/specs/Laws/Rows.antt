@@ -23,15 +23,15 @@ use Rattle.promises.specs.Run.{Bytes}
 use Rattle.memory.specs.Room.{Numbers, ReadableRows}
 use Rattle.memory.specs.Held.{SoundRows}
 use Rattle.memory.specs.Stores.{setCosts}
-use Rattle.memory.specs.Frame.{DifferWithin, MarksOnly}
+use Rattle.memory.specs.Frame.{DifferWithin, FlagsOnly}
 use Rattle.memory.specs.Laws.Frames.{room-over}
 use Rattle.memory.specs.Laws.Stored.{setCosts-frame}
 use Rattle.memory.specs.Laws.Places.{tab-each}
-use Rattle.memory.specs.Laws.Lines.{getD-line, movesIn-line, line-over-marks, line-setCosts}
+use Rattle.memory.specs.Laws.Lines.{getD-line, movesIn-line, line-over-flags, line-setCosts}
 use Rattle.memory.specs.Laws.Held.{held-readable, held-line, held-fit, held-once}
 use Rattle.tree.specs.Hold.{RowsHold}
 use Rattle.tree.specs.Enter.{EnterAsked}
-use Rattle.upkeep.specs.Mark.{Once}
+use Rattle.upkeep.specs.Flag.{Once}
 
 -- The rows of sound memory hold every tree that stands in it.
 pub holds-sound : {c d n : ℕ} {m : List ℕ} → SoundRows c d n m → Bytes m → (t : Tree) → Stands m t → RowsHold c d n m t
@@ -44,9 +44,9 @@ holds-sound {c} {d} {n} {m} s b t stands =
       fits = subst (Each (Fit c d)) (ap movesIn line ∙ moves-line t) (held-fit c d n m s b);
     }
 
--- What setting the marks asks.
-pub marks-asked : {c d n : ℕ} {m : List ℕ} → SoundRows c d n m → Bytes m → ReadableRows c d n m × Once c n m
-marks-asked {c} {d} {n} {m} s b = (held-readable s, held-once c d n m s b)
+-- What setting the flags asks.
+pub flags-asked : {c d n : ℕ} {m : List ℕ} → SoundRows c d n m → Bytes m → ReadableRows c d n m × Once c n m
+flags-asked {c} {d} {n} {m} s b = (held-readable s, held-once c d n m s b)
 
 module _ {c d n : ℕ} {m : List ℕ} {t : Tree} (h : RowsHold c d n m t) where
   -- What setting the count asks.
@@ -87,8 +87,8 @@ module _ {c d n : ℕ} {m : List ℕ} {t : Tree} (h : RowsHold c d n m t) where
         fits = h .fits;
       }
 
-  pub holds-over-marks : {m' : List ℕ} → MarksOnly c m m' → RowsHold c d n m' t
-  holds-over-marks f = holds-same f (line-over-marks c d n f (h .readable .rows))
+  pub holds-over-flags : {m' : List ℕ} → FlagsOnly c m m' → RowsHold c d n m' t
+  holds-over-flags f = holds-same f (line-over-flags c d n f (h .readable .rows))
 
   -- The costs of a number that the tree has not.
   pub holds-setCosts : (k : ℕ) (costs : List ℕ) → k < c → length costs ≤ rowCosts → onBoard k (movesOf t) ≡ false → RowsHold c d n (setCosts c k costs m) t

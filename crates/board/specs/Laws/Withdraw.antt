@@ -9,20 +9,20 @@ use Rattle.promises.specs.Layout.{numberIn}
 use Rattle.promises.specs.Run.{Bytes}
 use Rattle.memory.specs.Held.{SoundRows}
 use Rattle.memory.specs.Stores.{setCount}
-use Rattle.memory.specs.Laws.Written.{only-trans, marks-written}
+use Rattle.memory.specs.Laws.Written.{only-trans, flags-written}
 use Rattle.tree.specs.Withdraw as withdraw
 use Rattle.upkeep.specs.Change.{movesAfter}
-use Rattle.upkeep.specs.Mark.{SetMarks}
+use Rattle.upkeep.specs.Flag.{SetFlags}
 use Rattle.upkeep.specs.Laws.Change.{rest-without}
 use Rattle.upkeep.specs.declared.exchange.Upkeep.{Upkeep}
 use Rattle.planning.specs.Change.{ToWithdraw, WithdrawMade}
-use Rattle.board.specs.Laws.Rows.{holds-sound, holds-over-marks, holds-counted}
-use Rattle.board.specs.Laws.Kept.{MarksRight, made}
-use Rattle.board.specs.Laws.Marks.{marks-gone}
-use Rattle.board.specs.Laws.Steps.{gone-written, gone-mark, gone-holds, gone-moves}
+use Rattle.board.specs.Laws.Rows.{holds-sound, holds-over-flags, holds-counted}
+use Rattle.board.specs.Laws.Made.{FlagsRight, made}
+use Rattle.board.specs.Laws.Flags.{flags-gone}
+use Rattle.board.specs.Laws.Steps.{gone-written, gone-flag, gone-holds, gone-moves}
 
 module _ {c d n p : ℕ} {u : Upkeep} {m m₁ : List ℕ} (a : ToWithdraw c d n p u m) (b : Bytes m)
-    (set : SetMarks c n (u .changed) m m₁) where
+    (set : SetFlags c n (u .changed) m m₁) where
   abbrev s : SoundRows c d n m
   s = a .asked .sound
 
@@ -30,7 +30,7 @@ module _ {c d n p : ℕ} {u : Upkeep} {m m₁ : List ℕ} (a : ToWithdraw c d n 
   withdraw-line-asked =
       let t = s .sound .tree in
       record {
-        tree = record { tree = t; holds = holds-over-marks (holds-sound s b t (s .sound .stands)) (set .frame) };
+        tree = record { tree = t; holds = holds-over-flags (holds-sound s b t (s .sound .stands)) (set .frame) };
         place = a .place;
       }
 
@@ -43,10 +43,10 @@ module _ {c d n p : ℕ} {u : Upkeep} {m m₁ : List ℕ} (a : ToWithdraw c d n 
       record {
         kept = λ t stands.
             made s (calls.withdraw (numberIn c m p)) t
-            (only-trans (marks-written c (set .frame)) (gone-written w))
+            (only-trans (flags-written c (set .frame)) (gone-written w))
             (gone-holds w s b (a .place) (set .frame) t stands)
             (gone-moves w s b (a .place) (set .frame) t stands ∙ rest-without c d n p m s b (a .place))
-            (subst (MarksRight c d m₂) (rest-without c d n p m s b (a .place))
-            (marks-gone (a .asked) (a .upkept) set m₂ refl (gone-mark w)))
+            (subst (FlagsRight c d m₂) (rest-without c d n p m s b (a .place))
+            (flags-gone (a .asked) (a .upkept) set m₂ refl (gone-flag w)))
             e₃;
       }

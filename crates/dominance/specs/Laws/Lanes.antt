@@ -1,4 +1,4 @@
--- Rows place by place: a loop that fills one, the lesser of two, and limits, which are nowhere less exactly where the costs of
+-- Rows place by place: a loop that fills one, the lesser of two, and bounds, which are nowhere less exactly where the costs of
 -- their test are.
 use Prim.Native.Nat.{ℕ, zero, suc, _+_, _-_, _*_, _≤_, _<_}
 use mathlib.Core.Bool.{Bool, true, false, cond}
@@ -15,7 +15,7 @@ use Rattle.zorder.specs.Address.{rowCosts}
 use Rattle.model.specs.Dominance.{less, nowhereGreater, at}
 use Rattle.model.specs.Laws.Bool.{testCases, same-test}
 use Rattle.model.specs.Laws.Dominance.{nowhere-greater-places, places-nowhere-greater, take-same-length}
-use Rattle.dominance.specs.Lanes.{Lanes, limit, isFirst, lesser, greater}
+use Rattle.dominance.specs.Lanes.{Lanes, bound, isFirst, lesser, greater}
 
 -- ---- a choice by a factor
 
@@ -83,40 +83,40 @@ module _ (p q : List ℕ) (i : ℕ) where
   pub greater-above : (getD p i 0 ≤ greater p q i) × (getD q i 0 ≤ greater p q i)
   greater-above = (omega (arith, greater-number), omega (arith, greater-number))
 
--- ---- limits
+-- ---- bounds
 
 -- p is nowhere greater than q at the places that pass the test.
 abbrev pub WithinAt : (ℕ → Bool) → List ℕ → List ℕ → Type 0
 WithinAt test p q = (i : ℕ) → i < rowCosts → test i ≡ true → getD p i 0 ≤ getD q i 0
 
-module _ (test : ℕ → Bool) (p q l : List ℕ) (limits : Lanes (limit test q) l) (wide : length p ≡ rowCosts) where
-  pub limits-places : nowhereGreater p l ≡ true → WithinAt test p q
-  limits-places h i k e =
-      omega (arith, nowhere-greater-places p l (wide ∙ sym (limits .wide)) h i, limits .holds i k ∙ ap (λ (t : Bool). cond t (getD q i 0) 65535) e)
+module _ (test : ℕ → Bool) (p q l : List ℕ) (bounds : Lanes (bound test q) l) (wide : length p ≡ rowCosts) where
+  pub bounds-places : nowhereGreater p l ≡ true → WithinAt test p q
+  bounds-places h i k e =
+      omega (arith, nowhere-greater-places p l (wide ∙ sym (bounds .wide)) h i, bounds .holds i k ∙ ap (λ (t : Bool). cond t (getD q i 0) 65535) e)
 
-  pub places-limits : ((i : ℕ) → getD p i 0 < 65536) → WithinAt test p q → nowhereGreater p l ≡ true
-  places-limits small h = places-nowhere-greater p l (λ i. go i (decLt i rowCosts))
+  pub places-bounds : ((i : ℕ) → getD p i 0 < 65536) → WithinAt test p q → nowhereGreater p l ≡ true
+  places-bounds small h = places-nowhere-greater p l (λ i. go i (decLt i rowCosts))
     where
       go : (i : ℕ) → Dec (i < rowCosts) → getD p i 0 ≤ getD l i 0
       go i (no k) = omega (arith, List·getD-eq-default p 0 {n = i} (omega arith))
       go i (yes k) =
-          subst (λ (x : ℕ). getD p i 0 ≤ x) (sym (limits .holds i k))
+          subst (λ (x : ℕ). getD p i 0 ≤ x) (sym (bounds .holds i k))
           (testCases (λ t. getD p i 0 ≤ cond t (getD q i 0) 65535) (test i) (h i k) (λ e. omega (arith, small i)))
 
 -- On the first d costs.
-module _ (d : ℕ) (p q l : List ℕ) (few : d ≤ rowCosts) (limits : Lanes (limit (isFirst d) q) l) (wide : length p ≡ rowCosts) (count : length q ≡ rowCosts) (small : (i : ℕ) → getD p i 0 < 65536) where
-  pub limits-first : nowhereGreater p l ≡ nowhereGreater (take d p) (take d q)
-  limits-first =
+module _ (d : ℕ) (p q l : List ℕ) (few : d ≤ rowCosts) (bounds : Lanes (bound (isFirst d) q) l) (wide : length p ≡ rowCosts) (count : length q ≡ rowCosts) (small : (i : ℕ) → getD p i 0 < 65536) where
+  pub bounds-first : nowhereGreater p l ≡ nowhereGreater (take d p) (take d q)
+  bounds-first =
       same-test (nowhereGreater p l) (nowhereGreater (take d p) (take d q))
       (λ h. places-nowhere-greater (take d p) (take d q) (λ i. forth h i (decLt i d)))
-      (λ h. places-limits (isFirst d) p q l limits wide small (λ i k e. back h i (ltb-true i d e)))
+      (λ h. places-bounds (isFirst d) p q l bounds wide small (λ i k e. back h i (ltb-true i d e)))
     where
       taken : (x : List ℕ) → length x ≡ rowCosts → (i : ℕ) → d ≤ i → getD (take d x) i 0 ≡ 0
       taken x e i k = List·getD-eq-default (take d x) 0 {n = i} (omega (arith, length-take-le d x (omega arith)))
 
       forth : nowhereGreater p l ≡ true → (i : ℕ) → Dec (i < d) → getD (take d p) i 0 ≤ getD (take d q) i 0
       forth h i (yes k) =
-          omega (arith, getD-take d p i 0 k, getD-take d q i 0 k, limits-places (isFirst d) p q l limits wide h i (omega arith) (lt-ltb i d k))
+          omega (arith, getD-take d p i 0 k, getD-take d q i 0 k, bounds-places (isFirst d) p q l bounds wide h i (omega arith) (lt-ltb i d k))
       forth h i (no k) = omega (arith, taken p wide i (omega arith))
 
       back : nowhereGreater (take d p) (take d q) ≡ true → (i : ℕ) → i < d → getD p i 0 ≤ getD q i 0

@@ -3,7 +3,7 @@ use borrow.Author.Needs.{needs}
 use mathlib.Core.Path.{refl, sym}
 use lib.Seq.{length-take-le}
 use Rattle.model.specs.Calls.{memoryNeed}
-use Rattle.framing.specs.State.{unloaded}
+use Rattle.frame_lines.specs.State.{unloaded}
 use Rattle.framing.specs.Serving.{StateIn, HoldsState, Lent}
 use native.Mathlib.Omega.{arith}
 use Rattle.frames.proofs.main.Statement.{statement}

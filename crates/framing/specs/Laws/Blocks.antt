@@ -10,9 +10,9 @@ use Rattle.model.specs.Changing.{changeTree}
 use Rattle.model.specs.Calls as calls
 use Rattle.model.specs.Calls.{Change, giveBlock, rowBlocks, changedBlocks, changed, changeAnswer}
 use Rattle.model.specs.Laws.Bool.{condCases}
-use Rattle.framing.specs.Digits.{bytesOf}
-use Rattle.framing.specs.State.{State, unloaded, holds}
-use Rattle.framing.specs.Frames.{Frame, load, change, list, early, wrong, sized, callFrame, boardFrame, callCodes, frameIn, wholeBytes, frameOf}
+use Rattle.frame_lines.specs.Digits.{bytesOf}
+use Rattle.frame_lines.specs.State.{State, unloaded, holds}
+use Rattle.frame_lines.specs.Frames.{Frame, load, change, list, early, wrong, sized, callFrame, boardFrame, callCodes, frameIn, wholeBytes, frameOf}
 use Rattle.framing.specs.Session.{boardSize, lentRows, loadSays, heldBy, held, after}
 
 -- The change gives block 0, if any.

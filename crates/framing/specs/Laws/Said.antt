@@ -11,15 +11,17 @@ use Rattle.model.specs.Calls as calls
 use Rattle.model.specs.Laws.Bool.{testCases}
 use Rattle.promises.specs.Answers.{numberOf, answerOf}
 use Rattle.promises.specs.declared.Verdict.{Verdict}
-use Rattle.framing.specs.Text.{byteText, wordText, rowText, rowsText, Reply, refused, notice, listed, saidText, answerText, lineEnd}
+use Rattle.frame_lines.specs.Text.{byteText, wordText, rowText, rowsText, Reply, refused, notice, listed, saidText, answerText, lineEnd}
+use Rattle.frame_lines.specs.Put.{TextPut, headText}
+use Rattle.frame_lines.specs.Laws.Put.{put-one, put-both, put-as}
+use Rattle.frame_lines.specs.Laws.Texts.{wordText-length, head-length}
 use Rattle.framing.specs.Session.{saidBy}
 use Rattle.rows.specs.declared.plan.Plan.{Plan}
 use Rattle.rows.specs.declared.telling.Telling.{Telling}
 use Rattle.planning.specs.Plan.{leftOf, enteredOf}
 use Rattle.planning.specs.declared.plan.ChangePlan.{ChangePlan}
-use Rattle.framing.specs.Writing.{TextPut, tellingRows, TextRoom, ListRoom, ChangeRoom, headText, listSaid, changeSaid}
-use Rattle.framing.specs.Laws.Put.{put-one, put-both, put-as}
-use Rattle.framing.specs.Laws.Texts.{wordText-length, flatMap-append}
+use Rattle.framing.specs.Writing.{tellingRows, TextRoom, ListRoom, ChangeRoom, listSaid, changeSaid}
+use Rattle.framing.specs.Laws.Rows.{flatMap-append}
 use Rattle.framing.specs.Laws.Told.{telling-count, telling-most, room-at}
 
 pub refused-text : (d : ℕ) (v : Verdict) (s : Reply) {n : ℕ} → n ≡ numberOf v → (n ≡ 0 → ⊥) → answerText 0 (refused n (v .detail)) ≡ answerText d (saidBy (answerOf v) s)
@@ -42,10 +44,6 @@ none-text d a none =
     (eqb (a .number) 0)
     (λ e. ap₂ (λ (n k : ℕ). answerText d (refused n k)) (eqb-true (a .number) 0 e) none)
     (λ _. refl)
-
-pub head-length : (number n : ℕ) → length (headText number n) ≡ 6
-unfolding headText byteText wordText
-head-length number n = refl
 
 -- ---- an accepted list: there is room for each piece, and together they are its text
 

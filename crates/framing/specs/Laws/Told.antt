@@ -12,10 +12,10 @@ use Rattle.promises.specs.Answers.{resultRow}
 use Rattle.rows.specs.Telling.{toldRows, nextRow, nextAt, position}
 use Rattle.rows.specs.Laws.Telling.{told-row}
 use Rattle.rows.specs.declared.telling.Telling.{Telling}
-use Rattle.framing.specs.Text.{rowText, rowsText}
+use Rattle.frame_lines.specs.Text.{rowText, rowsText}
+use Rattle.frame_lines.specs.Reading.{mostDigits}
 use Rattle.framing.specs.Writing.{tellingRows, TextRoom}
-use Rattle.framing.specs.Reading.{mostDigits}
-use Rattle.framing.specs.Laws.Texts.{flatMap-more, rowsText-most}
+use Rattle.framing.specs.Laws.Rows.{flatMap-more, rowsText-most}
 
 module _ (t : Telling) (m : List ℕ) where
   pub position-more : (k : ℕ) {i j : ℕ} → i ≡ position (t .told) (t .numbers) m k → j ≡ nextAt (t .told) (t .numbers) m i → j ≡ position (t .told) (t .numbers) m (k + 1)

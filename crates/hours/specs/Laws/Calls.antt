@@ -1,12 +1,11 @@
 -- What turns the hours call down, and its plan.
 use Prim.Native.Nat.{ℕ, _≤_, _<_}
-use mathlib.Core.Bool.{Bool}
+use mathlib.Core.Bool.{Bool, true, false}
 use mathlib.Core.List.{List, [], _∷_}
-use mathlib.Core.Path.{_≡_, refl, sym, ap, _∙_}
-use borrow.Author.Tests.{lt-ltb, le-ltb}
+use mathlib.Core.Path.{_≡_, refl, ap, _∙_}
 use lib.ListN.{take}
 use Rattle.zorder.specs.Refusal.{refusal}
-use Rattle.model.specs.Hours.{Hours, blockCount}
+use Rattle.model.specs.Hours.{Hours, blockCount, minuteBad}
 use Rattle.model.specs.Opening.{queryOpens}
 use Rattle.model.specs.Calls.{Answer, accepted, refusedWith, orElse, Board, hoursQuery, hoursRefusal, queryRefusal}
 use Rattle.promises.specs.Answers.{answerOf, outcomeNumber, refusedBy}
@@ -14,27 +13,26 @@ use Rattle.promises.specs.Layout.{boardIn}
 use Rattle.promises.specs.declared.Outcome.the-variants.{BadHours}
 use Rattle.memory.specs.Held.{SoundAt}
 use Rattle.memory.specs.declared.head.Head.{Head}
-use Rattle.upkeep.specs.Found.{Finds}
+use Rattle.upkeep.specs.Found.{FindsMoves}
 use Rattle.upkeep.specs.declared.found.Found.{Found}
 use Rattle.rows.specs.Planned.{QueryPlanned, PlansFound}
 use Rattle.rows.specs.declared.plan.Plan.{Plan}
-use Rattle.hours.specs.Open.{FirstBad, OpenBlocks, shownFor}
-use Rattle.hours.specs.Laws.Windows.{minute-late}
+use Rattle.hours.specs.Open.{FirstBad, OpenBlocks, shownIn}
 use Rattle.hours.specs.Laws.Shown.{hours-rows}
 
 module _ (b : Board) (t : ℕ) (hours : List Hours) where
   first-check : Bool → Answer
   first-check bad = orElse (refusedWith (refusal ((bad, 7) ∷ []))) (hoursRefusal 0 (take blockCount hours))
 
-  pub minute-refused : 10079 < t → queryRefusal b (hoursQuery t hours) ≡ refusedWith 7
+  pub minute-refused : minuteBad t ≡ true → queryRefusal b (hoursQuery t hours) ≡ refusedWith 7
   unfolding queryRefusal orElse refusedWith refusal first-check
-  minute-refused l = ap first-check (sym (minute-late t) ∙ lt-ltb 10079 t l)
+  minute-refused e = ap first-check e
 
-  by-entries : t ≤ 10079 → queryRefusal b (hoursQuery t hours) ≡ hoursRefusal 0 (take blockCount hours)
+  by-entries : minuteBad t ≡ false → queryRefusal b (hoursQuery t hours) ≡ hoursRefusal 0 (take blockCount hours)
   unfolding queryRefusal orElse refusedWith refusal first-check
-  by-entries l = ap first-check (sym (minute-late t) ∙ le-ltb 10079 t l)
+  by-entries e = ap first-check e
 
-  module _ (l : t ≤ 10079) {k : ℕ} (f : FirstBad hours k) where
+  module _ (l : minuteBad t ≡ false) {k : ℕ} (f : FirstBad hours k) where
     pub hours-refused : k < 64 → queryRefusal b (hoursQuery t hours) ≡ answerOf (refusedBy BadHours k)
     unfolding outcomeNumber
     hours-refused h = by-entries l ∙ f .bad h
@@ -45,7 +43,7 @@ module _ (b : Board) (t : ℕ) (hours : List Hours) where
 pub hours-planned : {h : Head} {m : List ℕ} {t blocks lent : ℕ} {hours : List Hours} {found : Found} {p : Plan}
     → SoundAt h m
     → OpenBlocks t hours blocks
-    → Finds h (shownFor (h .size) (h .dimension) (h .count) blocks m) m found
+    → FindsMoves h (shownIn h blocks m) m found
     → PlansFound h found 0 lent p
     → queryRefusal (boardIn m) (hoursQuery t hours) ≡ accepted
     → QueryPlanned (hoursQuery t hours) m lent p

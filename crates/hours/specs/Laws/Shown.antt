@@ -20,23 +20,23 @@ use Rattle.model.specs.Laws.Basics.{select-ext, select-select, any-select}
 use Rattle.model.specs.Laws.Blocks.{block-most}
 use Rattle.model.specs.Laws.Hiding.{earlier-hides}
 use Rattle.line.specs.Line.{movesIn}
-use Rattle.dominance.specs.Lanes.{Lanes, limit, isFirst}
 use Rattle.promises.specs.Layout.{numberIn, blockIn, costsIn, moveIn, lineFrom, lineIn, boardIn}
 use Rattle.promises.specs.Run.{Bytes}
-use Rattle.promises.specs.Laws.Tab.{each-tab}
 use Rattle.memory.specs.Held.{SoundRows}
-use Rattle.search.specs.Search.{inBlocks, looks, looksAt, seen, seenAt, fits, Some}
+use Rattle.search.specs.Search.{inBlocks, looks, looksAt, seen, seenAt, boundsAt, fits, Some}
 use Rattle.memory.specs.Tests.{anyTo, isListed}
 use Rattle.memory.specs.Laws.Blocks.{block-at, blocks-right}
 use Rattle.memory.specs.Laws.Costs.{row-length, words-first}
 use Rattle.memory.specs.Laws.Held.{held-dimension, held-ordered, held-listed}
+use Rattle.search.specs.Laws.Search.{bounds-lanes}
 use Rattle.search.specs.Laws.Hiders.{some-any, some-ext, words-within}
 use Rattle.memory.specs.Laws.Lines.{movesIn-line}
 use Rattle.memory.specs.Laws.Places.{any-tab, anyTo-past, anyTo-mono}
 use Rattle.search.specs.declared.search.Among.the-variants.{InBlocks}
-use Rattle.upkeep.specs.Found.{foundMoves}
+use Rattle.upkeep.specs.Found.{foundMoves, moveOf}
+use Rattle.upkeep.specs.Laws.Found.{each-move, found-selected}
 use Rattle.upkeep.specs.Laws.Others.{own-place}
-use Rattle.hours.specs.Open.{OpenBlocks, movesInBlocks, shownFor}
+use Rattle.hours.specs.Open.{OpenBlocks, movesInBlocks, shown}
 
 -- ---- one move
 
@@ -49,12 +49,12 @@ module _ (c d n : ℕ) (m : List ℕ) (s : SoundRows c d n m) (b : Bytes m) (blo
   hidesAt j = openAt j && hides d (moveIn c d m j) (moveIn c d m i)
 
   -- An earlier move hides if it is nowhere greater.
-  fits-hides : (q : List ℕ) → Lanes (limit (isFirst d) (costsIn c rowCosts m (numberIn c m i))) q → (j : ℕ) → j < i → fits (InBlocks blocks) c m q j ≡ hidesAt j
+  fits-hides : (j : ℕ) → j < i → fits (InBlocks blocks) c m (boundsAt c d m i) j ≡ hidesAt j
   unfolding fits looksAt looks seenAt seen moveIn
-  fits-hides q limits j k =
+  fits-hides j k =
       let few = held-dimension c d n m s in
       ap (λ (t : Bool). openAt j && t)
-      (words-within c d m few b (numberIn c m j) (costsIn c rowCosts m (numberIn c m i)) q (row-length c rowCosts m (numberIn c m i) (omega arith)) limits
+      (words-within c d m few b (numberIn c m j) (costsIn c rowCosts m (numberIn c m i)) (boundsAt c d m i) (row-length c rowCosts m (numberIn c m i) (omega arith)) (bounds-lanes c d m i)
       ∙ ap (nowhereGreater (take d (moveIn c d m j .costs))) (words-first c m (numberIn c m i) d few)
       ∙ sym (earlier-hides d (moveIn c d m j) (moveIn c d m i) (held-ordered c d n m s j i k l) (row-length c d m (numberIn c m j) few ∙ sym (row-length c d m (numberIn c m i) few))))
 
@@ -83,12 +83,11 @@ module _ (c d n : ℕ) (m : List ℕ) (s : SoundRows c d n m) (b : Bytes m) (blo
       go (yes k) = ne-eqb r i (λ e. omega arith) ∙ ap not (sym (lt-ltb r i k))
       go (no k) = eq-eqb r i (omega arith) ∙ ap not (sym (le-ltb r i (omega arith)))
 
-  pub open-shown : (q : List ℕ) → Lanes (limit (isFirst d) (costsIn c rowCosts m (numberIn c m i))) q → (r : ℕ) → Some (fits (InBlocks blocks) c m q) i r
-      → inBlocks blocks c m (numberIn c m i) ≡ true → eqb r i ≡ shownFor c d n blocks m (numberIn c m i)
-  unfolding shownFor moveIn
-  open-shown q limits r found here =
+  pub open-shown : (r : ℕ) → Some (fits (InBlocks blocks) c m (boundsAt c d m i)) i r → inBlocks blocks c m (numberIn c m i) ≡ true → eqb r i ≡ shown c d n blocks m (moveIn c d m i)
+  unfolding shown moveIn
+  open-shown r found here =
       own-found r (found .to)
-      ∙ ap not (sym (hidden-places ∙ earlier-places ∙ some-any hidesAt i r (some-ext (fits-hides q limits) found)))
+      ∙ ap not (sym (hidden-places ∙ earlier-places ∙ some-any hidesAt i r (some-ext fits-hides found)))
       ∙ ap (λ (t : Bool). t && not (hidden d (movesInBlocks c d n blocks m) (moveIn c d m i))) (sym here)
 
   -- What is listed no move hides, in whatever block.
@@ -96,8 +95,8 @@ module _ (c d n : ℕ) (m : List ℕ) (s : SoundRows c d n m) (b : Bytes m) (blo
   unfolding hidden
   all-places = ap (any (λ p. hides d p (moveIn c d m i))) (movesIn-line c d n m) ∙ any-tab (moveIn c d m) (λ p. hides d p (moveIn c d m i)) n
 
-  pub listed-shown : isListed c m i ≡ true → inBlocks blocks c m (numberIn c m i) ≡ true → eqb i i ≡ shownFor c d n blocks m (numberIn c m i)
-  unfolding shownFor moveIn
+  pub listed-shown : isListed c m i ≡ true → inBlocks blocks c m (numberIn c m i) ≡ true → eqb i i ≡ shown c d n blocks m (moveIn c d m i)
+  unfolding shown moveIn
   listed-shown listed here =
       eq-eqb i i refl
       ∙ sym
@@ -110,8 +109,8 @@ module _ (c d n : ℕ) (m : List ℕ) (s : SoundRows c d n m) (b : Bytes m) (blo
       (not-back (hidden d (movesIn (lineFrom c d n m)) (moveIn c d m i)) (sym (held-listed c d n m s i l) ∙ listed)))
       (λ t. t))))
 
-  pub shut-unshown : inBlocks blocks c m (numberIn c m i) ≡ false → eqb n i ≡ shownFor c d n blocks m (numberIn c m i)
-  unfolding shownFor moveIn
+  pub shut-unshown : inBlocks blocks c m (numberIn c m i) ≡ false → eqb n i ≡ shown c d n blocks m (moveIn c d m i)
+  unfolding shown moveIn
   shut-unshown shut =
       ne-eqb n i (λ e. omega arith)
       ∙ ap (λ (t : Bool). t && not (hidden d (movesInBlocks c d n blocks m) (moveIn c d m i))) (sym shut)
@@ -122,22 +121,10 @@ module _ (c d n : ℕ) (m : List ℕ) where
   abbrev ms : List Move
   ms = movesIn (lineFrom c d n m)
 
-  each-move : (P : Move → Type 0) → ((i : ℕ) → i < n → P (moveIn c d m i)) → Each P ms
-  each-move P h = subst (Each P) (sym (movesIn-line c d n m)) (each-tab (moveIn c d m) P n h)
-
   -- The moves shown are the list of those in open blocks.
-  shown-skyline : (blocks : ℕ) → foundMoves c d n (shownFor c d n blocks m) m ≡ skyline d (movesInBlocks c d n blocks m)
-  unfolding skyline shownFor moveIn
-  shown-skyline blocks =
-      select-ext (λ x. shownFor c d n blocks m (x .number)) (λ x. inOpen x && unhidden x) ms
-      (each-move (λ x. shownFor c d n blocks m (x .number) ≡ (inOpen x && unhidden x)) (λ i _. refl))
-      ∙ sym (select-select unhidden inOpen ms)
-    where
-      inOpen : Move → Bool
-      inOpen x = inBlocks blocks c m (x .number)
-
-      unhidden : Move → Bool
-      unhidden x = not (hidden d (movesInBlocks c d n blocks m) x)
+  shown-skyline : (blocks : ℕ) → select (shown c d n blocks m) ms ≡ skyline d (movesInBlocks c d n blocks m)
+  unfolding skyline shown
+  shown-skyline blocks = sym (select-select (λ x. not (hidden d (movesInBlocks c d n blocks m) x)) (λ x. inBlocks blocks c m (x .number)) ms)
 
   module _ (s : SoundRows c d n m) where
     blocks-fit : Each (λ x. blockBad (blocksOn (movesIn (lineFrom c d n m)) (blockIn c m) (x .number)) ≡ false) (movesIn (lineFrom c d n m))
@@ -163,13 +150,13 @@ module _ (c d n : ℕ) (m : List ℕ) where
     unfolding openMoves boardIn lineIn moveIn
     open-selected {t} {blocks} {hours} o =
         select-ext (λ x. inBlocks blocks c m (x .number)) (λ x. blockOpen t hours (blocksOn ms (blockIn c m) (x .number))) ms
-        (each-move (λ x. inBlocks blocks c m (x .number) ≡ blockOpen t hours (blocksOn ms (blockIn c m) (x .number))) (block-open o))
+        (each-move c d n m (λ x. inBlocks blocks c m (x .number) ≡ blockOpen t hours (blocksOn ms (blockIn c m) (x .number))) (block-open o))
         ∙ (λ j. chosen (s .size j) (s .dimension j) (s .count j))
       where
         chosen : ℕ → ℕ → ℕ → List Move
         chosen c d n = select (λ x. blockOpen t hours (blocksOn (movesIn (lineFrom c d n m)) (blockIn c m) (x .number))) (movesIn (lineFrom c d n m))
 
     pub hours-rows : {t blocks : ℕ} {hours : List Hours} → OpenBlocks t hours blocks
-        → listedRows (foundMoves c d n (shownFor c d n blocks m) m) ≡ queryRows (boardIn m) (hoursQuery t hours)
+        → listedRows (foundMoves c d n (λ k. shown c d n blocks m (moveOf c d m k)) m) ≡ queryRows (boardIn m) (hoursQuery t hours)
     unfolding queryRows boardIn
-    hours-rows {blocks = blocks} o = ap listedRows (shown-skyline blocks ∙ (λ j. skyline (s .dimension j) (open-selected o j)))
+    hours-rows {blocks = blocks} o = ap listedRows (found-selected c d n m (shown c d n blocks m) ∙ shown-skyline blocks ∙ (λ j. skyline (s .dimension j) (open-selected o j)))

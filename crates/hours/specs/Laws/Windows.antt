@@ -3,11 +3,11 @@ use Prim.Native.Nat.{ℕ, zero, suc, _≤_, _<_}
 use mathlib.Core.Bool.{Bool, true, false, cond, not, _&&_, _||_}
 use mathlib.Core.List.{List, [], _∷_}
 use mathlib.Core.Logic.{inr}
-use mathlib.Core.Path.{_≡_, refl, sym, ap, ap₂, _∙_}
+use mathlib.Core.Path.{_≡_, refl, sym, ap, _∙_}
 use native.Mathlib.Decide.{decLt}
 use native.Mathlib.Omega.{arith}
 use borrow.Author.Tests.{lt-ltb, le-ltb}
-use lib.Dec.{ltb, leb, eqb}
+use lib.Dec.{ltb, leb}
 use lib.ListN.{take, getD}
 use lib.Seq.{take-all}
 use Rattle.model.specs.Basics.{any, within}
@@ -72,22 +72,17 @@ minute-late t = go (decLt 10079 t)
     go (yes l) = lt-ltb 10079 t l ∙ sym (ap not (within-false 0 10079 t (inr l)))
     go (no l) = le-ltb 10079 t (omega arith) ∙ sym (ap not (within-true 0 10079 t (omega arith) (omega arith)))
 
-module _ (w : Window) where
-  pub window-tested : (ltb 10079 (w .start) || ltb 10079 (w .end) || eqb (w .start) (w .end)) ≡ windowBad w
-  unfolding windowBad
-  window-tested = ap₂ (λ (a b : Bool). a || b || eqb (w .start) (w .end)) (minute-late (w .start)) (minute-late (w .end))
+module _ (w : Window) (t : ℕ) where
+  within-week : Bool
+  within-week = leb (w .start) t && ltb t (w .end)
 
-  module _ (t : ℕ) where
-    within-week : Bool
-    within-week = leb (w .start) t && ltb t (w .end)
+  over-week : Bool
+  over-week = leb (w .start) t || ltb t (w .end)
 
-    over-week : Bool
-    over-week = leb (w .start) t || ltb t (w .end)
+  pub open-over : w .end < w .start → (leb (w .start) t || ltb t (w .end)) ≡ openIn t w
+  unfolding openIn within-week over-week
+  open-over l = ap (λ (b : Bool). cond b over-week within-week) (sym (lt-ltb (w .end) (w .start) l))
 
-    pub open-over : w .end < w .start → (leb (w .start) t || ltb t (w .end)) ≡ openIn t w
-    unfolding openIn within-week over-week
-    open-over l = ap (λ (b : Bool). cond b over-week within-week) (sym (lt-ltb (w .end) (w .start) l))
-
-    pub open-within : w .start ≤ w .end → (leb (w .start) t && ltb t (w .end)) ≡ openIn t w
-    unfolding openIn within-week over-week
-    open-within l = ap (λ (b : Bool). cond b over-week within-week) (sym (le-ltb (w .end) (w .start) l))
+  pub open-within : w .start ≤ w .end → (leb (w .start) t && ltb t (w .end)) ≡ openIn t w
+  unfolding openIn within-week over-week
+  open-within l = ap (λ (b : Bool). cond b over-week within-week) (sym (le-ltb (w .end) (w .start) l))

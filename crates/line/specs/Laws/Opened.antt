@@ -20,10 +20,9 @@ use Rattle.model.specs.Runs.{RunOf, NodeIn}
 use Rattle.model.specs.Laws.Nodes.{Some, run-trans, node-wider, run-fit, run-ordered}
 use Rattle.model.specs.Laws.Opening.{Downward}
 use Rattle.line.specs.Line.{Placed, none, lineOf, movesIn, heightsIn}
-use Rattle.line.specs.Places.{moveAt, heightAt, lowerAmong, lower, nodeEnd}
+use Rattle.line.specs.Places.{moveAt, heightAt, lowerAmong, lower, nodeEnd, tailOf}
 use Rattle.line.specs.Search.{nodeAt, nodesAt, nodesIn, nodesLeft, nodeFrom, openedFrom, openedPast}
 use Rattle.line.specs.Laws.Line.{Low, WholeTree, line-cons}
-use Rattle.line.specs.Places.{tailOf}
 use Rattle.line.specs.Laws.Decode.{tail-low}
 use Rattle.line.specs.Laws.Places.{lower-le, end-rows}
 use Rattle.line.specs.Laws.Search.{tail-lower, tail-left, nodes-line}

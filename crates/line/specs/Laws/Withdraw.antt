@@ -1,8 +1,7 @@
 -- Withdrawing on the line is withdrawing on the nest.
 use Prim.Native.Nat.{ℕ, suc}
 use mathlib.Core.Bool.{Bool, true, false, cond, not, _||_}
-use mathlib.Core.List.{List, [], _∷_, _++_, map}
-use mathlib.Core.List.{Permᴰ·symm, List·Memᴰ, Memᴰ·cast, Memᴰ·append-left, List·Memᴰ·append-cases}
+use mathlib.Core.List.{List, [], _∷_, _++_, map, Permᴰ·symm, List·Memᴰ, Memᴰ·cast, Memᴰ·append-left, List·Memᴰ·append-cases}
 use mathlib.Core.Logic.{⊎-elim}
 use mathlib.Core.Path.{_≡_, refl, sym, ap, ap₂, _∙_, subst}
 use borrow.Author.Tests.{eqb-true}

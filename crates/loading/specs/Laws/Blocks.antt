@@ -17,10 +17,10 @@ use Rattle.model.specs.Laws.Blocks.{give-same, loaded-blocks, loaded-fit}
 use Rattle.line.specs.Line.{movesIn}
 use Rattle.promises.specs.Layout.{sizeIn, dimensionIn, blockIn, lineIn, boardIn}
 use Rattle.promises.specs.Answers.{inputRow}
-use Rattle.promises.specs.Written.{loadWrites}
+use Rattle.promises.specs.Written.{loadWrites, Only}
 use Rattle.memory.specs.Room.{Room}
 use Rattle.memory.specs.Stores.{setBlock}
-use Rattle.memory.specs.Frame.{Only, BlocksOnly}
+use Rattle.memory.specs.Frame.{BlocksOnly}
 use Rattle.memory.specs.Laws.Frames.{frame-refl, frame-trans, room-over}
 use Rattle.memory.specs.Laws.Written.{only-trans, blocks-load}
 use Rattle.memory.specs.Laws.Blocks.{setBlock-blocks, block-setBlock, size-over-blocks, dimension-over-blocks, moves-over-blocks, stands-over-blocks}
@@ -125,7 +125,6 @@ module _ (c d : ℕ) (rows : List InputRow) (a : Acceptable c d rows) (m m₁ m�
             board = board;
             blocks = loaded-fit c d 0 [] rows (a .right);
           };
-          length = whole .length;
-          others = whole .same;
+          only = whole;
         };
       }

@@ -1,5 +1,5 @@
 -- The blocks of a board by the places of its moves, and what a block given leaves as it was.
-use Prim.Native.Nat.{ℕ, _+_, _*_, _≤_, _<_}
+use Prim.Native.Nat.{ℕ, _≤_, _<_}
 use mathlib.Core.Bool.{Bool, true, false, cond}
 use mathlib.Core.List.{List}
 use mathlib.Core.Logic.{inl, inr}
@@ -19,7 +19,7 @@ use Rattle.model.specs.Laws.Bool.{byCases, both-ways}
 use Rattle.model.specs.Laws.Basics.{any-witness, each-mem, select-ext}
 use Rattle.model.specs.Laws.Blocks.{blocks-ext}
 use Rattle.line.specs.Line.{movesIn}
-use Rattle.promises.specs.Layout.{blockPlace, sizeIn, dimensionIn, formatIn, countIn, numberIn, markIn, blockIn, moveIn, lineFrom, lineIn, keptFrom, keptIn}
+use Rattle.promises.specs.Layout.{blockPlace, sizeIn, dimensionIn, formatIn, countIn, numberIn, flagIn, blockIn, moveIn, lineFrom, lineIn, keptFrom, keptIn}
 use Rattle.promises.specs.Sound.{Stands}
 use Rattle.promises.specs.Laws.Tab.{each-tab}
 use Rattle.memory.specs.Room.{Room, Numbers}
@@ -27,7 +27,7 @@ use Rattle.memory.specs.Stores.{setBlock}
 use Rattle.memory.specs.Frame.{BlocksOnly}
 use Rattle.memory.specs.Laws.Places.{tab-each, any-tab, anyTo-found}
 use Rattle.memory.specs.Laws.Frames.{byte-across, word-across, byte-frame, frame-widen}
-use Rattle.memory.specs.Laws.Fields.{number-over, height-over, mark-over, costs-over}
+use Rattle.memory.specs.Laws.Fields.{number-over, height-over, flag-over, costs-over}
 use Rattle.memory.specs.Laws.Lines.{movesIn-line, line-ext, each-numbers}
 
 -- ---- by places
@@ -75,19 +75,19 @@ module _ (c d n : ℕ) (m : List ℕ) where
 
 module _ (c n block : ℕ) (m : List ℕ) where
   pub setBlock-blocks : n < c → BlocksOnly c m (setBlock c n block m)
-  unfolding setBlock blockPlace
-  setBlock-blocks h = frame-widen (omega arith) (omega arith) (byte-frame (16 + 4 * c + n) block m)
+  unfolding setBlock
+  setBlock-blocks h = frame-widen (omega arith) (omega arith) (byte-frame (blockPlace c n) block m)
 
   pub block-setBlock : Room c m → n < c → (k : ℕ) → blockIn c (setBlock c n block m) k ≡ giveBlock n block (blockIn c m) k
-  unfolding setBlock blockIn blockPlace giveBlock
+  unfolding setBlock blockIn giveBlock
   block-setBlock room h k =
       byCases (eqb k n)
       (λ e.
-      ap (λ (j : ℕ). getD (setBlock c n block m) (16 + 4 * c + j) 0) (eqb-true k n e)
-      ∙ getD-set-same m (16 + 4 * c + n) block 0 (omega (arith, room .0))
+      ap (λ (j : ℕ). getD (setBlock c n block m) (blockPlace c j) 0) (eqb-true k n e)
+      ∙ getD-set-same m (blockPlace c n) block 0 (omega (arith, room .0))
       ∙ sym (ap (λ (b : Bool). cond b block (blockIn c m k)) e))
       (λ e.
-      getD-set-other m (16 + 4 * c + n) (16 + 4 * c + k) block 0
+      getD-set-other m (blockPlace c n) (blockPlace c k) block 0
       (λ q. let same : k ≡ n = omega (arith, q) in both-ways (eq-eqb k n same) e)
       ∙ sym (ap (λ (b : Bool). cond b block (blockIn c m k)) e))
 
@@ -130,13 +130,13 @@ module _ (m m' : List ℕ) (f : BlocksOnly (sizeIn m) m m') where
         ∙ select-ext listed' listed (movesIn (lineFrom c (dimensionIn m) (countIn m) m))
         (subst (Each (λ x. listed' x ≡ listed x)) (sym (movesIn-line c (dimensionIn m) (countIn m) m))
         (each-tab (moveIn c (dimensionIn m) m) (λ x. listed' x ≡ listed x) (countIn m)
-        (λ i l. ap (λ (v : ℕ). eqb v 1) (mark-over f c (numberIn c m i) (inl (omega (arith, numbers i l)))))))
+        (λ i l. ap (λ (v : ℕ). eqb v 1) (flag-over f c (numberIn c m i) (inl (omega (arith, numbers i l)))))))
       where
         listed' : Move → Bool
-        listed' x = eqb (markIn c m' (x .number)) 1
+        listed' x = eqb (flagIn c m' (x .number)) 1
 
         listed : Move → Bool
-        listed x = eqb (markIn c m (x .number)) 1
+        listed x = eqb (flagIn c m (x .number)) 1
 
         numbers : Numbers c (countIn m) m
         numbers = each-numbers c (dimensionIn m) (countIn m) m (s .numbers)

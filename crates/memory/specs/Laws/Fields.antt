@@ -1,13 +1,13 @@
 -- A field outside a frame is as it was. What stands behind a frame does so for every index, what stands before it for the
 -- indices of its own area.
-use Prim.Native.Nat.{ℕ, _+_, _*_, _≤_, _<_}
+use Prim.Native.Nat.{ℕ, _+_, _≤_, _<_}
 use mathlib.Core.List.{List}
 use mathlib.Core.Logic.{inl, inr, ⊎-map}
 use mathlib.Core.Path.{_≡_, ap}
 use native.Mathlib.Omega.{arith}
 use Rattle.zorder.specs.Address.{rowCosts, padded}
-use Rattle.promises.specs.Layout.{numberPlace, heightPlace, markPlace, costPlace, workPlace, numberIn, heightIn, markIn, costIn, workIn, costsIn}
-use Rattle.memory.specs.Frame.{DifferWithin, RowsOnly, MarksOnly, CostsOnly, WorkOnly}
+use Rattle.promises.specs.Layout.{numberPlace, heightPlace, flagPlace, costPlace, workPlace, numberIn, heightIn, flagIn, costIn, workIn, costsIn}
+use Rattle.memory.specs.Frame.{DifferWithin, RowsOnly, FlagsOnly, CostsOnly, WorkOnly}
 use Rattle.memory.specs.Laws.Frames.{Apart, byte-across, word-across}
 use Rattle.promises.specs.Laws.Tab.{tab-ext}
 
@@ -15,28 +15,28 @@ use Rattle.promises.specs.Laws.Tab.{tab-ext}
 
 module _ {a b : ℕ} {m m' : List ℕ} (f : DifferWithin a b m m') where
   module _ (c : ℕ) where
-    pub number-over : (i : ℕ) → Apart a b (16 + 2 * i) (18 + 2 * i) → numberIn c m' i ≡ numberIn c m i
-    unfolding numberIn numberPlace
-    number-over i h = word-across f (16 + 2 * i) (⊎-map (λ k. omega arith) (λ k. k) h)
+    pub number-over : (i : ℕ) → Apart a b (numberPlace i) (numberPlace i + 2) → numberIn c m' i ≡ numberIn c m i
+    unfolding numberIn
+    number-over i = word-across f (numberPlace i)
 
-    pub height-over : (i : ℕ) → Apart a b (16 + 2 * c + i) (17 + 2 * c + i) → heightIn c m' i ≡ heightIn c m i
-    unfolding heightIn heightPlace
-    height-over i h = byte-across f (16 + 2 * c + i) (⊎-map (λ k. omega arith) (λ k. k) h)
+    pub height-over : (i : ℕ) → Apart a b (heightPlace c i) (heightPlace c i + 1) → heightIn c m' i ≡ heightIn c m i
+    unfolding heightIn
+    height-over i = byte-across f (heightPlace c i)
 
-    pub mark-over : (n : ℕ) → Apart a b (16 + 3 * c + n) (17 + 3 * c + n) → markIn c m' n ≡ markIn c m n
-    unfolding markIn markPlace
-    mark-over n h = byte-across f (16 + 3 * c + n) (⊎-map (λ k. omega arith) (λ k. k) h)
+    pub flag-over : (n : ℕ) → Apart a b (flagPlace c n) (flagPlace c n + 1) → flagIn c m' n ≡ flagIn c m n
+    unfolding flagIn
+    flag-over n = byte-across f (flagPlace c n)
 
-    pub costs-over : (d n : ℕ) → Apart a b (16 + 5 * c + 16 * n) (16 + 5 * c + 16 * n + 2 * d) → costsIn c d m' n ≡ costsIn c d m n
-    unfolding costsIn costIn costPlace
+    pub costs-over : (d n : ℕ) → Apart a b (costPlace c n 0) (costPlace c n d) → costsIn c d m' n ≡ costsIn c d m n
+    unfolding costsIn costIn
     costs-over d n h =
         ap (padded d)
         (tab-ext (costIn c m' n) (costIn c m n) d
-        (λ j l. word-across f (16 + 5 * c + 16 * n + 2 * j) (⊎-map (λ k. omega arith) (λ k. omega arith) h)))
+        (λ j l. word-across f (costPlace c n j) (⊎-map (λ k. omega arith) (λ k. omega arith) h)))
 
-    pub work-over : (i : ℕ) → Apart a b (16 + 21 * c + 2 * i) (18 + 21 * c + 2 * i) → workIn c m' i ≡ workIn c m i
-    unfolding workIn workPlace
-    work-over i h = word-across f (16 + 21 * c + 2 * i) (⊎-map (λ k. omega arith) (λ k. k) h)
+    pub work-over : (i : ℕ) → Apart a b (workPlace c i) (workPlace c i + 2) → workIn c m' i ≡ workIn c m i
+    unfolding workIn
+    work-over i = word-across f (workPlace c i)
 
 -- ---- over the frames that occur
 
@@ -47,15 +47,15 @@ module _ (c : ℕ) {m m' : List ℕ} (f : DifferWithin 0 16 m m') where
   pub height-over-head : (i : ℕ) → heightIn c m' i ≡ heightIn c m i
   height-over-head i = height-over f c i (inr (omega arith))
 
-  pub mark-over-head : (n : ℕ) → markIn c m' n ≡ markIn c m n
-  mark-over-head n = mark-over f c n (inr (omega arith))
+  pub flag-over-head : (n : ℕ) → flagIn c m' n ≡ flagIn c m n
+  flag-over-head n = flag-over f c n (inr (omega arith))
 
   pub costs-over-head : (d n : ℕ) → costsIn c d m' n ≡ costsIn c d m n
   costs-over-head d n = costs-over f c d n (inr (omega arith))
 
 module _ (c : ℕ) {m m' : List ℕ} (f : RowsOnly c m m') where
-  pub mark-over-rows : (n : ℕ) → markIn c m' n ≡ markIn c m n
-  mark-over-rows n = mark-over f c n (inr (omega arith))
+  pub flag-over-rows : (n : ℕ) → flagIn c m' n ≡ flagIn c m n
+  flag-over-rows n = flag-over f c n (inr (omega arith))
 
   pub costs-over-rows : (d n : ℕ) → costsIn c d m' n ≡ costsIn c d m n
   costs-over-rows d n = costs-over f c d n (inr (omega arith))
@@ -63,15 +63,15 @@ module _ (c : ℕ) {m m' : List ℕ} (f : RowsOnly c m m') where
   pub work-over-rows : (i : ℕ) → workIn c m' i ≡ workIn c m i
   work-over-rows i = work-over f c i (inr (omega arith))
 
-module _ (c : ℕ) {m m' : List ℕ} (f : MarksOnly c m m') where
-  pub number-over-marks : (i : ℕ) → i < c → numberIn c m' i ≡ numberIn c m i
-  number-over-marks i h = number-over f c i (inl (omega arith))
+module _ (c : ℕ) {m m' : List ℕ} (f : FlagsOnly c m m') where
+  pub number-over-flags : (i : ℕ) → i < c → numberIn c m' i ≡ numberIn c m i
+  number-over-flags i h = number-over f c i (inl (omega arith))
 
-  pub height-over-marks : (i : ℕ) → i < c → heightIn c m' i ≡ heightIn c m i
-  height-over-marks i h = height-over f c i (inl (omega arith))
+  pub height-over-flags : (i : ℕ) → i < c → heightIn c m' i ≡ heightIn c m i
+  height-over-flags i h = height-over f c i (inl (omega arith))
 
-  pub costs-over-marks : (d n : ℕ) → costsIn c d m' n ≡ costsIn c d m n
-  costs-over-marks d n = costs-over f c d n (inr (omega arith))
+  pub costs-over-flags : (d n : ℕ) → costsIn c d m' n ≡ costsIn c d m n
+  costs-over-flags d n = costs-over f c d n (inr (omega arith))
 
 module _ (c : ℕ) {m m' : List ℕ} (f : CostsOnly c m m') where
   pub number-over-costs : (i : ℕ) → i < c → numberIn c m' i ≡ numberIn c m i
@@ -80,8 +80,8 @@ module _ (c : ℕ) {m m' : List ℕ} (f : CostsOnly c m m') where
   pub height-over-costs : (i : ℕ) → i < c → heightIn c m' i ≡ heightIn c m i
   height-over-costs i h = height-over f c i (inl (omega arith))
 
-  pub mark-over-costs : (n : ℕ) → n < c → markIn c m' n ≡ markIn c m n
-  mark-over-costs n h = mark-over f c n (inl (omega arith))
+  pub flag-over-costs : (n : ℕ) → n < c → flagIn c m' n ≡ flagIn c m n
+  flag-over-costs n h = flag-over f c n (inl (omega arith))
 
 module _ (c : ℕ) {m m' : List ℕ} (f : WorkOnly c m m') where
   pub number-over-work : (i : ℕ) → i < c → numberIn c m' i ≡ numberIn c m i
@@ -90,8 +90,8 @@ module _ (c : ℕ) {m m' : List ℕ} (f : WorkOnly c m m') where
   pub height-over-work : (i : ℕ) → i < c → heightIn c m' i ≡ heightIn c m i
   height-over-work i h = height-over f c i (inl (omega arith))
 
-  pub mark-over-work : (n : ℕ) → n < c → markIn c m' n ≡ markIn c m n
-  mark-over-work n h = mark-over f c n (inl (omega arith))
+  pub flag-over-work : (n : ℕ) → n < c → flagIn c m' n ≡ flagIn c m n
+  flag-over-work n h = flag-over f c n (inl (omega arith))
 
   pub costs-over-work : (d n : ℕ) → d ≤ rowCosts → n < c → costsIn c d m' n ≡ costsIn c d m n
   costs-over-work d n l h = costs-over f c d n (inl (omega arith))

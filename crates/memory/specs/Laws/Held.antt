@@ -1,4 +1,4 @@
--- What sound memory gives of its rows, its marks and its moves, for its own c, d and n.
+-- What sound memory gives of its rows, its flags and its moves, for its own c, d and n.
 use Prim.Native.Nat.{ℕ, zero, suc, _≤_, _<_}
 use mathlib.Core.Bool.{Bool, true, false, not, _&&_}
 use mathlib.Core.List.{List, [], _∷_, map}
@@ -11,16 +11,18 @@ use lib.ListN.{length, getD}
 use Rattle.zorder.specs.Between.{rowCosts}
 use Rattle.model.specs.Basics.{Each, any, distinct, has}
 use Rattle.model.specs.Moves.{Move, ordered}
+use Rattle.model.specs.Dominance.{dominates, hides}
 use Rattle.model.specs.Lists.{hidden, skyline}
 use Rattle.model.specs.Calls.{memoryNeed}
 use Rattle.model.specs.Sound.{Fit}
 use Rattle.model.specs.Tree.{Tree, movesOf}
 use Rattle.model.specs.Laws.Loading.{size-most}
 use Rattle.model.specs.Laws.Bool.{and-left, and-right, not-back}
+use Rattle.model.specs.Laws.Hiding.{dominates-hides, move-hiding}
 use Rattle.model.specs.Laws.Basics.{mem-at, select-same, each-mem, any-false, any-select}
 use Rattle.line.specs.Line.{Placed, lineOf, movesIn}
 use Rattle.line.specs.Laws.Line.{moves-line}
-use Rattle.promises.specs.Layout.{sizeIn, dimensionIn, countIn, numberIn, markIn, moveIn, placedIn, tab, lineFrom, lineIn, boardIn, keptFrom, keptIn}
+use Rattle.promises.specs.Layout.{sizeIn, dimensionIn, countIn, numberIn, flagIn, moveIn, placedIn, tab, lineFrom, lineIn, boardIn, keptFrom, keptIn}
 use Rattle.promises.specs.Sound.{Stands, Sound}
 use Rattle.promises.specs.Run.{Bytes}
 use Rattle.promises.specs.Laws.Stands.{stands-dimension, stands-moves, stands-order, stands-fit, stands-once}
@@ -28,9 +30,9 @@ use Rattle.memory.specs.Room.{Room, Numbers, ReadableRows, Ordered}
 use Rattle.memory.specs.Held.{SoundRows}
 use Rattle.memory.specs.Tests.{anyTo, isListed}
 use Rattle.promises.specs.Laws.Tab.{length-tab, getD-tab, map-tab}
-use Rattle.memory.specs.Laws.Places.{tab-each, any-tab}
+use Rattle.memory.specs.Laws.Places.{tab-each, any-tab, anyTo-found}
 use Rattle.memory.specs.Laws.Lines.{movesIn-line, lineIn-line}
-use Rattle.memory.specs.Laws.Ordered.{line-ordered}
+use Rattle.memory.specs.Laws.Ordered.{line-ordered, ordered-place}
 
 no-other : (n : ℕ) (ns : List ℕ) → has n ns ≡ false → (i : ℕ) → i < length ns → n ≡ getD ns i 0 → ⊥
 unfolding has
@@ -104,16 +106,16 @@ module _ (c d n : ℕ) (m : List ℕ) (s : SoundRows c d n m) where
       ∙ any-tab (moveIn c d m) (λ x. listed x && p x) n
     where
       listed : Move → Bool
-      listed x = eqb (markIn c m (x .number)) 1
+      listed x = eqb (flagIn c m (x .number)) 1
 
-  -- The marks say who is in the list.
+  -- The flags say who is in the list.
   pub held-listed : (i : ℕ) → i < n → isListed c m i ≡ not (hidden d (movesIn (lineFrom c d n m)) (moveIn c d m i))
   unfolding isListed keptFrom skyline moveIn
   held-listed i h =
       tab-each (moveIn c d m) Right n i h (subst (Each Right) (movesIn-line c d n m) (select-same _ _ (movesIn (lineFrom c d n m)) held-kept))
     where
       Right : Move → Type 0
-      Right x = eqb (markIn c m (x .number)) 1 ≡ not (hidden d (movesIn (lineFrom c d n m)) x)
+      Right x = eqb (flagIn c m (x .number)) 1 ≡ not (hidden d (movesIn (lineFrom c d n m)) x)
 
   module _ (b : Bytes m) where
     pub held-fit : Each (Fit c d) (movesIn (lineFrom c d n m))
@@ -139,6 +141,23 @@ module _ (c d n : ℕ) (m : List ℕ) (s : SoundRows c d n m) where
         (omega (arith, length-tab (numberIn c m) n))
         (omega (arith, length-tab (numberIn c m) n))
         (getD-tab (numberIn c m) 0 n i h ∙ e ∙ sym (getD-tab (numberIn c m) 0 n j k))
+
+-- What the move at place i dominates is hidden, and stands after it.
+module _ (c d n : ℕ) (m : List ℕ) (s : SoundRows c d n m) (i j : ℕ) (l : i < n) (k : j < n) (e : dominates d (moveIn c d m i .costs) (moveIn c d m j .costs) ≡ true) where
+  pub dominated-hidden : isListed c m j ≡ false
+  unfolding hidden
+  dominated-hidden =
+      held-listed c d n m s j k
+      ∙ ap not
+      (ap (λ (ms : List Move). hidden d ms (moveIn c d m j)) (movesIn-line c d n m)
+      ∙ any-tab (moveIn c d m) (λ p. hides d p (moveIn c d m j)) n
+      ∙ anyTo-found (λ p. hides d (moveIn c d m p) (moveIn c d m j)) n i l (dominates-hides d (moveIn c d m i) (moveIn c d m j) e))
+
+  pub dominated-after : Bytes m → i < j
+  dominated-after b =
+      ordered-place c d n m (held-ordered c d n m s) j i l
+      (move-hiding d c (held-dimension c d n m s) .earlier (moveIn c d m i) (moveIn c d m j) (held-fit-at c d n m s b i l) (held-fit-at c d n m s b j k)
+      (dominates-hides d (moveIn c d m i) (moveIn c d m j) e))
 
 -- Sound memory can be read.
 pub held-readable : {c d n : ℕ} {m : List ℕ} → SoundRows c d n m → ReadableRows c d n m

@@ -14,10 +14,10 @@ use Rattle.line.specs.Places.{moveAt, heightAt, insertAt}
 use Rattle.promises.specs.Layout.{sizeIn, dimensionIn, countIn, numberIn, heightIn, costsIn, moveIn, placedIn, tab, heightsFrom, lineFrom, lineIn}
 use Rattle.memory.specs.Room.{Room, Numbers}
 use Rattle.memory.specs.Stores.{setHeight, setCosts}
-use Rattle.memory.specs.Frame.{DifferWithin, MarksOnly, WorkOnly}
+use Rattle.memory.specs.Frame.{DifferWithin, FlagsOnly, WorkOnly}
 use Rattle.promises.specs.Laws.Tab.{each-tab, length-tab, getD-tab, tab-ext, tab-set, tab-insert, map-tab}
 use Rattle.memory.specs.Laws.Places.{tab-each}
-use Rattle.memory.specs.Laws.Fields.{number-over-head, height-over-head, costs-over-head, costs-over-rows, number-over-marks, height-over-marks, costs-over-marks, number-over-costs, height-over-costs, number-over-work, height-over-work, costs-over-work}
+use Rattle.memory.specs.Laws.Fields.{number-over-head, height-over-head, costs-over-head, costs-over-rows, number-over-flags, height-over-flags, costs-over-flags, number-over-costs, height-over-costs, number-over-work, height-over-work, costs-over-work}
 use Rattle.memory.specs.Laws.Stored.{setHeight-rows, setCosts-costs, number-setHeight, height-setHeight, height-setHeight-other, costs-setCosts-other}
 
 -- ---- place by place
@@ -99,12 +99,12 @@ module _ (c d n : ℕ) {m m' : List ℕ} where
   pub line-over-head : DifferWithin 0 16 m m' → lineFrom c d n m' ≡ lineFrom c d n m
   line-over-head f = line-ext c d m m' n (λ i h. number-over-head c f i) (λ i h. height-over-head c f i) (λ i h. costs-over-head c f d _)
 
-  pub line-over-marks : MarksOnly c m m' → n ≤ c → lineFrom c d n m' ≡ lineFrom c d n m
-  line-over-marks f few =
+  pub line-over-flags : FlagsOnly c m m' → n ≤ c → lineFrom c d n m' ≡ lineFrom c d n m
+  line-over-flags f few =
       line-ext c d m m' n
-      (λ i h. number-over-marks c f i (omega arith))
-      (λ i h. height-over-marks c f i (omega arith))
-      (λ i h. costs-over-marks c f d _)
+      (λ i h. number-over-flags c f i (omega arith))
+      (λ i h. height-over-flags c f i (omega arith))
+      (λ i h. costs-over-flags c f d _)
 
   pub line-over-work : WorkOnly c m m' → n ≤ c → d ≤ rowCosts → Numbers c n m → lineFrom c d n m' ≡ lineFrom c d n m
   line-over-work f few l numbers =

@@ -1,5 +1,5 @@
 -- The frame of each store, and what is read after it.
-use Prim.Native.Nat.{ℕ, zero, suc, _+_, _*_, _≤_, _<_}
+use Prim.Native.Nat.{ℕ, zero, suc, _+_, _≤_, _<_}
 use mathlib.Core.Bool.{Bool, true, false, cond}
 use mathlib.Core.List.{List, [], _∷_}
 use mathlib.Core.Logic.{_⊎_, inl, inr, ⊎-map, _≢_}
@@ -13,12 +13,12 @@ use lib.Seq.{getD-set-same, getD-take, length-take-le}
 use Rattle.zorder.specs.Address.{rowCosts, padded}
 use Rattle.zorder.specs.Between.{RowCosts}
 use Rattle.zorder.specs.Laws.Between.{row-padded}
-use Rattle.promises.specs.Layout.{setWord, formatNumber, numberPlace, heightPlace, markPlace, costPlace, workPlace, sizeIn, dimensionIn, formatIn, countIn, numberIn, heightIn, markIn, costIn, workIn, costsIn}
+use Rattle.promises.specs.Layout.{setWord, formatNumber, numberPlace, heightPlace, flagPlace, costPlace, workPlace, sizeIn, dimensionIn, formatIn, countIn, numberIn, heightIn, flagIn, costIn, workIn, costsIn}
 use Rattle.memory.specs.Room.{Room}
 use Rattle.memory.specs.Stores.{setHead, setCount, setNumber, setHeight, setListed, setCostsFrom, setCosts, setWork}
-use Rattle.memory.specs.Frame.{DifferWithin, RowsOnly, MarksOnly, CostsOnly, WorkOnly}
+use Rattle.memory.specs.Frame.{DifferWithin, RowsOnly, FlagsOnly, CostsOnly, WorkOnly}
 use Rattle.memory.specs.Laws.Frames.{frame-refl, frame-trans, frame-widen, byte-frame, word-frame, byte-across, word-across, word-stored, word-length}
-use Rattle.memory.specs.Laws.Fields.{number-over, height-over, mark-over, costs-over, work-over}
+use Rattle.memory.specs.Laws.Fields.{number-over, height-over, flag-over, costs-over, work-over}
 use Rattle.promises.specs.Laws.Tab.{tab-of}
 
 apart : {i j : ℕ} → j ≢ i → (j < i) ⊎ (i < j)
@@ -45,30 +45,30 @@ setHead-frame c d n m =
     (frame-trans (frame-widen (omega arith) (omega arith) (byte-frame 3 formatNumber m₂)) (frame-widen (omega arith) (omega arith) (word-frame 4 n m₃))))
 
 module _ (c i : ℕ) (m : List ℕ) where
-  pub setNumber-frame : (v : ℕ) → DifferWithin (16 + 2 * i) (18 + 2 * i) m (setNumber c i v m)
-  unfolding setNumber numberPlace
-  setNumber-frame v = frame-widen (omega arith) (omega arith) (word-frame (16 + 2 * i) v m)
+  pub setNumber-frame : (v : ℕ) → DifferWithin (numberPlace i) (numberPlace i + 2) m (setNumber c i v m)
+  unfolding setNumber
+  setNumber-frame v = word-frame (numberPlace i) v m
 
-  pub setHeight-frame : (h : ℕ) → DifferWithin (16 + 2 * c + i) (17 + 2 * c + i) m (setHeight c i h m)
-  unfolding setHeight heightPlace
-  setHeight-frame h = frame-widen (omega arith) (omega arith) (byte-frame (16 + 2 * c + i) h m)
+  pub setHeight-frame : (h : ℕ) → DifferWithin (heightPlace c i) (heightPlace c i + 1) m (setHeight c i h m)
+  unfolding setHeight
+  setHeight-frame h = byte-frame (heightPlace c i) h m
 
-  pub setListed-frame : (b : Bool) → DifferWithin (16 + 3 * c + i) (17 + 3 * c + i) m (setListed c i b m)
-  unfolding setListed markPlace
-  setListed-frame b = frame-widen (omega arith) (omega arith) (byte-frame (16 + 3 * c + i) (cond b 1 0) m)
+  pub setListed-frame : (b : Bool) → DifferWithin (flagPlace c i) (flagPlace c i + 1) m (setListed c i b m)
+  unfolding setListed
+  setListed-frame b = byte-frame (flagPlace c i) (cond b 1 0) m
 
-  pub setWork-frame : (v : ℕ) → DifferWithin (16 + 21 * c + 2 * i) (18 + 21 * c + 2 * i) m (setWork c i v m)
-  unfolding setWork workPlace
-  setWork-frame v = frame-widen (omega arith) (omega arith) (word-frame (16 + 21 * c + 2 * i) v m)
+  pub setWork-frame : (v : ℕ) → DifferWithin (workPlace c i) (workPlace c i + 2) m (setWork c i v m)
+  unfolding setWork
+  setWork-frame v = word-frame (workPlace c i) v m
 
-setCostsFrom-frame : (c n j : ℕ) (vs m : List ℕ) → DifferWithin (16 + 5 * c + 16 * n + 2 * j) (16 + 5 * c + 16 * n + 2 * (j + length vs)) m (setCostsFrom c n j vs m)
-unfolding setCostsFrom costPlace
+setCostsFrom-frame : (c n j : ℕ) (vs m : List ℕ) → DifferWithin (costPlace c n j) (costPlace c n (j + length vs)) m (setCostsFrom c n j vs m)
+unfolding setCostsFrom
 setCostsFrom-frame c n j [] m = frame-refl m
 setCostsFrom-frame c n j (v ∷ vs) m =
     frame-trans (frame-widen (omega arith) (omega arith) (word-frame (costPlace c n j) v m))
     (frame-widen (omega arith) (omega arith) (setCostsFrom-frame c n (suc j) vs (setWord (costPlace c n j) v m)))
 
-pub setCosts-frame : (c n : ℕ) (costs m : List ℕ) → DifferWithin (16 + 5 * c + 16 * n) (16 + 5 * c + 16 * n + 2 * length costs) m (setCosts c n costs m)
+pub setCosts-frame : (c n : ℕ) (costs m : List ℕ) → DifferWithin (costPlace c n 0) (costPlace c n (length costs)) m (setCosts c n costs m)
 unfolding setCosts
 setCosts-frame c n costs m = frame-widen (omega arith) (omega arith) (setCostsFrom-frame c n 0 costs m)
 
@@ -80,8 +80,8 @@ module _ (c i : ℕ) (m : List ℕ) (h : i < c) where
   pub setHeight-rows : (k : ℕ) → RowsOnly c m (setHeight c i k m)
   setHeight-rows k = frame-widen (omega arith) (omega arith) (setHeight-frame c i m k)
 
-  pub setListed-marks : (b : Bool) → MarksOnly c m (setListed c i b m)
-  setListed-marks b = frame-widen (omega arith) (omega arith) (setListed-frame c i m b)
+  pub setListed-flags : (b : Bool) → FlagsOnly c m (setListed c i b m)
+  setListed-flags b = frame-widen (omega arith) (omega arith) (setListed-frame c i m b)
 
   pub setCosts-costs : (costs : List ℕ) → length costs ≤ rowCosts → CostsOnly c m (setCosts c i costs m)
   setCosts-costs costs few = frame-widen (omega arith) (omega arith) (setCosts-frame c i costs m)
@@ -151,28 +151,28 @@ module _ (n : ℕ) (m : List ℕ) where
   unfolding formatIn
   format-setCount = byte-across (setCount-frame n m) 3 (inl (omega arith))
 
--- ---- rows, marks and work by index
+-- ---- rows, flags and work by index
 
 module _ (c i : ℕ) (m : List ℕ) where
   module _ (room : Room c m) (h : i < c) where
     pub number-setNumber : (v : ℕ) → numberIn c (setNumber c i v m) i ≡ v
-    unfolding numberIn setNumber numberPlace
-    number-setNumber v = word-stored (16 + 2 * i) v m (omega arith)
+    unfolding numberIn setNumber
+    number-setNumber v = word-stored (numberPlace i) v m (omega arith)
 
     pub height-setHeight : (k : ℕ) → heightIn c (setHeight c i k m) i ≡ k
-    unfolding heightIn setHeight heightPlace
-    height-setHeight k = getD-set-same m (16 + 2 * c + i) k 0 (omega arith)
+    unfolding heightIn setHeight
+    height-setHeight k = getD-set-same m (heightPlace c i) k 0 (omega arith)
 
-    pub mark-setListed : (b : Bool) → markIn c (setListed c i b m) i ≡ cond b 1 0
-    unfolding markIn setListed markPlace
-    mark-setListed b = getD-set-same m (16 + 3 * c + i) (cond b 1 0) 0 (omega arith)
+    pub flag-setListed : (b : Bool) → flagIn c (setListed c i b m) i ≡ cond b 1 0
+    unfolding flagIn setListed
+    flag-setListed b = getD-set-same m (flagPlace c i) (cond b 1 0) 0 (omega arith)
 
     pub work-setWork : (v : ℕ) → workIn c (setWork c i v m) i ≡ v
-    unfolding workIn setWork workPlace
-    work-setWork v = word-stored (16 + 21 * c + 2 * i) v m (omega arith)
+    unfolding workIn setWork
+    work-setWork v = word-stored (workPlace c i) v m (omega arith)
 
-    pub listed-setListed : (b : Bool) → eqb (markIn c (setListed c i b m) i) 1 ≡ b
-    listed-setListed b = ap (λ (n : ℕ). eqb n 1) (mark-setListed b) ∙ one-or-zero b
+    pub listed-setListed : (b : Bool) → eqb (flagIn c (setListed c i b m) i) 1 ≡ b
+    listed-setListed b = ap (λ (n : ℕ). eqb n 1) (flag-setListed b) ∙ one-or-zero b
       where
         one-or-zero : (b : Bool) → eqb (cond b 1 0) 1 ≡ b
         one-or-zero true = refl
@@ -185,8 +185,8 @@ module _ (c i : ℕ) (m : List ℕ) where
     pub height-setHeight-other : (k : ℕ) → heightIn c (setHeight c i k m) j ≡ heightIn c m j
     height-setHeight-other k = height-over (setHeight-frame c i m k) c j (⊎-map (λ l. omega arith) (λ l. omega arith) (apart ne))
 
-    pub mark-setListed-other : (b : Bool) → markIn c (setListed c i b m) j ≡ markIn c m j
-    mark-setListed-other b = mark-over (setListed-frame c i m b) c j (⊎-map (λ l. omega arith) (λ l. omega arith) (apart ne))
+    pub flag-setListed-other : (b : Bool) → flagIn c (setListed c i b m) j ≡ flagIn c m j
+    flag-setListed-other b = flag-over (setListed-frame c i m b) c j (⊎-map (λ l. omega arith) (λ l. omega arith) (apart ne))
 
     pub work-setWork-other : (v : ℕ) → workIn c (setWork c i v m) j ≡ workIn c m j
     work-setWork-other v = work-over (setWork-frame c i m v) c j (⊎-map (λ l. omega arith) (λ l. omega arith) (apart ne))
@@ -202,8 +202,8 @@ module _ (c i : ℕ) (m : List ℕ) where
 
 -- ---- costs
 
-cost-setCostsFrom : (c n j : ℕ) (vs m : List ℕ) (i : ℕ) → 16 + 5 * c + 16 * n + 2 * (j + length vs) ≤ length m → i < length vs → costIn c (setCostsFrom c n j vs m) n (j + i) ≡ getD vs i 0
-unfolding setCostsFrom costIn costPlace
+cost-setCostsFrom : (c n j : ℕ) (vs m : List ℕ) (i : ℕ) → costPlace c n (j + length vs) ≤ length m → i < length vs → costIn c (setCostsFrom c n j vs m) n (j + i) ≡ getD vs i 0
+unfolding setCostsFrom costIn
 cost-setCostsFrom c n j [] m i room h = absurd (omega arith)
 cost-setCostsFrom c n j (v ∷ vs) m zero room h =
     let m₁ : List ℕ = setWord (costPlace c n j) v m in

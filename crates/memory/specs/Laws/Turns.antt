@@ -11,7 +11,7 @@ use Rattle.model.specs.Calls.{blockBad}
 use Rattle.model.specs.Laws.Bool.{and-left, and-right, and-both, and-false-right}
 use Rattle.promises.specs.Layout.{numberIn, blockIn, moveIn}
 use Rattle.memory.specs.Room.{Numbers}
-use Rattle.memory.specs.Tests.{allTo, numberRight, numbersRight, orderRight, isMarked, isListed, hiddenBefore, marksRight}
+use Rattle.memory.specs.Tests.{allTo, numberRight, numbersRight, orderRight, isFlaged, isListed, hiddenBefore, flagsRight}
 use Rattle.memory.specs.Laws.Places.{allTo-at, allTo-all, allTo-more, allTo-next, allTo-fails}
 
 beq-not : (a b : Bool) → Bool·beq a (not b) ≡ not (Bool·beq a b)
@@ -23,9 +23,9 @@ beq-not false false = refl
 -- ---- numbers
 
 module _ (c : ℕ) (m : List ℕ) where
-  pub listed-at : (i n : ℕ) → n ≡ numberIn c m i → isListed c m i ≡ isMarked c m n
+  pub listed-at : (i n : ℕ) → n ≡ numberIn c m i → isListed c m i ≡ isFlaged c m n
   unfolding isListed
-  listed-at i n e = ap (isMarked c m) (sym e)
+  listed-at i n e = ap (isFlaged c m) (sym e)
 
   abbrev block : ℕ → ℕ
   block i = blockIn c m (numberIn c m i)
@@ -90,17 +90,17 @@ module _ (c d : ℕ) (m : List ℕ) where
   unfolding orderRight
   order-end n i e = ap (allTo (λ j. moveBefore d (moveIn c d m j) (moveIn c d m (suc j)))) e
 
-  -- ---- marks
+  -- ---- flags
 
-  markRight : ℕ → Bool
-  markRight i = Bool·beq (isListed c m i) (not (hiddenBefore c d m i (moveIn c d m i)))
+  flagRight : ℕ → Bool
+  flagRight i = Bool·beq (isListed c m i) (not (hiddenBefore c d m i (moveIn c d m i)))
 
-  pub marks-none : marksRight c d 0 m ≡ true
-  unfolding marksRight allTo
-  marks-none = refl
+  pub flags-none : flagsRight c d 0 m ≡ true
+  unfolding flagsRight allTo
+  flags-none = refl
 
-  pub marks-more : (i : ℕ) → marksRight c d i m ≡ true → (listed hidden : Bool) → isListed c m i ≡ listed → hiddenBefore c d m i (moveIn c d m i) ≡ hidden
-      → Bool·beq listed hidden ≡ false → marksRight c d (i + 1) m ≡ true
-  unfolding marksRight markRight
-  marks-more i h listed hidden e f g =
-      allTo-more markRight i h (ap₂ (λ (a b : Bool). Bool·beq a (not b)) e f ∙ beq-not listed hidden ∙ ap not g)
+  pub flags-more : (i : ℕ) → flagsRight c d i m ≡ true → (listed hidden : Bool) → isListed c m i ≡ listed → hiddenBefore c d m i (moveIn c d m i) ≡ hidden
+      → Bool·beq listed hidden ≡ false → flagsRight c d (i + 1) m ≡ true
+  unfolding flagsRight flagRight
+  flags-more i h listed hidden e f g =
+      allTo-more flagRight i h (ap₂ (λ (a b : Bool). Bool·beq a (not b)) e f ∙ beq-not listed hidden ∙ ap not g)

@@ -8,12 +8,12 @@ use native.Mathlib.Decide.{decLt}
 use native.Mathlib.Omega.{arith}
 use lib.ListN.{length, getD, set}
 use Rattle.model.specs.Laws.Bool.{both-ways, or-left, or-right, or-false-left, or-false-right}
-use Rattle.promises.specs.Layout.{wordAt, setWord, blockPlace, formatNumber, sizeIn, dimensionIn, formatIn, blockIn}
-use Rattle.promises.specs.Written.{inArea, movesWrite, loadWrites}
+use Rattle.promises.specs.Layout.{wordAt, setWord, blockPlace, costPlace, formatNumber, sizeIn, dimensionIn, formatIn, blockIn}
+use Rattle.promises.specs.Written.{inArea, movesWrite, loadWrites, Only}
 use Rattle.promises.specs.Laws.Written.{in-area, writes-count, writes-rows, writes-costs, leaves-head, leaves-blocks}
 use Rattle.memory.specs.Room.{Room}
 use Rattle.memory.specs.Stores.{setHead, setCount}
-use Rattle.memory.specs.Frame.{DifferWithin, Only, MovesOnly, RowsOnly, MarksOnly, BlocksOnly, CostsOnly, WorkOnly}
+use Rattle.memory.specs.Frame.{DifferWithin, MovesOnly, RowsOnly, FlagsOnly, BlocksOnly, CostsOnly, WorkOnly}
 use Rattle.memory.specs.Laws.Frames.{byte-frame, word-frame}
 
 -- ---- frames over a test
@@ -42,8 +42,8 @@ module _ (c : ℕ) {m m' : List ℕ} where
   pub rows-written : RowsOnly c m m' → MovesOnly c m m'
   rows-written = range-only (movesWrite c) (λ i l u. writes-rows c i l (omega arith))
 
-  pub marks-written : MarksOnly c m m' → MovesOnly c m m'
-  marks-written = range-only (movesWrite c) (λ i l u. writes-rows c i (omega arith) u)
+  pub flags-written : FlagsOnly c m m' → MovesOnly c m m'
+  flags-written = range-only (movesWrite c) (λ i l u. writes-rows c i (omega arith) u)
 
   pub costs-written : CostsOnly c m m' → MovesOnly c m m'
   costs-written = range-only (movesWrite c) (λ i l u. writes-costs c i l (omega arith))
@@ -71,8 +71,8 @@ module _ (c : ℕ) {m m' : List ℕ} (f : MovesOnly c m m') where
 
   -- Blocks stay.
   pub block-left : (n : ℕ) → n < c → blockIn c m' n ≡ blockIn c m n
-  unfolding blockIn blockPlace
-  block-left n h = f .same (16 + 4 * c + n) (leaves-blocks c (16 + 4 * c + n) (omega arith) (omega arith))
+  unfolding blockIn
+  block-left n h = f .same (blockPlace c n) (leaves-blocks c (blockPlace c n) (omega arith) (omega arith))
 
 -- ---- what a load writes
 
@@ -93,9 +93,9 @@ module _ (c : ℕ) where
   unfolding loadWrites
   writes-head i u = or-left (inArea 0 4 i || movesWrite c i) (blocks i) (or-left (inArea 0 4 i) (movesWrite c i) (in-area 0 4 i (omega arith) u))
 
-  writes-blocks : (i : ℕ) → 16 + 4 * c ≤ i → i < 16 + 5 * c → loadWrites c i ≡ true
-  unfolding loadWrites blockPlace
-  writes-blocks i l u = or-right (inArea 0 4 i || movesWrite c i) (blocks i) (in-area (blockPlace c 0) (blockPlace c c) i (omega arith) (omega arith))
+  writes-blocks : (i : ℕ) → blockPlace c 0 ≤ i → i < costPlace c 0 0 → loadWrites c i ≡ true
+  unfolding loadWrites
+  writes-blocks i l u = or-right (inArea 0 4 i || movesWrite c i) (blocks i) (in-area (blockPlace c 0) (blockPlace c c) i l (omega arith))
 
   pub blocks-load : {m m' : List ℕ} → BlocksOnly c m m' → Only (loadWrites c) m m'
   blocks-load = range-only (loadWrites c) writes-blocks

@@ -7,9 +7,9 @@ use mathlib.Core.Path.{_≡_, refl, sym, ap, ap₂, _∙_, subst}
 use native.Mathlib.Nat.{zero-lt-suc, not-suc-le-zero, le-of-suc-le-suc}
 use native.Mathlib.Omega.{arith}
 use lib.Dec.{eqb}
-use lib.ListN.{length, getD, set, take, length-append, length-map}
+use lib.ListN.{length, getD, set, take, drop, length-append, length-map}
 use borrow.Author.Tests.{eqb-true, eq-eqb}
-use Rattle.model.specs.Basics.{Each, consIf, select, any, all, count, lastOr, equal}
+use Rattle.model.specs.Basics.{Each, consIf, select, any, all, count, parts, lastOr, equal}
 use Rattle.model.specs.Laws.Bool.{and-left, and-right, and-both, or-cases, or-left, or-right, or-false-left, or-false-right, or-false-both, same-test, both-ways}
 
 module _ {A : Type 0} where
@@ -322,3 +322,20 @@ equal-true (p ∷ ps) (q ∷ qs) h =
 pub at-most-one : (b : Bool) → cond b 1 0 ≤ 1
 at-most-one true = omega arith
 at-most-one false = omega arith
+
+-- ---- lists mapped
+
+pub map-drop : {A B : Type 0} (f : A → B) (k : ℕ) (xs : List A) → map f (drop k xs) ≡ drop k (map f xs)
+map-drop f zero xs = refl
+map-drop f (suc k) [] = refl
+map-drop f (suc k) (x ∷ xs) = map-drop f k xs
+
+-- Every part of a list has entries of the list only.
+pub parts-each : {A : Type 0} (P : A → Type 0) (k : ℕ) (xs : List A) → Each P xs → Each (λ s. Each P s) (parts k xs)
+unfolding parts
+parts-each P zero xs es = (tt, tt)
+parts-each P (suc k) [] es = tt
+parts-each P (suc k) (x ∷ xs) es =
+    each-append (λ s. Each P s) (map (λ s. x ∷ s) (parts k xs)) (parts (suc k) xs)
+    (each-map (λ s. Each P s) (λ s. x ∷ s) (parts k xs) (each-mono (λ s. Each P s) (λ s. Each P (x ∷ s)) (parts k xs) (λ s h. (es .0, h)) (parts-each P k xs (es .1))))
+    (parts-each P (suc k) xs (es .1))

@@ -8,9 +8,9 @@ use native.Mathlib.Omega.{arith}
 use borrow.Author.Tests.{eq-eqb}
 use lib.Dec.{eqb}
 use lib.Pow.{pow-pos, pow-mono, field, mod-mod-pow, ones-lt, ones-split, high, low}
-use Rattle.model.specs.Basics.{select, numbersFrom}
+use Rattle.model.specs.Basics.{Each, select, numbersFrom}
 use Rattle.model.specs.Lists.{chosenCosts}
-use Rattle.model.specs.Laws.Basics.{select-append, select-ext, select-all, select-none}
+use Rattle.model.specs.Laws.Basics.{each-select, select-append, select-ext, select-all, select-none}
 use Rattle.model.specs.Laws.Range.{each-numbers, each-place, numbers-append}
 
 -- ---- bit i of a number
@@ -43,6 +43,11 @@ pub bit-past-first : (d i : ℕ) → d ≤ i → (2 ^ d - 1) / 2 ^ i % 2 ≡ 0
 bit-past-first d i h = ap (λ (n : ℕ). n / 2 ^ i % 2) (sym (mod-eq-of-lt (ones-lt d))) ∙ bit-past (2 ^ d - 1) d i h
 
 -- ---- the costs of a set
+
+-- They are among the first d.
+pub chosen-below : (d set : ℕ) → Each (λ i. i < d) (chosenCosts d set)
+unfolding chosenCosts
+chosen-below d set = each-select _ (λ i. i < d) (numbersFrom 0 d) (each-place (λ i. i < d) d (λ i l. l))
 
 pub chosen-within : (n d set : ℕ) → d ≤ n → chosenCosts n (set % 2 ^ d) ≡ chosenCosts d set
 unfolding chosenCosts

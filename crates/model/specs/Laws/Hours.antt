@@ -120,10 +120,6 @@ module _ (b : Board) (t : ℕ) (hours : List Hours) where
   abbrev pub shown : List Move
   shown = skyline (b .dimension) (openMoves t hours (b .blocks) (b .moves))
 
-  pub shown-rows : queryRows b (hoursQuery t hours) ≡ listedRows shown
-  unfolding queryRows
-  shown-rows = refl
-
   -- A move shown is on the board, in an open block, and no move in an open block hides it.
   pub hours-shown : {m : Move} → List·Memᴰ m shown
       → List·Memᴰ m (b .moves) × (inOpen m ≡ true) × ((p : Move) → List·Memᴰ p (b .moves) → inOpen p ≡ true → hides (b .dimension) p m ≡ false)

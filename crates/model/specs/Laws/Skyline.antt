@@ -25,11 +25,6 @@ module _ {A : Type 0} (hides : A → A → Bool) where
   abbrev pub unhidden : List A → List A
   unhidden ms = select (λ m. not (hiddenIn ms m)) ms
 
-  -- A pass from the front, which keeps what nothing kept so far hides.
-  unfoldable pub front : List A → List A → List A
-  front found [] = found
-  front found (m ∷ ms) = front (cond (hiddenIn found m) found (found ++ m ∷ [])) ms
-
 -- An entry of a list that hides m, and stands before it.
 pub record HiderIn {A : Type 0} (lt hides : A → A → Bool) (list : List A) (m : A) : Type 0 where
   pub hider : A
@@ -160,30 +155,6 @@ module _ {A : Type 0} {P : A → Type 0} {lt hides : A → A → Bool} (o : Stri
       earlier-enough xs m ys es r
       ∙ listed-enough xs (each-left P xs (m ∷ ys) es) (rising-left lt xs (m ∷ ys) r) m (each-right P xs (m ∷ ys) es .0)
 
-  -- ---- a pass from the front finds the list
-
-  unhidden-snoc : (xs : List A) (m : A) → Each P (xs ++ m ∷ []) → rising lt (xs ++ m ∷ []) ≡ true
-      → unhidden hides (xs ++ m ∷ []) ≡ cond (hiddenIn hides (unhidden hides xs) m) (unhidden hides xs) (unhidden hides xs ++ m ∷ [])
-  unfolding select
-  unhidden-snoc xs m es r =
-      unhidden-append xs (m ∷ []) es r
-      ∙ ap (λ (b : Bool). unhidden hides xs ++ consIf (not b) m []) (earlier-listed-enough xs m [] es r)
-      ∙ append-unless (hiddenIn hides (unhidden hides xs) m) (unhidden hides xs) m
-
-  front-append : (xs ys : List A) → Each P (xs ++ ys) → rising lt (xs ++ ys) ≡ true → front hides (unhidden hides xs) ys ≡ unhidden hides (xs ++ ys)
-  unfolding front
-  front-append xs [] es r = ap (unhidden hides) (sym (append-nil xs))
-  front-append xs (m ∷ ys) es r =
-      let fs = subst (Each P) (sym (append-snoc xs m ys)) es in
-      let s = subst (λ (l : List A). rising lt l ≡ true) (sym (append-snoc xs m ys)) r in
-      ap (λ (l : List A). front hides l ys) (sym (unhidden-snoc xs m (each-left P (xs ++ m ∷ []) ys fs) (rising-left lt (xs ++ m ∷ []) ys s)))
-      ∙ front-append (xs ++ m ∷ []) ys fs s
-      ∙ ap (unhidden hides) (append-snoc xs m ys)
-
-  pub front-unhidden : (ms : List A) → Each P ms → rising lt ms ≡ true → front hides [] ms ≡ unhidden hides ms
-  unfolding select
-  front-unhidden ms es r = front-append [] ms es r
-
   -- ---- an entry more
 
   pub insert-hidden-self : (x : A) (ms : List A) → P x → hiddenIn hides (insertBy lt x ms) x ≡ hiddenIn hides ms x
@@ -219,19 +190,11 @@ module _ (d c : ℕ) (l : d ≤ rowCosts) where
     unfolding skyline hidden ordered
     skyline-enough = listed-enough (move-order d c l) (move-hiding d c l) ms es r
 
-    pub skyline-front : front (hides d) [] ms ≡ skyline d ms
-    unfolding skyline hidden ordered
-    skyline-front = front-unhidden (move-order d c l) (move-hiding d c l) ms es r
-
     pub skyline-ordered : ordered d (skyline d ms) ≡ true
     unfolding skyline hidden ordered
     skyline-ordered = unhidden-rising (move-order d c l) (move-hiding d c l) ms es r
 
   module _ (xs : List Move) (m : Move) (ys : List Move) (es : Each (Fit c d) (xs ++ m ∷ ys)) (r : ordered d (xs ++ m ∷ ys) ≡ true) where
-    pub skyline-earlier : hidden d (xs ++ m ∷ ys) m ≡ hidden d xs m
-    unfolding hidden ordered
-    skyline-earlier = earlier-enough (move-order d c l) (move-hiding d c l) xs m ys es r
-
     pub skyline-earlier-listed : hidden d (xs ++ m ∷ ys) m ≡ hidden d (skyline d xs) m
     unfolding skyline hidden ordered
     skyline-earlier-listed = earlier-listed-enough (move-order d c l) (move-hiding d c l) xs m ys es r

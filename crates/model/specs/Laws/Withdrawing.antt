@@ -2,9 +2,7 @@
 use Prim.Native.Nat.{ℕ, zero, suc, _≤_}
 use mathlib.Core.Bool.{Bool, true, false, not}
 use mathlib.Core.Path.{_≡_, refl, sym, ap, _∙_, subst, subst₂}
-use mathlib.Core.List.{List, [], _∷_, _++_, flatMap, append-nil, List·Memᴰ}
-use mathlib.Core.List.{List·Permᴰ, List·Permᴰ·nil, List·Permᴰ·trans, Permᴰ·symm, Permᴰ·middle, Permᴰ·append-nil, Permᴰ·append-right}
-use mathlib.Core.List.{Sublistᴰ, Sublistᴰ·slnil, Sublistᴰ·nil-sublist, Sublistᴰ·append}
+use mathlib.Core.List.{List, [], _∷_, _++_, flatMap, append-nil, List·Memᴰ, List·Permᴰ, List·Permᴰ·nil, List·Permᴰ·trans, Permᴰ·symm, Permᴰ·middle, Permᴰ·append-nil, Permᴰ·append-right, Sublistᴰ, Sublistᴰ·slnil, Sublistᴰ·nil-sublist, Sublistᴰ·append}
 use borrow.Author.Tests.{ltb-false, eq-eqb}
 use native.Mathlib.Omega.{arith}
 use lib.Dec.{ltb, eqb}

@@ -16,7 +16,7 @@ use Rattle.model.specs.Laws.Bool.{byCases, and-both, and-false-right, or-left, 
 use Rattle.model.specs.Laws.Dominance.{dominates-below, row-lengths}
 use Rattle.model.specs.Laws.Hiding.{dominates-hides, move-hiding}
 use Rattle.dominance.specs.Laws.Sums.{nowhere-somewhere}
-use Rattle.dominance.specs.Lanes.{Lanes, limit, isFirst}
+use Rattle.dominance.specs.Lanes.{Lanes, bound, isFirst}
 use Rattle.promises.specs.Layout.{numberIn, costsIn, moveIn}
 use Rattle.promises.specs.Run.{Bytes}
 use Rattle.memory.specs.Room.{Ordered}
@@ -31,7 +31,7 @@ use Rattle.nodes.specs.Search.{dominatesCorner, cornerDominated, goesWit
 
 -- ---- the search
 
--- What is asked of a move besides its mark, in another order.
+-- What is asked of a move besides its flag, in another order.
 turned : (a b c d : Bool) → (a && (b && (c && d))) ≡ (a && c && (b && d))
 turned false b c d = refl
 turned true true c d = refl
@@ -54,7 +54,7 @@ module _ (c d goes i : ℕ) (m corner q : List ℕ) where
   unfolding cornerDominated
   sought-none j s l = none-any by i (λ k a g. s .passed k a (omega arith))
 
-  module _ (few : d ≤ rowCosts) (b : Bytes m) (wide : length corner ≡ rowCosts) (h : Lanes (limit (isFirst d) corner) q) where
+  module _ (few : d ≤ rowCosts) (b : Bytes m) (wide : length corner ≡ rowCosts) (h : Lanes (bound (isFirst d) corner) q) where
     fit-by : (j : ℕ) → by j ≡ (fits Listed c m q j && asked j)
     unfolding dominates better moveIn
     fit-by j =

@@ -121,7 +121,7 @@ module _ {c d n : ℕ} {m : List ℕ} (s : Searchable c d n m) where
   opens-down goes =
       corners-downward d c (s .readable .dimension) (goesWithin c d goes n m) (cornerDominated c d goes n m) (within-up goes) (dominated-up goes)
 
-  -- Where none goes: the marks are the list, and it is enough to hold a corner against the listed moves.
+  -- Where none goes: the flags are the list, and it is enough to hold a corner against the listed moves.
   listed-corner : (q : List ℕ) → RowCosts d q → cornerDominated c d n n m q ≡ any (λ x. dominates d (x .costs) q) (movesIn (lineFrom c d n m))
   unfolding cornerDominated
   listed-corner q k =

@@ -22,6 +22,7 @@ use Rattle.promises.specs.Layout.{sizeIn, dimensionIn, numberIn, costsIn, board
 use Rattle.promises.specs.Sound.{Stands, Sound}
 use Rattle.promises.specs.Answers.{answerOf, numberOf, counted, refusedBy, outcomeNumber}
 use Rattle.promises.specs.Run.{Bytes}
+use Rattle.promises.specs.Laws.Answers.{counted-zero}
 use Rattle.promises.specs.declared.Verdict.{Verdict}
 use Rattle.promises.specs.declared.Outcome.{Outcome}
 use Rattle.promises.specs.declared.Outcome.the-variants.{Unsound}
@@ -56,11 +57,6 @@ use Rattle.planning.specs.declared.plan.ChangePlan.{ChangePlan}
 nothing-told : {v : Verdict} {m : List ℕ} {t : Telling} → t .count ≡ 0 → Tells v [] m t
 nothing-told e =
     record { rows = λ l. absurd (omega (arith, e)); count = λ _. e; none = λ _. e; asked = λ l. absurd (omega (arith, e)) }
-
-counted-zero : (k n : ℕ) → n ≡ 0 → counted k n ≡ 0
-unfolding counted
-counted-zero zero n e = e
-counted-zero (suc k) n e = refl
 
 -- The rows of two parts are no more than all.
 counted-parts : (k a n lent : ℕ) → a ≤ n → counted k n ≤ lent → counted k a + counted k (n - a) ≤ lent

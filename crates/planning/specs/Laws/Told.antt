@@ -35,7 +35,7 @@ use Rattle.memory.specs.Laws.Held.{held-dimension, held-order, held-listed, hel
 use Rattle.upkeep.specs.Change.{dropAt, movesAfter, stays, placesIn, AskedRows, UpkeptRows}
 use Rattle.rows.specs.Rows.{moveNumbers}
 use Rattle.rows.specs.Telling.{tellsPlace, rowsAt, comingRows, toldRows}
-use Rattle.rows.specs.declared.telling.Told.{Told}
+use Rattle.rows.specs.declared.telling.View.{View}
 use Rattle.upkeep.specs.Laws.Places.{place-below, below-place}
 use Rattle.upkeep.specs.Laws.Change.{line-places, rest-places}
 use Rattle.upkeep.specs.Laws.Place.{place-low, place-high}
@@ -107,7 +107,7 @@ module _ (c d n : ℕ) (k : Exchange) (m : List ℕ) (s : SoundRows c d n m) (b 
   unfolding movesAfter insert
   places =
       record {
-        marks = λ i h. held-listed c d n m s i (place-below n h) ∙ ap (λ (ms : List Move). not (hidden d ms (moveIn c d m i))) (line-places c d n m);
+        flags = λ i h. held-listed c d n m s i (place-below n h) ∙ ap (λ (ms : List Move). not (hidden d ms (moveIn c d m i))) (line-places c d n m);
         there = λ i h e. testCases (λ (t : Bool). List·Memᴰ (moveIn c d m i) (cond t (insertBy (moveBefore d) x rest) rest)) (k .comes)
             (λ _. mem-insert-old (moveBefore d) x (in-rest i h e)) (λ _. in-rest i h e);
         away = λ i h e. testCases (λ (t : Bool). k .comes ≡ t → ¬ List·Memᴰ (moveIn c d m i) (cond t (insertBy (moveBefore d) x rest) rest)) (k .comes)
@@ -281,7 +281,7 @@ module _ (c d n : ℕ) (k : Exchange) (m : List ℕ) (s : SoundRows c d n m) (b 
 
       -- ---- who enters
 
-      abbrev entering : Told
+      abbrev entering : View
       entering = enteringBy head (record { told = u .listed; place = p; entrant = k .coming })
 
       part-entered : (i : ℕ) → i < n → tellsPlace entering (u .changed) m i ≡ enters i

@@ -15,9 +15,9 @@ use Rattle.promises.specs.Answers.{answerOf, numberOf}
 use Rattle.promises.specs.Promise.{ChangeSaid}
 use Rattle.promises.specs.Run.{Bytes}
 use Rattle.promises.specs.Laws.Stands.{sound-board}
-use Rattle.promises.specs.declared.Answer.{Answer}
+use Rattle.promises.specs.declared.CallResult.{CallResult}
 
-module _ {m : List ℕ} {lent lent' : List Row} {r : Answer} (s : Sound m) where
+module _ {m : List ℕ} {lent lent' : List Row} {r : CallResult} (s : Sound m) where
   change-number : (x : Change) → ChangeSaid x m lent r lent' → numberOf (r .verdict) ≡ changeAnswer (boardIn m) x (length lent) .number
   change-number x p = ap (λ (a : calls.Answer). a .number) (p .sound s .answers)
 

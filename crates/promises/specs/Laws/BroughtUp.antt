@@ -20,14 +20,14 @@ use Rattle.promises.specs.Promise.{ChangeSaid}
 use Rattle.promises.specs.Run.{Bytes}
 use Rattle.promises.specs.Laws.Stands.{stands-moves, sound-board}
 use Rattle.promises.specs.Laws.Demand3.{said-rows}
-use Rattle.promises.specs.declared.Answer.{Answer}
+use Rattle.promises.specs.declared.CallResult.{CallResult}
 
 -- A refused call tells no row.
 told-accepted : {r : Row} (accepted : Bool) (rows : List Row) → List·Memᴰ r (cond accepted rows []) → List·Memᴰ r rows
 told-accepted true rows k = k
 told-accepted false rows k = absurd (List·Memᴰ·not-nil k)
 
-pub told-under-counted : (n : ℕ) {m : List ℕ} {lent lent' : List Row} {r : Answer} → ChangeSaid (withdraw n) m lent r lent'
+pub told-under-counted : (n : ℕ) {m : List ℕ} {lent lent' : List Row} {r : CallResult} → ChangeSaid (withdraw n) m lent r lent'
     → (s : Sound m) → Bytes m → {q : Move} → List·Memᴰ (rowOf entered q) (take (r .count) lent')
     → {z : Node} → List·Memᴰ z (nodesOf (s .tree)) → List·Memᴰ q (z .under)
     → (onBoard n (skyline (dimensionIn m) (movesOf (s .tree))) ≡ true) × (opensFor (dimensionIn m) (skyline (dimensionIn m) (movesOf (s .tree))) n z ≡ true)

@@ -27,7 +27,7 @@ use Rattle.promises.specs.Promise.{MemoryAfter, LoadPromise, Said, Query
 use Rattle.promises.specs.Run.{Bytes, Step, changes, previews, lists, loadRefused, leaves, Steps, done, then, eventOf, eventsOf, History, end, call, load, runOf, EachRun}
 use Rattle.promises.specs.Laws.Stands.{holding-sound, holding-board}
 use Rattle.promises.specs.declared.Verdict.{Verdict}
-use Rattle.promises.specs.declared.Answer.{Answer}
+use Rattle.promises.specs.declared.CallResult.{CallResult}
 
 -- ---- what a call says
 
@@ -37,7 +37,7 @@ unfolding counted rowsAfter
 told-rows zero rows lent = take-append-seam rows (drop (length rows) lent)
 told-rows (suc k) rows lent = ap (λ (b : Bool). cond b rows []) (sym (eqb·suc-zero k))
 
-pub said-rows : (a : calls.Answer) (rows : List Row) (nodes : ℕ) (lent : List Row) (r : Answer) (lent' : List Row) → Said a rows nodes lent r lent'
+pub said-rows : (a : calls.Answer) (rows : List Row) (nodes : ℕ) (lent : List Row) (r : CallResult) (lent' : List Row) → Said a rows nodes lent r lent'
     → take (r .count) lent' ≡ cond (isAccepted (answerOf (r .verdict))) rows []
 unfolding isAccepted
 said-rows a rows nodes lent r lent' s =
@@ -71,7 +71,7 @@ module _ (writes : ℕ → Bool) (m m' : List ℕ) (b' : Board) (t : Tree) where
       (subst (λ (m : List ℕ). At m b) (sym (left-refused (suc n) (λ e. omega arith) l)) a)
 
 -- What is said of a change, made or previewed.
-module _ (x : Change) (m : List ℕ) (lent lent' : List Row) (r : Answer) (p : ChangeSaid x m lent r lent') (b : Board) (a : At m b) where
+module _ (x : Change) (m : List ℕ) (lent lent' : List Row) (r : CallResult) (p : ChangeSaid x m lent r lent') (b : Board) (a : At m b) where
   said-here : ChangeSaidOn x b (changeOpens (dimensionIn m) x (a .tree)) lent r lent'
   said-here =
       subst (λ (b : Board). ChangeSaidOn x b (changeOpens (dimensionIn m) x (a .tree)) lent r lent') (a .holding .board)
@@ -81,7 +81,7 @@ module _ (x : Change) (m : List ℕ) (lent lent' : List Row) (r : Answer) (p : C
   rows-here = said-rows _ _ _ _ _ _ said-here
 
 -- A call that answers so, tells the difference of the lists of this board and the next, and leaves the next if it is accepted.
-module _ (answer : calls.Answer) (nodes : ℕ) (writes : ℕ → Bool) (next : Board) (t : Tree) (m m' : List ℕ) (lent lent' : List Row) (r : Answer) (b : Board) (a : At m b)
+module _ (answer : calls.Answer) (nodes : ℕ) (writes : ℕ → Bool) (next : Board) (t : Tree) (m m' : List ℕ) (lent lent' : List Row) (r : CallResult) (b : Board) (a : At m b)
     (said : Said answer (noticeOf (listOf b) (listOf next)) nodes lent r lent') (left : MemoryAfter writes (numberOf (r .verdict)) m m' next t) where
   -- the answer is the plain board's, so what becomes of it is known
   plain-after : cond (isAccepted answer) next b ≡ cond (isAccepted (answerOf (r .verdict))) next b
@@ -101,7 +101,7 @@ module _ (answer : calls.Answer) (nodes : ℕ) (writes : ℕ → Bool) (next : B
       ∙ lists-held b next same (at-board a) (isAccepted (answerOf (r .verdict))) (at-board (subst (At m') plain-after (after-at k)))
       ∙ ap (λ (b : Board). listedRows (listOf b)) (sym plain-after)
 
-module _ (x : Change) (m m' : List ℕ) (lent lent' : List Row) (r : Answer) (p : ChangePromise x m lent r m' lent') (b : Board) (a : At m b) where
+module _ (x : Change) (m m' : List ℕ) (lent lent' : List Row) (r : CallResult) (p : ChangePromise x m lent r m' lent') (b : Board) (a : At m b) where
   change-left : MemoryAfter (changeWrites (sizeIn m) x) (numberOf (r .verdict)) m m' (changed b x) (changeTree (dimensionIn m) x (a .tree))
   change-left =
       subst (λ (b : Board). MemoryAfter (changeWrites (sizeIn m) x) (numberOf (r .verdict)) m m' (changed b x) (changeTree (dimensionIn m) x (a .tree))) (a .holding .board)
@@ -121,7 +121,7 @@ module _ (x : Change) (m m' : List ℕ) (lent lent' : List Row) (r : Answer) (p 
         held = after-held _ _ _ (changed b x) _ m m' lent lent' r b a said change-left (change-shape b x) k;
       }
 
-module _ (m : List ℕ) (lent lent' : List Row) (r : Answer) (p : QueryPromise list m lent r lent') (b : Board) (a : At m b) where
+module _ (m : List ℕ) (lent lent' : List Row) (r : CallResult) (p : QueryPromise list m lent r lent') (b : Board) (a : At m b) where
   list-said : QuerySaidOn list b (queryOpens (dimensionIn m) list (a .tree)) lent r lent'
   list-said =
       subst (λ (b : Board). QuerySaidOn list b (queryOpens (dimensionIn m) list (a .tree)) lent r lent') (a .holding .board)

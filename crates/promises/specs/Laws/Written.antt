@@ -16,13 +16,13 @@ use Rattle.model.specs.Calls as calls
 use Rattle.model.specs.Calls.{Board, memoryNeed, loaded, Change, enter, withdraw, recost, changed}
 use Rattle.model.specs.Laws.Bool.{and-right, and-both, and-false-right, or-false-both, or-left, or-right}
 use Rattle.model.specs.Laws.Changes.{changeNumber, change-number, accepted-passes}
-use Rattle.promises.specs.Layout.{countPlace, numberPlace, blockPlace, workPlace, sizeIn, dimensionIn, boardIn}
+use Rattle.promises.specs.Layout.{countPlace, numberPlace, blockPlace, costPlace, workPlace, sizeIn, dimensionIn, boardIn}
 use Rattle.promises.specs.Sound.{Sound}
 use Rattle.promises.specs.Written.{inArea, movesWrite, blockWrites, changeWrites, loadWrites}
-use Rattle.promises.specs.Promise.{Kept, MemoryAfter, LoadPromise, ChangePromise}
-use Rattle.promises.specs.Answers.{answerOf, numberOf}
+use Rattle.promises.specs.Promise.{Leaves, MemoryAfter, LoadPromise, ChangePromise}
+use Rattle.promises.specs.Answers.{numberOf}
 use Rattle.promises.specs.declared.Verdict.{Verdict}
-use Rattle.promises.specs.declared.Answer.{Answer}
+use Rattle.promises.specs.declared.CallResult.{CallResult}
 
 -- ---- areas
 
@@ -50,7 +50,7 @@ module _ (c i : ℕ) where
   counted = inArea countPlace (countPlace + 2) i
 
   abbrev fields : Bool
-  fields = inArea (numberPlace c 0) (workPlace c c) i
+  fields = inArea (numberPlace 0) (workPlace c c) i
 
   abbrev blocks : Bool
   blocks = inArea (blockPlace c 0) (blockPlace c c) i
@@ -59,71 +59,69 @@ module _ (c i : ℕ) where
   unfolding movesWrite
   writes-count l u = or-left counted (fields && not blocks) (in-area 4 6 i l u)
 
-  area-written : 16 ≤ i → i < 16 + 23 * c → blocks ≡ false → movesWrite c i ≡ true
-  unfolding movesWrite numberPlace workPlace
+  area-written : numberPlace 0 ≤ i → i < workPlace c c → blocks ≡ false → movesWrite c i ≡ true
+  unfolding movesWrite
   area-written l u free =
       or-right counted (fields && not blocks)
-      (and-both fields (not blocks) (in-area (numberPlace c 0) (workPlace c c) i l (omega arith)) (ap not free))
+      (and-both fields (not blocks) (in-area (numberPlace 0) (workPlace c c) i l u) (ap not free))
 
-  pub writes-rows : 16 ≤ i → i < 16 + 4 * c → movesWrite c i ≡ true
-  unfolding blockPlace
+  pub writes-rows : numberPlace 0 ≤ i → i < blockPlace c 0 → movesWrite c i ≡ true
   writes-rows l u = area-written l (omega arith) (before-area (blockPlace c 0) (blockPlace c c) i (omega arith))
 
-  pub writes-costs : 16 + 5 * c ≤ i → i < 16 + 23 * c → movesWrite c i ≡ true
-  unfolding blockPlace
+  pub writes-costs : costPlace c 0 0 ≤ i → i < workPlace c c → movesWrite c i ≡ true
   writes-costs l u = area-written (omega arith) u (past-area (blockPlace c 0) (blockPlace c c) i (omega arith))
 
   -- C, d and the format.
   pub leaves-head : i < 4 → movesWrite c i ≡ false
-  unfolding movesWrite numberPlace
+  unfolding movesWrite
   leaves-head l =
       or-false-both counted (fields && not blocks) (before-area 4 6 i l)
-      (ap (λ (t : Bool). t && not blocks) (before-area (numberPlace c 0) (workPlace c c) i (omega arith)))
+      (ap (λ (t : Bool). t && not blocks) (before-area (numberPlace 0) (workPlace c c) i (omega arith)))
 
   -- The blocks.
-  pub leaves-blocks : 16 + 4 * c ≤ i → i < 16 + 5 * c → movesWrite c i ≡ false
-  unfolding movesWrite blockPlace
+  pub leaves-blocks : blockPlace c 0 ≤ i → i < costPlace c 0 0 → movesWrite c i ≡ false
+  unfolding movesWrite
   leaves-blocks l u =
       or-false-both counted (fields && not blocks) (past-area 4 6 i (omega arith))
-      (and-false-right fields (not blocks) (ap not (in-area (blockPlace c 0) (blockPlace c c) i (omega arith) (omega arith))))
+      (and-false-right fields (not blocks) (ap not (in-area (blockPlace c 0) (blockPlace c c) i l (omega arith))))
 
-  moves-end : 16 + 23 * c ≤ i → movesWrite c i ≡ false
-  unfolding movesWrite workPlace
+  moves-end : workPlace c c ≤ i → movesWrite c i ≡ false
+  unfolding movesWrite
   moves-end l =
       or-false-both counted (fields && not blocks) (past-area 4 6 i (omega arith))
-      (ap (λ (t : Bool). t && not blocks) (past-area (numberPlace c 0) (workPlace c c) i (omega arith)))
+      (ap (λ (t : Bool). t && not blocks) (past-area (numberPlace 0) (workPlace c c) i l))
 
-  load-ends : 16 + 23 * c ≤ i → loadWrites c i ≡ false
-  unfolding loadWrites blockPlace
+  load-ends : workPlace c c ≤ i → loadWrites c i ≡ false
+  unfolding loadWrites
   load-ends l =
       or-false-both (inArea 0 4 i || movesWrite c i) blocks
       (or-false-both (inArea 0 4 i) (movesWrite c i) (past-area 0 4 i (omega arith)) (moves-end l))
       (past-area (blockPlace c 0) (blockPlace c c) i (omega arith))
 
-  block-ends : (x : Change) → changeNumber x < c → 16 + 23 * c ≤ i → blockWrites c x i ≡ false
-  unfolding blockWrites blockPlace changeNumber
+  block-ends : (x : Change) → changeNumber x < c → workPlace c c ≤ i → blockWrites c x i ≡ false
+  unfolding blockWrites changeNumber
   block-ends (enter n block costs) h l = ne-eqb i (blockPlace c n) (λ e. omega arith)
   block-ends (withdraw n) h l = refl
   block-ends (recost n block costs) h l = ne-eqb i (blockPlace c n) (λ e. omega arith)
 
-  change-ends : (x : Change) → changeNumber x < c → 16 + 23 * c ≤ i → changeWrites c x i ≡ false
+  change-ends : (x : Change) → changeNumber x < c → workPlace c c ≤ i → changeWrites c x i ≡ false
   unfolding changeWrites
   change-ends x h l = or-false-both (movesWrite c i) (blockWrites c x i) (moves-end l) (block-ends x h l)
 
 -- ---- "Memory past the first 64·C + 1,024 bytes is never written."
 
 module _ (c : ℕ) (writes : ℕ → Bool) (m m' : List ℕ) (b : Board) (t : Tree) where
-  past-kept : ((i : ℕ) → 16 + 23 * c ≤ i → writes i ≡ false) → Kept writes m m' b t → drop (memoryNeed c) m' ≡ drop (memoryNeed c) m
+  past-kept : ((i : ℕ) → workPlace c c ≤ i → writes i ≡ false) → Leaves writes m m' b t → drop (memoryNeed c) m' ≡ drop (memoryNeed c) m
   unfolding memoryNeed
   past-kept ends k =
       ext-getD 0 (drop need m') (drop need m)
-      (length-drop need m' ∙ ap (λ (n : ℕ). n - need) (k .length) ∙ sym (length-drop need m))
-      (λ i _. getD-drop need m' i 0 ∙ k .others (need + i) (ends (need + i) (omega arith)) ∙ sym (getD-drop need m i 0))
+      (length-drop need m' ∙ ap (λ (n : ℕ). n - need) (k .only .length) ∙ sym (length-drop need m))
+      (λ i _. getD-drop need m' i 0 ∙ k .only .same (need + i) (ends (need + i) (omega arith)) ∙ sym (getD-drop need m i 0))
     where
       need : ℕ
       need = 64 * c + 1024
 
-  past-left : (k : ℕ) → (k ≡ 0 → (i : ℕ) → 16 + 23 * c ≤ i → writes i ≡ false) → MemoryAfter writes k m m' b t → drop (memoryNeed c) m' ≡ drop (memoryNeed c) m
+  past-left : (k : ℕ) → (k ≡ 0 → (i : ℕ) → workPlace c c ≤ i → writes i ≡ false) → MemoryAfter writes k m m' b t → drop (memoryNeed c) m' ≡ drop (memoryNeed c) m
   unfolding MemoryAfter
   past-left zero ends k = past-kept (ends refl) k
   past-left (suc n) ends e = ap (drop (memoryNeed c)) e
@@ -134,7 +132,7 @@ module _ {m m' : List ℕ} where
   load-past {c} {d} {rows} {v} p =
       past-left c (loadWrites c) m m' (loaded c d rows) (loadTree d (map moveOf rows)) (numberOf v) (λ _. load-ends c) (p .left)
 
-  pub change-past : {x : Change} {lent lent' : List Row} {r : Answer} → Sound m → ChangePromise x m lent r m' lent' → drop (memoryNeed (sizeIn m)) m' ≡ drop (memoryNeed (sizeIn m)) m
+  pub change-past : {x : Change} {lent lent' : List Row} {r : CallResult} → Sound m → ChangePromise x m lent r m' lent' → drop (memoryNeed (sizeIn m)) m' ≡ drop (memoryNeed (sizeIn m)) m
   unfolding boardIn
   change-past {x} {lent} {r = r} s p =
       past-left (sizeIn m) (changeWrites (sizeIn m) x) m m' (changed (boardIn m) x) (changeTree (dimensionIn m) x (s .tree)) (numberOf (r .verdict))

@@ -4,112 +4,87 @@ use mathlib.Core.Bool.{Bool, true, false, cond, _&&_}
 use mathlib.Core.List.{List}
 use mathlib.Core.Path.{_≡_, sym, ap, _∙_}
 use native.Mathlib.Omega.{arith}
+use borrow.Author.Tests.{le-leb, lt-leb}
+use lib.Dec.{leb}
 use lib.ListN.{take}
 use Rattle.zorder.specs.Address.{rowCosts}
 use Rattle.model.specs.Basics.{count}
-use Rattle.model.specs.Dominance.{nowhereGreater, somewhereLess, better, dominates}
-use Rattle.model.specs.Laws.Bool.{byCases, both-ways}
-use Rattle.dominance.specs.Lanes.{Lanes, limit, isFirst}
-use Rattle.dominance.specs.Laws.Lanes.{limits-first}
-use Rattle.promises.specs.Layout.{numberIn, costsIn, moveIn}
+use Rattle.model.specs.Dominance.{somewhereLess, better, dominates}
+use Rattle.model.specs.Lists.{dominators}
+use Rattle.model.specs.Laws.Bool.{byCases, both-ways, and-left}
+use Rattle.dominance.specs.Lanes.{Lanes, bound, isFirst}
+use Rattle.line.specs.Line.{movesIn}
+use Rattle.promises.specs.Layout.{numberIn, moveIn, lineFrom}
 use Rattle.promises.specs.Run.{Bytes}
 use Rattle.memory.specs.Held.{SoundRows}
-use Rattle.search.specs.Search.{looks, looksAt, seen, seenAt, fits, None, First}
 use Rattle.memory.specs.Tests.{isListed}
-use Rattle.memory.specs.Laws.Costs.{row-length, words-first, words-small}
-use Rattle.search.specs.declared.search.Among.the-variants as among
-use Rattle.query.specs.Rule.{beats}
-use Rattle.query.specs.Kept.{movesTo, stays, beatsAt}
-use Rattle.query.specs.Laws.Counting.{count-none, count-more, stays-over, stays-within}
-use Rattle.query.specs.Laws.Dominated.{beaten-hidden, beaten-after}
-use Rattle.query.specs.Laws.Counted.{count-passed, stays-before, stays-none}
-use Rattle.query.specs.declared.rule.Rule.the-variants.{All}
+use Rattle.memory.specs.Laws.Costs.{row-length}
+use Rattle.memory.specs.Laws.Held.{dominated-hidden, dominated-after}
+use Rattle.memory.specs.Laws.Lines.{movesIn-line}
+use Rattle.search.specs.Search.{looks, looksAt, seen, seenAt, fits, None, First}
+use Rattle.search.specs.Laws.Search.{none-empty}
+use Rattle.search.specs.Laws.Hiders.{words-within}
+use Rattle.search.specs.Laws.Counts.{count-none, count-skip, count-passed, count-tab, CountedTo, counted-first, counted-next, counted-all}
+use Rattle.search.specs.declared.search.Among.the-variants.{All}
+use Rattle.query.specs.Band.{inBand, dominatesPlace, dominatorsTo}
 
 -- ---- what the search finds
 
--- Of the places below j, to which a search from place to place has come, those whose moves dominate the one at i are counted,
--- and few enough.
-pub record CountedTo (c d : ℕ) (m : List ℕ) (i : ℕ) (q : List ℕ) (most found j : ℕ) : Type 0 where
-  pub inside : j ≤ i
-  pub few : found ≤ most
-  pub small : found ≤ j
-  pub counts : found ≡ count (λ x. beats d All (x .costs) (moveIn c d m i .costs)) (movesTo c d j m)
-  pub here : j < i → fits among.All c m q j ≡ true
-
-module _ (c d : ℕ) (m : List ℕ) (few : d ≤ rowCosts) (b : Bytes m) (i : ℕ) (q : List ℕ) (limits : Lanes (limit (isFirst d) (moveIn c d m i .costs)) q) where
-  abbrev costs : List ℕ
-  costs = moveIn c d m i .costs
-
+module _ (c d : ℕ) (m : List ℕ) (few : d ≤ rowCosts) (b : Bytes m) (i : ℕ) (q : List ℕ) (bounds : Lanes (bound (isFirst d) (moveIn c d m i .costs)) q) where
   abbrev lessAt : ℕ → Bool
-  lessAt j = somewhereLess (take d (moveIn c d m j .costs)) (take d costs)
+  lessAt j = somewhereLess (take d (moveIn c d m j .costs)) (take d (moveIn c d m i .costs))
 
-  abbrev dominators : ℕ → ℕ
-  dominators n = count (λ x. beats d All (x .costs) costs) (movesTo c d n m)
+  -- The dominators before the place that the search has come to are counted.
+  abbrev Dominators : ℕ → ℕ → Type 0
+  Dominators j found = CountedTo (fits All c m q) (dominatesPlace c d m i) i j found
 
-  fits-dominates : (j : ℕ) → beatsAt c d All m costs j ≡ (fits among.All c m q j && lessAt j)
-  unfolding beats dominates better fits looksAt looks seenAt seen moveIn
+  fits-dominates : (j : ℕ) → dominatesPlace c d m i j ≡ (fits All c m q j && lessAt j)
+  unfolding dominates better fits looksAt looks seenAt seen moveIn
   fits-dominates j =
       ap (λ (t : Bool). t && lessAt j)
-      (sym (limits-first d (costsIn c rowCosts m (numberIn c m j)) (costsIn c d m (numberIn c m i)) q few limits (row-length c rowCosts m (numberIn c m j) (omega arith)) (row-length c d m (numberIn c m i) few) (words-small c m (numberIn c m j) b)
-      ∙ ap (λ (p : List ℕ). nowhereGreater p (take d (costsIn c d m (numberIn c m i)))) (words-first c m (numberIn c m j) d few)))
+      (sym (words-within c d m few b (numberIn c m j) (moveIn c d m i .costs) q (row-length c d m (numberIn c m i) few) bounds))
 
-  passed-same : {j k : ℕ} → j ≤ k → None (fits among.All c m q) j k → dominators k ≡ dominators j
-  passed-same {j} {k} h none =
-      count-passed c d m (λ x. beats d All (x .costs) costs) j k h (λ l a g. fits-dominates l ∙ ap (λ (t : Bool). t && lessAt l) (none l a g))
+  dominates-fits : (j : ℕ) → dominatesPlace c d m i j ≡ true → fits All c m q j ≡ true
+  dominates-fits j e = and-left (fits All c m q j) (lessAt j) (sym (fits-dominates j) ∙ e)
 
-  found-more : (j : ℕ) (t : Bool) → fits among.All c m q j ≡ true → lessAt j ≡ t → dominators (j + 1) ≡ cond t (dominators j + 1) (dominators j)
-  found-more j t f e = count-more c d m (λ x. beats d All (x .costs) costs) j t (fits-dominates j ∙ ap (λ (u : Bool). u && lessAt j) f ∙ e)
+  found-dominates : (j : ℕ) → fits All c m q j ≡ true → dominatesPlace c d m i j ≡ lessAt j
+  found-dominates j e = fits-dominates j ∙ ap (λ (t : Bool). t && lessAt j) e
 
-  module _ (most : ℕ) where
-    pub counted-start : {found j : ℕ} → found ≡ 0 → First (fits among.All c m q) 0 i j → CountedTo c d m i q most found j
-    counted-start e f =
-        record {
-          inside = f .to;
-          few = omega arith;
-          small = omega arith;
-          counts = e ∙ sym (passed-same (f .from) (f .passed) ∙ count-none c d m (λ x. beats d All (x .costs) costs));
-          here = f .found;
-        }
+  pub dominators-first : {found j : ℕ} → found ≡ 0 → First (fits All c m q) 0 i j → Dominators j found
+  dominators-first e f = counted-first (λ j _. dominates-fits j) (none-empty (dominatesPlace c d m i) 0) f e
 
-    module _ {found j : ℕ} (h : CountedTo c d m i q most found j) where
-      pub counted-turn : {more r : ℕ} (t : Bool) → j < i → lessAt j ≡ t → more ≡ cond t (found + 1) found → more ≤ most → First (fits among.All c m q) (j + 1) i r
-          → CountedTo c d m i q most more r
-      counted-turn {more} t l e k few f =
-          record {
-            inside = f .to;
-            few = few;
-            small = omega (arith, f .from, h .small, at-most-one-more t, k);
-            counts = k ∙ ap (λ (n : ℕ). cond t (n + 1) n) (h .counts) ∙ sym (passed-same (f .from) (f .passed) ∙ found-more j t (h .here l) e);
-            here = f .found;
-          }
-        where
-          at-most-one-more : (t : Bool) → cond t (found + 1) found ≤ found + 1
-          at-most-one-more true = omega arith
-          at-most-one-more false = omega arith
+  module _ {found j : ℕ} (h : CountedTo (fits All c m q) (dominatesPlace c d m i) i j found) where
+    pub dominators-next : {more r : ℕ} (t : Bool) → j < i → lessAt j ≡ t → more ≡ found + cond t 1 0 → First (fits All c m q) (j + 1) i r → Dominators r more
+    dominators-next t l e k f = counted-next (λ j _. dominates-fits j) h l t (λ here. found-dominates j here ∙ e) k f
 
-      pub counted-over : j < i → lessAt j ≡ true → found ≡ most → stays d All most (movesTo c d i m) costs ≡ false
-      counted-over l e k =
-          stays-over c d i All most m costs j l (fits-dominates j ∙ ap (λ (t : Bool). t && lessAt j) (h .here l) ∙ e) (omega (arith, h .counts))
+    module _ (most : ℕ) where
+      pub dominators-over : j < i → lessAt j ≡ true → found ≡ most → leb (dominatorsTo c d m i i) most ≡ false
+      dominators-over l e k =
+          lt-leb _ most (omega (arith, h .counts, count-passed (dominatesPlace c d m i) j i l (found-dominates j (h .found l) ∙ e)))
 
-      pub counted-all : i ≤ j → stays d All most (movesTo c d i m) costs ≡ true
-      counted-all l =
-          let e : j ≡ i = omega (arith, h .inside) in
-          stays-within c d i All most m costs (omega (arith, h .few, h .counts, ap dominators e))
+      pub dominators-within : i ≤ j → found ≤ most → leb (dominatorsTo c d m i i) most ≡ true
+      dominators-within l k = le-leb _ most (omega (arith, counted-all h l))
 
 -- ---- sound memory
 
-module _ {c d n : ℕ} {m : List ℕ} (s : SoundRows c d n m) (b : Bytes m) (i : ℕ) (h : i < n) where
-  later-dominate-not : None (beatsAt c d All m (moveIn c d m i .costs)) i n
-  unfolding beats
-  later-dominate-not j a g =
-      byCases (dominates d (moveIn c d m j .costs) (moveIn c d m i .costs)) (λ e. absurd (omega (arith, beaten-after c d n m s j g b i h e))) (λ e. e)
+module _ {c d n : ℕ} {m : List ℕ} (s : SoundRows c d n m) (b : Bytes m) (i : ℕ) (h : i < n) (most : ℕ) where
+  band-places : inBand d most (movesIn (lineFrom c d n m)) (moveIn c d m i) ≡ leb (dominatorsTo c d m i n) most
+  unfolding dominators
+  band-places =
+      ap (λ (k : ℕ). leb k most)
+      (ap (count (λ p. dominates d (p .costs) (moveIn c d m i .costs))) (movesIn-line c d n m)
+      ∙ count-tab (λ p. dominates d (p .costs) (moveIn c d m i .costs)) (moveIn c d m) n)
 
-  -- So only earlier moves are counted.
-  pub band-stays : (most : ℕ) → stays d All most (movesTo c d n m) (moveIn c d m i .costs) ≡ stays d All most (movesTo c d i m) (moveIn c d m i .costs)
-  band-stays most = stays-before c d m All most (moveIn c d m i .costs) i n (omega arith) later-dominate-not
+  -- Only earlier moves are counted.
+  pub band-before : inBand d most (movesIn (lineFrom c d n m)) (moveIn c d m i) ≡ leb (dominatorsTo c d m i i) most
+  band-before = band-places ∙ ap (λ (k : ℕ). leb k most) (count-skip (dominatesPlace c d m i) i n (omega arith) later)
+    where
+      later : None (dominatesPlace c d m i) i n
+      later j a g = byCases (dominatesPlace c d m i j) (λ e. absurd (omega (arith, dominated-after c d n m s j i g h e b))) (λ e. e)
 
-  pub listed-stays : (most : ℕ) → isListed c m i ≡ true → stays d All most (movesTo c d n m) (moveIn c d m i .costs) ≡ true
-  unfolding beats
-  listed-stays most e =
-      stays-none c d m All most (moveIn c d m i .costs) n
-      (λ j _ g. byCases (dominates d (moveIn c d m j .costs) (moveIn c d m i .costs)) (λ t. both-ways e (beaten-hidden c d n m s j g i h t)) (λ t. t))
+  pub band-listed : isListed c m i ≡ true → inBand d most (movesIn (lineFrom c d n m)) (moveIn c d m i) ≡ true
+  band-listed listed =
+      band-places ∙ le-leb _ most (omega (arith, count-skip (dominatesPlace c d m i) 0 n (omega arith) none, count-none (dominatesPlace c d m i)))
+    where
+      none : None (dominatesPlace c d m i) 0 n
+      none j a g = byCases (dominatesPlace c d m i j) (λ e. both-ways listed (dominated-hidden c d n m s j i g h e)) (λ e. e)

@@ -2,10 +2,10 @@
 use Prim.Native.Nat.{ℕ, zero, suc, _≤_, _<_}
 use mathlib.Core.Bool.{Bool, true, not}
 use mathlib.Core.List.{List, [], _∷_, map}
-use mathlib.Core.Path.{_≡_, refl, sym, _∙_}
+use mathlib.Core.Path.{_≡_, refl}
 use native.Mathlib.Nat.{le-trans, lt-of-le-of-lt}
 use lib.Dec.{ltb}
-use lib.ListN.{length, getD}
+use lib.ListN.{getD}
 use borrow.Author.Tests.{ltb-true, ltb-false, lt-ltb, le-ltb}
 use Rattle.zorder.specs.Address.{rowCosts}
 use Rattle.model.specs.Basics.{Each, any, parts, numbersFrom}
@@ -14,14 +14,15 @@ use Rattle.model.specs.Dominance.{less, nowhereGreater, somewhereLess, better, 
 use Rattle.model.specs.Lists.{hidden, skyline, chosenCosts}
 use Rattle.model.specs.Sound.{Fit}
 use Rattle.model.specs.Laws.Bool.{byCases, same-test, and-left, and-right, and-both, not-flip, not-back, or-cases, or-left, or-right}
-use Rattle.model.specs.Laws.Basics.{each-mem, mem-each, each-mono, each-append, each-map, each-select, any-mem, any-mono, any-witness}
-use Rattle.model.specs.Laws.Dominance.{below-dominates, row-lengths}
+use Rattle.model.specs.Laws.Basics.{each-mem, mem-each, parts-each, any-mem, any-mono, any-witness}
+use Rattle.model.specs.Laws.Chosen.{chosen-below}
+use Rattle.model.specs.Laws.Dominance.{row-lengths}
 use Rattle.model.specs.Laws.Hiding.{hides-nowhere-greater}
 use Rattle.model.specs.Laws.Range.{each-place}
 use Rattle.model.specs.Laws.Skyline.{skyline-mem, mem-skyline, skyline-hider}
 use Rattle.query.specs.Rule.{beats}
 use Rattle.query.specs.declared.rule.Rule.{Rule}
-use Rattle.query.specs.declared.rule.Rule.the-variants.{All, OnK, Chosen}
+use Rattle.query.specs.declared.rule.Rule.the-variants.{OnK, Chosen}
 
 -- ---- the costs at some places
 
@@ -43,21 +44,6 @@ module _ (p q : List ℕ) where
   each-nowhere (i ∷ s) es =
       and-both (not (ltb (getD q i 0) (getD p i 0))) (nowhereGreater (at s p) (at s q))
       (not-flip (ltb (getD q i 0) (getD p i 0)) (le-ltb (getD q i 0) (getD p i 0) (es .0))) (each-nowhere s (es .1))
-
--- Every part of a list has entries of the list only.
-parts-each : {A : Type 0} (P : A → Type 0) (k : ℕ) (xs : List A) → Each P xs → Each (λ s. Each P s) (parts k xs)
-unfolding parts
-parts-each P zero xs es = (tt, tt)
-parts-each P (suc k) [] es = tt
-parts-each P (suc k) (x ∷ xs) es =
-    each-append (λ s. Each P s) (map (λ s. x ∷ s) (parts k xs)) (parts (suc k) xs)
-    (each-map (λ s. Each P s) (λ s. x ∷ s) (parts k xs) (each-mono (λ s. Each P s) (λ s. Each P (x ∷ s)) (parts k xs) (λ s h. (es .0, h)) (parts-each P k xs (es .1))))
-    (parts-each P (suc k) xs (es .1))
-
--- The costs of a set are among the first d.
-pub chosen-below : (d set : ℕ) → Each (λ i. i < d) (chosenCosts d set)
-unfolding chosenCosts
-chosen-below d set = each-select _ (λ i. i < d) (numbersFrom 0 d) (each-place (λ i. i < d) d (λ i l. l))
 
 -- ---- a row z that is nowhere greater than y on the first d costs
 
@@ -81,17 +67,16 @@ module _ (d : ℕ) (z y x : List ℕ) (below : (i : ℕ) → i < d → getD z i 
       (each-mem (λ i. getD y i 0 ≤ getD x i 0) (nowhere-each y x s (and-left nowhere somewhere e)) k))))
       (somewhere-below s es (and-right nowhere somewhere e))
 
-  pub beats-below : (rule : Rule) → length z ≡ length y → length y ≡ length x → beats d rule y x ≡ true → beats d rule z x ≡ true
+  pub beats-below : (rule : Rule) → beats d rule y x ≡ true → beats d rule z x ≡ true
   unfolding beats dominatesOn
-  beats-below All e f = below-dominates d z y x e f below
-  beats-below (OnK k) e f =
+  beats-below (OnK k) =
       any-mono (λ s. dominatesAt s y x) (λ s. dominatesAt s z x) (parts k (numbersFrom 0 d))
       (λ s j. at-below s (each-mem (λ s. Each (λ i. i < d) s) (parts-each (λ i. i < d) k (numbersFrom 0 d) (each-place (λ i. i < d) d (λ i l. l))) j))
-  beats-below (Chosen set) e f = at-below (chosenCosts d set) (chosen-below d set)
+  beats-below (Chosen set) = at-below (chosenCosts d set) (chosen-below d set)
 
 -- ---- a board
 
-module _ (d c : ℕ) (l : d ≤ rowCosts) (ms : List Move) (es : Each (Fit c d) ms) (r : ordered d ms ≡ true) (rule : Rule) (x : List ℕ) (wide : length x ≡ rowCosts) where
+module _ (d c : ℕ) (l : d ≤ rowCosts) (ms : List Move) (es : Each (Fit c d) ms) (r : ordered d ms ≡ true) (rule : Rule) (x : List ℕ) where
   abbrev beater : Move → Bool
   beater p = beats d rule (p .costs) x
 
@@ -106,6 +91,6 @@ module _ (d c : ℕ) (l : d ≤ rowCosts) (ms : List Move) (es : Each (Fit c d) 
       let k = skyline-hider d c l ms es r (w .0) fit h in
       let same = row-lengths (each-mem (Fit c d) es (skyline-mem d ms (k .listed) .0) .costs) (fit .costs) in
       any-mem beater (k .listed)
-      (beats-below d (k .hider .costs) (w .0 .costs) x (hides-nowhere-greater d (k .hider) (w .0) same (k .hiding)) rule same (fit .costs .count ∙ sym wide) (w .2)))
+      (beats-below d (k .hider .costs) (w .0 .costs) x (hides-nowhere-greater d (k .hider) (w .0) same (k .hiding)) rule (w .2)))
       (λ h. any-mem beater (mem-skyline d (w .1) h) (w .2)))
       (λ e. let w = any-witness beater (skyline d ms) e in any-mem beater (skyline-mem d ms (w .1) .0) (w .2))

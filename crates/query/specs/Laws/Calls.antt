@@ -2,24 +2,22 @@
 use Prim.Native.Nat.{ℕ, _^_, _≤_, _<_}
 use mathlib.Core.Bool.{Bool, true, false, cond, not}
 use mathlib.Core.List.{List, [], _∷_}
-use mathlib.Core.Path.{_≡_, refl, sym, ap, fun-ext}
+use mathlib.Core.Path.{_≡_, refl, ap}
 use mathlib.Core.Logic.{_⊎_, inr, ⊎-elim}
 use native.Mathlib.Omega.{arith}
 use lib.Dec.{leb, eqb}
 use borrow.Author.Tests.{le-leb, lt-leb, eq-eqb, ne-eqb}
 use Rattle.zorder.specs.Refusal.{refusal}
-use Rattle.model.specs.Basics.{select, any}
-use Rattle.model.specs.Moves.{Move}
-use Rattle.model.specs.Lists.{dominators, band, onK, chosen, listedRows}
-use Rattle.model.specs.Calls.{accepted, refusedWith, bandQuery, rankQuery, onKQuery, chosenQuery, queryRefusal, queryRows}
+use Rattle.model.specs.Basics.{select}
+use Rattle.model.specs.Lists.{band, onK, chosen, listedRows}
+use Rattle.model.specs.Calls.{accepted, refusedWith, bandQuery, onKQuery, chosenQuery, queryRefusal, queryRows}
 use Rattle.model.specs.Laws.Bool.{or-left, or-right, or-false-both}
-use Rattle.model.specs.Laws.Queries.{count-zero}
 use Rattle.model.specs.Laws.Tree.{within-true, within-false}
 use Rattle.promises.specs.Layout.{dimensionIn, boardIn}
 use Rattle.query.specs.Rule.{beats}
-use Rattle.query.specs.Kept.{stays, kept, keptRows}
-use Rattle.query.specs.declared.rule.Rule.{Rule}
-use Rattle.query.specs.declared.rule.Rule.the-variants.{All, OnK, Chosen}
+use Rattle.query.specs.Band.{inBand}
+use Rattle.query.specs.Unbeaten.{unbeaten}
+use Rattle.query.specs.declared.rule.Rule.the-variants.{OnK, Chosen}
 
 -- ---- the refusals
 
@@ -39,14 +37,6 @@ module _ (m : List ℕ) where
   pub band-right : (n : ℕ) → n ≤ 4095 → queryRefusal (boardIn m) (bandQuery n) ≡ accepted
   unfolding queryRefusal
   band-right n h = right _ (ap not (within-true 0 4095 n (omega arith) h))
-
-  pub rank-bad : (t : ℕ) → (t < 1) ⊎ (4096 < t) → queryRefusal (boardIn m) (rankQuery t) ≡ refusedWith 7
-  unfolding queryRefusal
-  rank-bad t h = bad _ (ap not (within-false 1 4096 t h))
-
-  pub rank-right : (t : ℕ) → 1 ≤ t → t ≤ 4096 → queryRefusal (boardIn m) (rankQuery t) ≡ accepted
-  unfolding queryRefusal
-  rank-right t h l = right _ (ap not (within-true 1 4096 t h l))
 
   pub on-bad : (k : ℕ) → (k < 1) ⊎ (dimensionIn m < k) → queryRefusal (boardIn m) (onKQuery k) ≡ refusedWith 7
   unfolding queryRefusal boardIn
@@ -70,21 +60,16 @@ module _ (m : List ℕ) where
   chosen-right set n l =
       right _ (or-false-both (eqb set 0) (leb (2 ^ dimensionIn m) set) (ne-eqb set 0 n) (lt-leb (2 ^ dimensionIn m) set l))
 
-  -- ---- the rows: on k and chosen costs keep what no move beats
+  -- ---- the rows
 
-  pub band-rows : (n : ℕ) → queryRows (boardIn m) (bandQuery n) ≡ keptRows All n m
-  unfolding queryRows keptRows boardIn kept stays beats band dominators
+  pub band-rows : (n : ℕ) → queryRows (boardIn m) (bandQuery n) ≡ listedRows (select (inBand (dimensionIn m) n (boardIn m .moves)) (boardIn m .moves))
+  unfolding queryRows boardIn band
   band-rows n = refl
 
-  unbeaten : (rule : Rule) (ms : List Move) → kept (dimensionIn m) rule 0 ms ≡ select (λ x. not (any (λ p. beats (dimensionIn m) rule (p .costs) (x .costs)) ms)) ms
-  unfolding kept stays
-  unbeaten rule ms =
-      ap (λ (p : Move → Bool). select p ms) (fun-ext (λ x. count-zero (λ p. beats (dimensionIn m) rule (p .costs) (x .costs)) ms))
+  pub on-rows : (k : ℕ) → queryRows (boardIn m) (onKQuery k) ≡ listedRows (select (unbeaten (dimensionIn m) (OnK k) (boardIn m .moves)) (boardIn m .moves))
+  unfolding queryRows boardIn onK unbeaten beats
+  on-rows k = refl
 
-  pub on-rows : (k : ℕ) → queryRows (boardIn m) (onKQuery k) ≡ keptRows (OnK k) 0 m
-  unfolding queryRows keptRows boardIn beats onK
-  on-rows k = ap listedRows (sym (unbeaten (OnK k) (boardIn m .moves)))
-
-  pub chosen-rows : (set : ℕ) → queryRows (boardIn m) (chosenQuery set) ≡ keptRows (Chosen set) 0 m
-  unfolding queryRows keptRows boardIn beats chosen
-  chosen-rows set = ap listedRows (sym (unbeaten (Chosen set) (boardIn m .moves)))
+  pub chosen-rows : (set : ℕ) → queryRows (boardIn m) (chosenQuery set) ≡ listedRows (select (unbeaten (dimensionIn m) (Chosen set) (boardIn m .moves)) (boardIn m .moves))
+  unfolding queryRows boardIn chosen unbeaten beats
+  chosen-rows set = refl

@@ -14,7 +14,7 @@ use Rattle.model.specs.Tree.{Tree}
 use Rattle.model.specs.Calls as calls
 use Rattle.model.specs.Calls.{accepted, refusedWith, orElse, rowsAnswer, Query, queryRefusal, queryRows, queryAnswer}
 use Rattle.model.specs.Laws.Bool.{byCases}
-use Rattle.model.specs.Laws.Basics.{map-take}
+use Rattle.model.specs.Laws.Basics.{map-take, map-drop}
 use Rattle.promises.specs.Layout.{dimensionIn, boardIn}
 use Rattle.model.specs.Opening.{queryOpens}
 use Rattle.memory.specs.declared.head.Head.{Head}
@@ -128,11 +128,6 @@ module _ {refusal : calls.Answer} {rows : List Row} {nodes : Tree → ℕ} {m : 
         }
 
 -- ---- the rows after a telling was filled in
-
-pub map-drop : {A B : Type 0} (f : A → B) (k : ℕ) (xs : List A) → map f (drop k xs) ≡ drop k (map f xs)
-map-drop f zero xs = refl
-map-drop f (suc k) [] = refl
-map-drop f (suc k) (x ∷ xs) = map-drop f k xs
 
 -- Nothing put changes nothing.
 put-none : (from : ℕ) (rows : List Row) → put from [] rows ≡ rows

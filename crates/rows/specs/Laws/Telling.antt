@@ -20,7 +20,7 @@ use Rattle.dominance.specs.Move.{asMove}
 use Rattle.upkeep.specs.Change.{placesIn}
 use Rattle.rows.specs.Rows.{moveNumbers}
 use Rattle.rows.specs.Telling.{TellingAsked, tellsPlace, rowsAt, comingRows, toldRows, positions, placeOf, toldAt, rowAt, toldFrom, nextRow, nextAt, position, filledRows}
-use Rattle.rows.specs.declared.telling.Told.{Told}
+use Rattle.rows.specs.declared.telling.View.{View}
 
 -- ---- what stands at a position
 
@@ -39,7 +39,7 @@ module _ (p i : ℕ) where
       (λ e. let l = ltb-true i p e in omega (arith, place-before l))
       (λ e. let l = ltb-false i p e in omega (arith, place-after l))
 
-module _ (t : Told) (numbers m : List ℕ) (i : ℕ) where
+module _ (t : View) (numbers m : List ℕ) (i : ℕ) where
   pub coming-told : i ≡ t .coming .place → toldAt t numbers m i ≡ t .coming .told
   unfolding toldAt
   coming-told e = ap (λ (b : Bool). cond b (t .coming .told) (tellsPlace t numbers m (placeOf (t .coming .place) i))) (eq-eqb i (t .coming .place) e)
@@ -61,7 +61,7 @@ module _ (t : Told) (numbers m : List ℕ) (i : ℕ) where
 
 -- ---- the told positions from one on
 
-module _ (t : Told) (numbers m : List ℕ) where
+module _ (t : View) (numbers m : List ℕ) where
   abbrev from-on : ℕ → List ℕ
   from-on = toldFrom t numbers m
 
@@ -157,7 +157,7 @@ module _ {A : Type 0} (f : ℕ → A) (q : ℕ → Bool) where
       ap (λ (c : Bool). map f (consIf c a [])) e
       ∙ testCases (λ (c : Bool). map f (consIf c a []) ≡ cond c (x ∷ []) []) b (λ _. ap (λ (y : A). y ∷ []) g) (λ _. refl)
 
-module _ (t : Told) (numbers m : List ℕ) where
+module _ (t : View) (numbers m : List ℕ) where
   abbrev told : List (List ℕ)
   told = map (rowAt t m) (toldFrom t numbers m 0)
 

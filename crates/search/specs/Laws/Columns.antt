@@ -16,7 +16,7 @@ use Rattle.model.specs.Dominance.{less, nowhereGreater}
 use Rattle.model.specs.Laws.Bool.{byCases, both-ways, and-left, and-right, and-both, same-test}
 use Rattle.model.specs.Laws.Dominance.{nowhere-greater-places, places-nowhere-greater}
 use Rattle.memory.specs.Tests.{allTo}
-use Rattle.search.specs.Columns.{columnFits, fitting, Column, Limits, FittingColumn, NoneFits, SomeFits, Put}
+use Rattle.search.specs.Columns.{columnFits, fitting, Column, Bounds, FittingColumn, NoneFits, SomeFits, Put}
 use Rattle.memory.specs.Laws.Places.{allTo-at, allTo-all}
 use Rattle.search.specs.Laws.Counts.{count-zero, count-some}
 
@@ -74,9 +74,9 @@ module _ (columns q : List ℕ) (wide : length q ≡ rowCosts) (w count : ℕ) (
       (λ g. g)
 
   -- Where one is counted by all costs that count, it is.
-  some-counted : Limits w q → ltb 0 count ≡ true → FittingColumn columns q
+  some-counted : Bounds w q → ltb 0 count ≡ true → FittingColumn columns q
   unfolding fitting columnFits
-  some-counted limits some =
+  some-counted bounds some =
       let one = count-some (columnFits w columns q) 64 (omega (arith, counted, ltb-true 0 count some)) in
       record {
         column = one .0;
@@ -89,12 +89,12 @@ module _ (columns q : List ℕ) (wide : length q ≡ rowCosts) (w count : ℕ) (
           → ((k : ℕ) → getD row k 0 < 65536) → Column columns t row → (k : ℕ) → Dec (k < rowCosts) → Dec (k < w) → getD row k 0 ≤ getD q k 0
       go t fits row e small held k (yes l) (yes asked) =
           omega (arith, held k l, leb-true (getD columns (64 * k + t) 0) (getD q k 0) (allTo-at (λ i. leb (getD columns (64 * i + t) 0) (getD q i 0)) w k asked fits))
-      go t fits row e small held k (yes l) (no past) = omega (arith, small k, limits k (omega arith) l)
+      go t fits row e small held k (yes l) (no past) = omega (arith, small k, bounds k (omega arith) l)
       go t fits row e small held k (no past) _ =
           let none : getD row k 0 ≡ 0 = List·getD-eq-default row 0 {n = k} (omega (arith, e)) in omega arith
 
-  pub fits-said : w ≤ rowCosts → Limits w q → SomeFits columns q (ltb 0 count)
-  fits-said few limits = record { true-says = some-counted limits; false-says = none-counted few }
+  pub fits-said : w ≤ rowCosts → Bounds w q → SomeFits columns q (ltb 0 count)
+  fits-said few bounds = record { true-says = some-counted bounds; false-says = none-counted few }
 
 -- ---- one column filled
 

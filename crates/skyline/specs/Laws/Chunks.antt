@@ -16,16 +16,16 @@ use Rattle.model.specs.Laws.Bool.{byCases, both-ways, and-both}
 use Rattle.dominance.specs.Lanes.{Lanes, lesser}
 use Rattle.promises.specs.Layout.{numberIn}
 use Rattle.promises.specs.Run.{Bytes}
-use Rattle.search.specs.Search.{seen, seenAt, limitsAt, fits, Below, Under, CornerWith}
-use Rattle.search.specs.Columns.{countTo, Column, Limits, FittingColumn, NoneFits, Put, Filled}
+use Rattle.search.specs.Search.{seen, seenAt, boundsAt, fits, Below, Under, CornerWith}
+use Rattle.search.specs.Columns.{countTo, Column, Bounds, FittingColumn, NoneFits, Put, Filled}
 use Rattle.skyline.specs.Chunks.{listed, slot, ListedColumn, ListedColumns, Gathered, NoneBefore, FitsBefore}
 use Rattle.memory.specs.Laws.Costs.{words-small}
 use Rattle.search.specs.Laws.Counts.{count-more, count-grows, count-passed}
-use Rattle.search.specs.Laws.Search.{limits-lanes, length-seen-at, fits-unlooked, fits-exceeding, corner-exceeds, corner-least}
+use Rattle.search.specs.Laws.Search.{bounds-lanes, length-seen-at, fits-unlooked, fits-exceeding, corner-exceeds, corner-least}
 use Rattle.search.specs.declared.search.Among.the-variants.{Listed}
 
-pub limits-past : (c d : ℕ) (m : List ℕ) (j : ℕ) → Limits d (limitsAt c d m j)
-limits-past c d m j k l g = limits-lanes c d m j .holds k g ∙ ap (λ (t : Bool). cond {A = ℕ} t (getD (seenAt Listed c m j) k 0) 65535) (le-ltb k d l)
+pub bounds-past : (c d : ℕ) (m : List ℕ) (j : ℕ) → Bounds d (boundsAt c d m j)
+bounds-past c d m j k l g = bounds-lanes c d m j .holds k g ∙ ap (λ (t : Bool). cond {A = ℕ} t (getD (seenAt Listed c m j) k 0) 65535) (le-ltb k d l)
 
 -- ---- the loop
 

@@ -1,10 +1,10 @@
--- The test of the marks is that of its two halves; what a turn of the loop over the hidden moves keeps.
+-- The test of the flags is that of its two halves; what a turn of the loop over the hidden moves keeps.
 use Prim.Native.Nat.{ℕ, zero, suc, _+_, _<_}
 use mathlib.Core.Bool.{Bool, true, false, not, _&&_, _||_, Bool·beq}
 use mathlib.Core.List.{List}
 use mathlib.Core.Path.{_≡_, refl, ap₂, _∙_}
 use Rattle.model.specs.Laws.Bool.{or-left, or-right, or-false-both}
-use Rattle.memory.specs.Tests.{allTo, isListed, hiddenAt, hiddenRight, listedRight, marksRight}
+use Rattle.memory.specs.Tests.{allTo, isListed, hiddenAt, hiddenRight, listedRight, flagsRight}
 use Rattle.memory.specs.Laws.Places.{allTo-more, allTo-fails}
 
 -- ---- the hidden half
@@ -51,6 +51,6 @@ all-halves l h (suc n) =
     ∙ regroup (allTo (λ i. l i || h i) n) (allTo (λ i. not (l i && h i)) n) (l n || h n) (not (l n && h n))
 
 module _ (c d n : ℕ) (m : List ℕ) where
-  pub marks-halves : marksRight c d n m ≡ (hiddenRight c d n m && listedRight c d n m)
-  unfolding marksRight hiddenRight listedRight
-  marks-halves = all-halves (isListed c m) (hiddenAt c d m) n
+  pub flags-halves : flagsRight c d n m ≡ (hiddenRight c d n m && listedRight c d n m)
+  unfolding flagsRight hiddenRight listedRight
+  flags-halves = all-halves (isListed c m) (hiddenAt c d m) n

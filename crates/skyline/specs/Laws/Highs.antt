@@ -1,4 +1,4 @@
--- The highest limits of each run: what a turn of each loop keeps, and that a chunk whose least costs exceed them hides none of the run.
+-- The highest bounds of each run: what a turn of each loop keeps, and that a chunk whose least costs exceed them hides none of the run.
 use Prim.Native.Nat.{ℕ, _+_, _*_, _/_, _≤_, _<_}
 use mathlib.Core.Bool.{true, false}
 use mathlib.Core.List.{List, []}
@@ -11,9 +11,9 @@ use Rattle.model.specs.Dominance.{somewhereLess}
 use Rattle.model.specs.Laws.Bool.{both-ways}
 use Rattle.dominance.specs.Lanes.{Lanes, greater}
 use Rattle.dominance.specs.Laws.Lanes.{greater-above}
-use Rattle.search.specs.Search.{limitsAt, Under}
+use Rattle.search.specs.Search.{boundsAt, Under}
 use Rattle.skyline.specs.Chunks.{listed, Gathered, Unhidden, HighWith, Highs}
-use Rattle.search.specs.Laws.Search.{limits-lanes, runs-more}
+use Rattle.search.specs.Laws.Search.{bounds-lanes, runs-more}
 use Rattle.skyline.specs.Laws.Chunks.{gathered-exceeds}
 
 module _ {c d : ℕ} {m : List ℕ} where
@@ -23,19 +23,19 @@ module _ {c d : ℕ} {m : List ℕ} where
   pub high-same : {i j : ℕ} {high top : List ℕ} → listed c m j ≡ false → HighWith c d m i j high top → HighWith c d m i (j + 1) high top
   high-same {i} {j} {high} {top} e h = record { old = h .old; new = λ k l g t. go k l g t (ℕ-discrete k j) }
     where
-      go : (k : ℕ) → i ≤ k → k < j + 1 → listed c m k ≡ true → Dec (k ≡ j) → Under (limitsAt c d m k) top
+      go : (k : ℕ) → i ≤ k → k < j + 1 → listed c m k ≡ true → Dec (k ≡ j) → Under (boundsAt c d m k) top
       go k l g t (yes same) = both-ways t (ap (listed c m) same ∙ e)
       go k l g t (no other) = h .new k l (omega arith) t
 
-  pub high-more : {i j : ℕ} {high top : List ℕ} (r : List ℕ) → Lanes (greater top (limitsAt c d m j)) r → HighWith c d m i j high top → HighWith c d m i (j + 1) high r
+  pub high-more : {i j : ℕ} {high top : List ℕ} (r : List ℕ) → Lanes (greater top (boundsAt c d m j)) r → HighWith c d m i j high top → HighWith c d m i (j + 1) high r
   high-more {i} {j} {high} {top} r w h = record { old = λ n s. omega (arith, h .old n s, above n s .0); new = λ k l g t. go k l g t (ℕ-discrete k j) }
     where
-      above : (n : ℕ) → n < rowCosts → (getD top n 0 ≤ getD r n 0) × (getD (limitsAt c d m j) n 0 ≤ getD r n 0)
+      above : (n : ℕ) → n < rowCosts → (getD top n 0 ≤ getD r n 0) × (getD (boundsAt c d m j) n 0 ≤ getD r n 0)
       above n s =
-          (omega (arith, w .holds n s, greater-above top (limitsAt c d m j) n .0), omega (arith, w .holds n s, greater-above top (limitsAt c d m j) n .1))
+          (omega (arith, w .holds n s, greater-above top (boundsAt c d m j) n .0), omega (arith, w .holds n s, greater-above top (boundsAt c d m j) n .1))
 
-      go : (k : ℕ) → i ≤ k → k < j + 1 → listed c m k ≡ true → Dec (k ≡ j) → Under (limitsAt c d m k) r
-      go k l g t (yes same) = subst (λ (z : ℕ). Under (limitsAt c d m z) r) (sym same) (λ n s. above n s .1)
+      go : (k : ℕ) → i ≤ k → k < j + 1 → listed c m k ≡ true → Dec (k ≡ j) → Under (boundsAt c d m k) r
+      go k l g t (yes same) = subst (λ (z : ℕ). Under (boundsAt c d m z) r) (sym same) (λ n s. above n s .1)
       go k l g t (no other) = λ n s. omega (arith, h .new k l (omega arith) t n s, above n s .0)
 
   pub highs-none : (highs : List (List ℕ)) → length highs ≡ 64 → Highs c d m 0 highs
@@ -45,7 +45,7 @@ module _ {c d : ℕ} {m : List ℕ} where
       → HighWith c d m i e (getD highs (i / 64) []) r → Highs c d m e (set highs (i / 64) r)
   highs-more i e highs r small end h w = record {
     runs = length-set highs (i / 64) r ∙ h .runs;
-    above = runs-more (λ k y. listed c m k ≡ true → Under (limitsAt c d m k) y) i e highs r (h .runs) small end (h .above) (w .new)
+    above = runs-more (λ k y. listed c m k ≡ true → Under (boundsAt c d m k) y) i e highs r (h .runs) small end (h .above) (w .new)
         (λ k g t n s. omega (arith, w .old n s, g t n s));
   }
 
@@ -54,8 +54,8 @@ module _ {c d : ℕ} {m : List ℕ} where
       → e ≤ 64 * (f / 64) + 64 → e ≤ n
       → somewhereLess (take rowCosts (getD highs (f / 64) [])) (take rowCosts low) ≡ true → Unhidden c d m a b f e
   high-unhidden a b n f e columns low highs g h end room over j l s t k i p before =
-      gathered-exceeds c m a b columns low (limitsAt c d m j) g (limits-lanes c d m j .wide) (getD highs (f / 64) [])
-      (subst (λ (z : ℕ). Under (limitsAt c d m j) (getD highs z [])) same (h .above j (omega arith) t)) over k i p
+      gathered-exceeds c m a b columns low (boundsAt c d m j) g (bounds-lanes c d m j .wide) (getD highs (f / 64) [])
+      (subst (λ (z : ℕ). Under (boundsAt c d m j) (getD highs z [])) same (h .above j (omega arith) t)) over k i p
     where
       same : j / 64 ≡ f / 64
       same = omega arith

@@ -13,27 +13,27 @@ use Rattle.model.specs.Laws.Bool.{byCases, and-both, and-false-right}
 use Rattle.promises.specs.Run.{Bytes}
 use Rattle.memory.specs.Room.{Ordered}
 use Rattle.memory.specs.Tests.{isListed, hiddenAt, listedRight}
-use Rattle.search.specs.Search.{looks, looksAt, fits, limitsAt}
+use Rattle.search.specs.Search.{looks, looksAt, fits, boundsAt}
 use Rattle.search.specs.Columns.{countTo, FittingColumn, NoneFits}
 use Rattle.skyline.specs.Chunks.{listed, Gathered, NoneBefore, Unhidden, ListedHidden}
 use Rattle.memory.specs.Laws.Places.{allTo-all, allTo-fails}
-use Rattle.search.specs.Laws.Search.{limits-lanes, tried-some}
+use Rattle.search.specs.Laws.Search.{bounds-lanes, tried-some}
 use Rattle.skyline.specs.Laws.Chunks.{gathered-exceeds, gathered-none-fits, gathered-fits}
 use Rattle.search.specs.Laws.Hiders.{hidden-at}
 use Rattle.search.specs.declared.search.Among.the-variants.{Listed}
 
 -- ---- one listed move, held against those of a chunk
 
-module _ (c d : ℕ) (m : List ℕ) (j : ℕ) (q : List ℕ) (e : q ≡ limitsAt c d m j) (a b : ℕ) (columns low : List ℕ) (g : Gathered c m a b columns low) where
+module _ (c d : ℕ) (m : List ℕ) (j : ℕ) (q : List ℕ) (e : q ≡ boundsAt c d m j) (a b : ℕ) (columns low : List ℕ) (g : Gathered c m a b columns low) where
   -- Their least costs exceed it.
-  pub exceeds-none : somewhereLess (take rowCosts q) (take rowCosts low) ≡ true → NoneBefore c m (limitsAt c d m j) a b j
+  pub exceeds-none : somewhereLess (take rowCosts q) (take rowCosts low) ≡ true → NoneBefore c m (boundsAt c d m j) a b j
   exceeds-none over k l n before =
-      gathered-exceeds c m a b columns low (limitsAt c d m j) g (limits-lanes c d m j .wide) q (λ i r. omega (arith, ap (λ (x : List ℕ). getD x i 0) e)) over k l n
+      gathered-exceeds c m a b columns low (boundsAt c d m j) g (bounds-lanes c d m j .wide) q (λ i r. omega (arith, ap (λ (x : List ℕ). getD x i 0) e)) over k l n
 
   -- None of the columns fits.
-  pub columns-none : NoneFits columns q → NoneBefore c m (limitsAt c d m j) a b j
+  pub columns-none : NoneFits columns q → NoneBefore c m (boundsAt c d m j) a b j
   columns-none none k l n before =
-      gathered-none-fits c m a b columns low (limitsAt c d m j) g (limits-lanes c d m j .wide) (subst (NoneFits columns) e none) k l n
+      gathered-none-fits c m a b columns low (boundsAt c d m j) g (bounds-lanes c d m j .wide) (subst (NoneFits columns) e none) k l n
 
   -- One does.
   pub columns-some : Bytes m → countTo (listed c m) a < countTo (listed c m) b → b ≤ j → (n : ℕ) → j < n → listed c m j ≡ true → FittingColumn columns q
@@ -42,7 +42,7 @@ module _ (c d : ℕ) (m : List ℕ) (j : ℕ) (q : List ℕ) (e : q ≡ limitsAt
     place = j;
     inside = l;
     shown = t;
-    hider = gathered-fits c m a b columns low (limitsAt c d m j) g (limits-lanes c d m j .wide) bytes some j later (subst (FittingColumn columns) e f);
+    hider = gathered-fits c m a b columns low (boundsAt c d m j) g (bounds-lanes c d m j .wide) bytes some j later (subst (FittingColumn columns) e f);
   }
 
 -- ---- turns
@@ -51,34 +51,34 @@ module _ (c d : ℕ) (m : List ℕ) where
   pub unhidden-none : (a b i : ℕ) → Unhidden c d m a b i i
   unhidden-none a b i j l g = absurd (omega arith)
 
-  pub unhidden-more : (a b i e : ℕ) → Unhidden c d m a b i e → (listed c m e ≡ true → NoneBefore c m (limitsAt c d m e) a b e) → Unhidden c d m a b i (e + 1)
+  pub unhidden-more : (a b i e : ℕ) → Unhidden c d m a b i e → (listed c m e ≡ true → NoneBefore c m (boundsAt c d m e) a b e) → Unhidden c d m a b i (e + 1)
   unhidden-more a b i e h g j l n t = go (ℕ-discrete j e)
     where
-      go : Dec (j ≡ e) → NoneBefore c m (limitsAt c d m j) a b j
-      go (yes same) = subst (λ (z : ℕ). NoneBefore c m (limitsAt c d m z) a b z) (sym same) (g (ap (listed c m) (sym same) ∙ t))
+      go : Dec (j ≡ e) → NoneBefore c m (boundsAt c d m j) a b j
+      go (yes same) = subst (λ (z : ℕ). NoneBefore c m (boundsAt c d m z) a b z) (sym same) (g (ap (listed c m) (sym same) ∙ t))
       go (no other) = h j l (omega arith) t
 
   pub unhidden-join : (a b i e n : ℕ) → Unhidden c d m a b i e → Unhidden c d m a b e n → Unhidden c d m a b i n
   unhidden-join a b i e n h g j l k t = go (decLt j e)
     where
-      go : Dec (j < e) → NoneBefore c m (limitsAt c d m j) a b j
+      go : Dec (j < e) → NoneBefore c m (boundsAt c d m j) a b j
       go (yes before) = h j l before t
       go (no after) = g j (omega arith) k t
 
   -- One place more within a chunk.
-  pub unhidden-within : (a e : ℕ) → Unhidden c d m a e a e → (listed c m e ≡ true → NoneBefore c m (limitsAt c d m e) a e e) → Unhidden c d m a (e + 1) a (e + 1)
+  pub unhidden-within : (a e : ℕ) → Unhidden c d m a e a e → (listed c m e ≡ true → NoneBefore c m (boundsAt c d m e) a e e) → Unhidden c d m a (e + 1) a (e + 1)
   unhidden-within a e h g j l n t k s i before = go (ℕ-discrete j e)
     where
-      go : Dec (j ≡ e) → fits Listed c m (limitsAt c d m j) k ≡ false
+      go : Dec (j ≡ e) → fits Listed c m (boundsAt c d m j) k ≡ false
       go (yes same) =
-          subst (λ (z : ℕ). fits Listed c m (limitsAt c d m z) k ≡ false) (sym same) (g (ap (listed c m) (sym same) ∙ t) k s (omega arith) (omega arith))
+          subst (λ (z : ℕ). fits Listed c m (boundsAt c d m z) k ≡ false) (sym same) (g (ap (listed c m) (sym same) ∙ t) k s (omega arith) (omega arith))
       go (no other) = h j l (omega arith) t k s (omega arith) before
 
   -- A chunk more, which hides none of its own moves and none that is later.
   pub unhidden-chunk : (n a b : ℕ) → Unhidden c d m 0 a 0 n → Unhidden c d m a b a b → Unhidden c d m a b b n → Unhidden c d m 0 b 0 n
   unhidden-chunk n a b h own later j l g t k z s before = go (decLt k a) (decLt j b)
     where
-      go : Dec (k < a) → Dec (j < b) → fits Listed c m (limitsAt c d m j) k ≡ false
+      go : Dec (k < a) → Dec (j < b) → fits Listed c m (boundsAt c d m j) k ≡ false
       go (yes passed) _ = h j l g t k z passed before
       go (no new) (yes within) = own j (omega arith) within t k (omega arith) s before
       go (no new) (no after) = later j (omega arith) g t k (omega arith) s before

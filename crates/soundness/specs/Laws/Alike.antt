@@ -13,8 +13,8 @@ use Rattle.promises.specs.Layout.{sizeIn, dimensionIn, countIn, lineIn, boardIn
 use Rattle.promises.specs.Sound.{Stands, Sound, Holding}
 use Rattle.promises.specs.Used.{SameInUse}
 use Rattle.promises.specs.Run.{Bytes}
-use Rattle.memory.specs.Tests.{headRight, numbersRight, orderRight, marksRight}
-use Rattle.soundness.specs.Laws.Decide.{sound-head, sound-numbers, sound-order, sound-heights, sound-marks, right-sound}
+use Rattle.memory.specs.Tests.{headRight, numbersRight, orderRight, flagsRight}
+use Rattle.soundness.specs.Laws.Decide.{sound-head, sound-numbers, sound-order, sound-heights, sound-flags, right-sound}
 use Rattle.soundness.specs.Laws.Used.{used-board, used-alone}
 use Rattle.soundness.specs.Laws.Front.{one-tree}
 
@@ -50,7 +50,7 @@ sound-or-not m b =
     (λ g.
     byCases (heightsRight (heightsIn (lineIn m)))
     (λ h.
-    byCases (marksRight (sizeIn m) (dimensionIn m) (countIn m) m) (λ k. inl (right-sound m b e f g h k)) (λ k. inr (λ s. both-ways (sound-marks m b s) k)))
+    byCases (flagsRight (sizeIn m) (dimensionIn m) (countIn m) m) (λ k. inl (right-sound m b e f g h k)) (λ k. inr (λ s. both-ways (sound-flags m b s) k)))
     (λ h. inr (λ s. both-ways (sound-heights m s) h)))
     (λ g. inr (λ s. both-ways (sound-order m s) g)))
     (λ f. inr (λ s. both-ways (sound-numbers m s) f)))

@@ -21,7 +21,7 @@ use Rattle.promises.specs.Run.{Bytes}
 use Rattle.promises.specs.declared.Verdict.{Verdict}
 use Rattle.promises.specs.declared.Outcome.{Outcome}
 use Rattle.promises.specs.declared.Outcome.the-variants.{Accepted, ShortMemory, OutOfRange, Unsound, NumberTooLarge, NumberTwice, NumberAbsent, BadArgument, FewRows, BlockTooLarge, BadHours}
-use Rattle.promises.specs.declared.Answer.{Answer}
+use Rattle.promises.specs.declared.CallResult.{CallResult}
 use Rattle.soundness.specs.Laws.Alike.{Alike, same-alike, used-alike, holding-alike, alike-dimension, alike-sound, by-soundness}
 
 -- ---- what is said
@@ -54,7 +54,7 @@ verdict-same v w e =
     let outcome = sym (outcome-of (v .outcome)) ∙ ap (λ (a : calls.Answer). outcomeOf (a .number)) e ∙ outcome-of (w .outcome) in
     (λ i. record { outcome = outcome i; detail = e i .detail })
 
-said-same : {a : calls.Answer} {rows : List Row} {nodes : ℕ} {lent lent' lent'' : List Row} {r s : Answer}
+said-same : {a : calls.Answer} {rows : List Row} {nodes : ℕ} {lent lent' lent'' : List Row} {r s : CallResult}
     → Said a rows nodes lent r lent' → Said a rows nodes lent s lent'' → (s ≡ r) × (lent'' ≡ lent')
 said-same {a} {rows} {nodes} {lent} {r = r} {s = s} p q =
     let e = verdict-same (s .verdict) (r .verdict) (q .answers ∙ sym (p .answers)) in
@@ -86,7 +86,7 @@ module _ (c d : ℕ) (rows : List InputRow) {m n m' n' : List ℕ} (alike : Alik
       let after : Verdict → Type 0 = λ u. MemoryAfter (loadWrites c) (numberOf u) n n' (loaded c d rows) (loadTree d (map moveOf rows)) in
       after-alike alike m' n' (loadWrites c) (loadWrites c) (numberOf v) (loaded c d rows) (loadTree d (map moveOf rows)) (p .left) (subst after load-alone (p' .left))
 
-module _ {m n : List ℕ} (bytes : Bytes m) (alike : Alike m n) {lent lent' lent'' : List Row} {r s : Answer} where
+module _ {m n : List ℕ} (bytes : Bytes m) (alike : Alike m n) {lent lent' lent'' : List Row} {r s : CallResult} where
   query-alone : (q : Query) → QueryPromise q m lent r lent' → QueryPromise q n lent s lent'' → (s ≡ r) × (lent'' ≡ lent')
   query-alone q p p' =
       by-soundness alike bytes
@@ -113,7 +113,7 @@ module _ {m n : List ℕ} (bytes : Bytes m) (alike : Alike m n) {lent lent' lent
         (p .left k)
         (subst₃
         (λ (v : Verdict) (b : Board) (d : ℕ). MemoryAfter (changeWrites (sizeIn n) x) (numberOf v) n n' (changed b x) (changeTree d x (k .tree)))
-        (ap (λ (a : Answer). a .verdict) (change-alone x (p .said) (p' .said) .0)) (alike .board) (alike-dimension alike) (p' .left (alike-sound alike k))))
+        (ap (λ (a : CallResult). a .verdict) (change-alone x (p .said) (p' .said) .0)) (alike .board) (alike-dimension alike) (p' .left (alike-sound alike k))))
         (λ f f'. same-memory alike m' n' (p .unsound f) (p' .unsound f'))
 
 -- ---- the whole
@@ -123,10 +123,10 @@ module _ {m n : List ℕ} (bytes : Bytes m) (alike : Alike m n) {lent lent' lent
 pub record SameAnswers (m n : List ℕ) : Type 0 where
   pub loads : (c d : ℕ) (rows : List InputRow) (v w : Verdict) (m' n' : List ℕ) → length n ≡ length m → LoadPromise c d rows m v m' → LoadPromise c d rows n w n'
       → (w ≡ v) × Alike m' n'
-  pub queries : (q : Query) (lent lent' lent'' : List Row) (r s : Answer) → QueryPromise q m lent r lent' → QueryPromise q n lent s lent'' → (s ≡ r) × (lent'' ≡ lent')
-  pub previews : (x : Change) (lent lent' lent'' : List Row) (r s : Answer) → PreviewPromise x m lent r lent' → PreviewPromise x n lent s lent''
+  pub queries : (q : Query) (lent lent' lent'' : List Row) (r s : CallResult) → QueryPromise q m lent r lent' → QueryPromise q n lent s lent'' → (s ≡ r) × (lent'' ≡ lent')
+  pub previews : (x : Change) (lent lent' lent'' : List Row) (r s : CallResult) → PreviewPromise x m lent r lent' → PreviewPromise x n lent s lent''
       → (s ≡ r) × (lent'' ≡ lent')
-  pub changes : (x : Change) (lent lent' lent'' : List Row) (r s : Answer) (m' n' : List ℕ) → ChangePromise x m lent r m' lent' → ChangePromise x n lent s n' lent''
+  pub changes : (x : Change) (lent lent' lent'' : List Row) (r s : CallResult) (m' n' : List ℕ) → ChangePromise x m lent r m' lent' → ChangePromise x n lent s n' lent''
       → (s ≡ r) × (lent'' ≡ lent') × Alike m' n'
 
 pub alike-answers : (m n : List ℕ) → Bytes m → Alike m n → SameAnswers m n
@@ -142,6 +142,6 @@ pub answers-alone : (m n : List ℕ) → Bytes m → SameInUse m n → SameAnswe
 answers-alone m n bytes same = alike-answers m n bytes (used-alike m n same)
 
 -- Card 2: a preview answers, counts, opens and tells what the call does on the same memory with the same rows lent.
-pub preview-equal : (x : Change) (m : List ℕ) → Bytes m → {m' : List ℕ} {lent lent' lent'' : List Row} {r s : Answer} → PreviewPromise x m lent r lent' → ChangePromise x m lent s m' lent''
+pub preview-equal : (x : Change) (m : List ℕ) → Bytes m → {m' : List ℕ} {lent lent' lent'' : List Row} {r s : CallResult} → PreviewPromise x m lent r lent' → ChangePromise x m lent s m' lent''
     → (r ≡ s) × (lent' ≡ lent'')
 preview-equal x m bytes p c = change-alone bytes (same-alike m) x (c .said) p

@@ -21,7 +21,7 @@ use Rattle.line.specs.Heights.{heightsRight}
 use Rattle.line.specs.Laws.Line.{moves-line}
 use Rattle.line.specs.Laws.Decode.{treeOf}
 use Rattle.line.specs.Laws.Heights.{heights-right, right-heights}
-use Rattle.promises.specs.Layout.{sizeIn, dimensionIn, countIn, numberIn, markIn, moveIn, tab, heightsFrom, lineFrom, lineIn, boardIn, keptFrom, keptIn}
+use Rattle.promises.specs.Layout.{sizeIn, dimensionIn, countIn, numberIn, flagIn, moveIn, tab, heightsFrom, lineFrom, lineIn, boardIn, keptFrom, keptIn}
 use Rattle.promises.specs.Sound.{Stands, Sound}
 use Rattle.promises.specs.Run.{Bytes}
 use Rattle.promises.specs.Laws.Tab.{each-tab}
@@ -29,13 +29,13 @@ use Rattle.promises.specs.Laws.Stands.{costs-row, stands-dimension, stands-move
 use Rattle.memory.specs.Room.{Room, Numbers, Readable}
 use Rattle.memory.specs.Held.{HeadOf}
 use Rattle.memory.specs.declared.head.Head.{Head}
-use Rattle.memory.specs.Tests.{headRight, numbersRight, orderRight, isListed, hiddenBefore, marksRight, Decides}
+use Rattle.memory.specs.Tests.{headRight, numbersRight, orderRight, isListed, hiddenBefore, flagsRight, Decides}
 use Rattle.memory.specs.Laws.Lines.{movesIn-line, heightsIn-line, numbers-each, each-numbers}
 use Rattle.memory.specs.Laws.Ordered.{order-right}
 use Rattle.memory.specs.Laws.Turns.{numbers-right, blocks-right, right-numbers}
 use Rattle.memory.specs.Laws.Blocks as blocks
 use Rattle.soundness.specs.Laws.Head.{HeadRight, head-right, right-head}
-use Rattle.memory.specs.Laws.Marks.{marks-kept, kept-marks}
+use Rattle.memory.specs.Laws.Flags.{flags-kept, kept-flags}
 
 -- ---- the moves of the line
 
@@ -49,18 +49,18 @@ module _ (c d n : ℕ) (m : List ℕ) where
     in-order = ap (ordered d) (sym (movesIn-line c d n m)) ∙ order-right c d n m ∙ r
 
     listed : Move → Bool
-    listed x = eqb (markIn c m (x .number)) 1
+    listed x = eqb (flagIn c m (x .number)) 1
 
-    marks-right : marksRight c d n m ≡ true → keptFrom c m (movesIn (lineFrom c d n m)) ≡ skyline d (movesIn (lineFrom c d n m))
-    unfolding marksRight isListed hiddenBefore keptFrom listed moveIn
-    marks-right e =
+    flags-right : flagsRight c d n m ≡ true → keptFrom c m (movesIn (lineFrom c d n m)) ≡ skyline d (movesIn (lineFrom c d n m))
+    unfolding flagsRight isListed hiddenBefore keptFrom listed moveIn
+    flags-right e =
         subst (λ (ms : List Move). select listed ms ≡ skyline d ms) (sym (movesIn-line c d n m))
-        (marks-kept d c l listed (moveIn c d m) n moves-fit in-order e)
+        (flags-kept d c l listed (moveIn c d m) n moves-fit in-order e)
 
-    right-marks : keptFrom c m (movesIn (lineFrom c d n m)) ≡ skyline d (movesIn (lineFrom c d n m)) → marksRight c d n m ≡ true
-    unfolding marksRight isListed hiddenBefore keptFrom listed moveIn
-    right-marks e =
-        kept-marks d c l listed (moveIn c d m) n moves-fit in-order
+    right-flags : keptFrom c m (movesIn (lineFrom c d n m)) ≡ skyline d (movesIn (lineFrom c d n m)) → flagsRight c d n m ≡ true
+    unfolding flagsRight isListed hiddenBefore keptFrom listed moveIn
+    right-flags e =
+        kept-flags d c l listed (moveIn c d m) n moves-fit in-order
         (subst (λ (ms : List Move). select listed ms ≡ skyline d ms) (movesIn-line c d n m) e)
 
 -- ---- a sound memory passes each test, and one that passes all is sound
@@ -96,15 +96,15 @@ module _ (m : List ℕ) where
       ap (λ (rs : List Placed). heightsRight (heightsIn rs)) (s .stands .line) ∙ heights-right (s .tree) (ruled-filled d (s .tree) (s .stands .rules))
 
   module _ (b : Bytes m) where
-    pub sound-marks : Sound m → marksRight (sizeIn m) (dimensionIn m) (countIn m) m ≡ true
+    pub sound-flags : Sound m → flagsRight (sizeIn m) (dimensionIn m) (countIn m) m ≡ true
     unfolding lineIn keptIn boardIn
-    sound-marks s =
-        right-marks c d n m b (stands-dimension m (s .tree) (s .stands)) (stands-numbers (s .stands)) (sound-order s)
+    sound-flags s =
+        right-flags c d n m b (stands-dimension m (s .tree) (s .stands)) (stands-numbers (s .stands)) (sound-order s)
         (s .stands .kept ∙ ap (skyline d) (stands-moves m (s .tree) (s .stands)))
 
     pub right-sound : headRight m ≡ true → numbersRight (sizeIn m) (countIn m) m ≡ true
         → orderRight (sizeIn m) (dimensionIn m) (countIn m) m ≡ true → heightsRight (heightsIn (lineIn m)) ≡ true
-        → marksRight (sizeIn m) (dimensionIn m) (countIn m) m ≡ true → Sound m
+        → flagsRight (sizeIn m) (dimensionIn m) (countIn m) m ≡ true → Sound m
     unfolding lineIn keptIn boardIn
     right-sound e f g h k = record { tree = t; stands = stands; blocks = blocks.right-blocks c d n m (blocks-right c m n f) }
       where
@@ -134,7 +134,7 @@ module _ (m : List ℕ) where
               numbers = numbers-each c d n m numbers;
               line = line;
               rules = both-ruled d t (right-heights (lineIn m) h .0) (ap (ordered d) (sym moves) ∙ order-right c d n m ∙ g);
-              kept = marks-right c d n m b (dimension-most d (head .dimension)) numbers g k ∙ ap (skyline d) moves;
+              kept = flags-right c d n m b (dimension-most d (head .dimension)) numbers g k ∙ ap (skyline d) moves;
             }
 
 -- ---- the answers of the code, test by test
@@ -159,8 +159,8 @@ module _ (m : List ℕ) where
         ap heightsRight (sym (heightsIn-line (h .size) (h .dimension) (h .count) m))
         ∙ (λ i. heightsRight (heightsIn (lineFrom (own .size i) (own .dimension i) (own .count i) m)))
 
-    same-marks : marksRight (h .size) (h .dimension) (h .count) m ≡ marksRight (sizeIn m) (dimensionIn m) (countIn m) m
-    same-marks = λ i. marksRight (own .size i) (own .dimension i) (own .count i) m
+    same-flags : flagsRight (h .size) (h .dimension) (h .count) m ≡ flagsRight (sizeIn m) (dimensionIn m) (countIn m) m
+    same-flags = λ i. flagsRight (own .size i) (own .dimension i) (own .count i) m
 
     pub numbers-decides : numbersRight (h .size) (h .count) m ≡ false → Decides false m
     numbers-decides e = refuted (λ s. both-ways (same-numbers ∙ sound-numbers m s) e)
@@ -171,12 +171,12 @@ module _ (m : List ℕ) where
     pub heights-decides : heightsRight (heightsFrom (h .size) (h .count) m) ≡ false → Decides false m
     heights-decides e = refuted (λ s. both-ways (same-heights ∙ sound-heights m s) e)
 
-    pub marks-decides : Bytes m → headRight m ≡ true → numbersRight (h .size) (h .count) m ≡ true → orderRight (h .size) (h .dimension) (h .count) m ≡ true
-        → heightsRight (heightsFrom (h .size) (h .count) m) ≡ true → (r : Bool) → r ≡ marksRight (h .size) (h .dimension) (h .count) m → Decides r m
-    marks-decides b e j k l r q =
+    pub flags-decides : Bytes m → headRight m ≡ true → numbersRight (h .size) (h .count) m ≡ true → orderRight (h .size) (h .dimension) (h .count) m ≡ true
+        → heightsRight (heightsFrom (h .size) (h .count) m) ≡ true → (r : Bool) → r ≡ flagsRight (h .size) (h .dimension) (h .count) m → Decides r m
+    flags-decides b e j k l r q =
         record {
-          sound = λ t. right-sound m b e (sym same-numbers ∙ j) (sym same-order ∙ k) (sym same-heights ∙ l) (sym same-marks ∙ sym q ∙ t);
-          unsound = λ u s. both-ways (q ∙ same-marks ∙ sound-marks m b s) u;
+          sound = λ t. right-sound m b e (sym same-numbers ∙ j) (sym same-order ∙ k) (sym same-heights ∙ l) (sym same-flags ∙ sym q ∙ t);
+          unsound = λ u s. both-ways (q ∙ same-flags ∙ sound-flags m b s) u;
         }
 
     -- What the tests passed give those that follow.

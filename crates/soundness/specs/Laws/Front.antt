@@ -1,5 +1,5 @@
 -- A memory holds at most one tree; of sound memory the bytes in use are among its first bytes, so a copy of these holds the same.
-use Prim.Native.Nat.{ℕ, _+_, _*_, _≤_, _<_}
+use Prim.Native.Nat.{ℕ, _+_, _≤_, _<_}
 use mathlib.Core.Bool.{true, _||_}
 use mathlib.Core.List.{List}
 use mathlib.Core.Path.{_≡_, sym, ap, _∙_, subst}
@@ -14,7 +14,7 @@ use Rattle.model.specs.Laws.Bool.{or-cases}
 use Rattle.model.specs.Laws.Basics.{each-mem, any-witness}
 use Rattle.model.specs.Laws.Tree.{ruled-filled}
 use Rattle.line.specs.Laws.Decode.{line-injective}
-use Rattle.promises.specs.Layout.{numberPlace, heightPlace, markPlace, blockPlace, costPlace, workPlace, sizeIn, dimensionIn, countIn, numberIn, tab, boardIn}
+use Rattle.promises.specs.Layout.{numberPlace, heightPlace, flagPlace, blockPlace, costPlace, workPlace, sizeIn, dimensionIn, countIn, numberIn, tab, boardIn}
 use Rattle.promises.specs.Sound.{Stands, Holding}
 use Rattle.promises.specs.Written.{inArea}
 use Rattle.promises.specs.Used.{headUse, rowsUse, moveUse, inUse, longEnough, SameInUse}
@@ -39,19 +39,19 @@ SameFields c m m' = (i : ℕ) → i < workPlace c c → getD m' i 0 ≡ getD m i
 -- The bytes in use of sound memory come before the work area.
 module _ {m : List ℕ} {t : Tree} (s : Stands m t) (i : ℕ) where
   rows-front : rowsUse (sizeIn m) (countIn m) i ≡ true → i < workPlace (sizeIn m) 0
-  unfolding rowsUse numberPlace heightPlace workPlace
+  unfolding rowsUse
   rows-front h =
-      or-cases (inArea 16 (16 + 2 * countIn m) i) (inArea (16 + 2 * sizeIn m + 0) (16 + 2 * sizeIn m + countIn m) i) h
-      (λ r. omega (arith, area-ends 16 (16 + 2 * countIn m) i r, s .count))
-      (λ r. omega (arith, area-ends (16 + 2 * sizeIn m + 0) (16 + 2 * sizeIn m + countIn m) i r, s .count))
+      or-cases (inArea (numberPlace 0) (numberPlace (countIn m)) i) (inArea (heightPlace (sizeIn m) 0) (heightPlace (sizeIn m) (countIn m)) i) h
+      (λ r. omega (arith, area-ends (numberPlace 0) (numberPlace (countIn m)) i r, s .count))
+      (λ r. omega (arith, area-ends (heightPlace (sizeIn m) 0) (heightPlace (sizeIn m) (countIn m)) i r, s .count))
 
   move-front : (number : ℕ) → number < sizeIn m → moveUse (sizeIn m) (dimensionIn m) i number ≡ true → i < workPlace (sizeIn m) 0
-  unfolding moveUse markPlace blockPlace costPlace workPlace
+  unfolding moveUse
   move-front number l h =
-      or-cases (eqb i (markPlace (sizeIn m) number) || eqb i (blockPlace (sizeIn m) number)) (inArea (costPlace (sizeIn m) number 0) (costPlace (sizeIn m) number (dimensionIn m)) i) h
+      or-cases (eqb i (flagPlace (sizeIn m) number) || eqb i (blockPlace (sizeIn m) number)) (inArea (costPlace (sizeIn m) number 0) (costPlace (sizeIn m) number (dimensionIn m)) i) h
       (λ k.
-      or-cases (eqb i (markPlace (sizeIn m) number)) (eqb i (blockPlace (sizeIn m) number)) k
-      (λ r. omega (arith, eqb-true i (markPlace (sizeIn m) number) r))
+      or-cases (eqb i (flagPlace (sizeIn m) number)) (eqb i (blockPlace (sizeIn m) number)) k
+      (λ r. omega (arith, eqb-true i (flagPlace (sizeIn m) number) r))
       (λ r. omega (arith, eqb-true i (blockPlace (sizeIn m) number) r)))
       (λ r. omega (arith, area-ends (costPlace (sizeIn m) number 0) (costPlace (sizeIn m) number (dimensionIn m)) i r, stands-dimension m t s))
 
@@ -62,7 +62,7 @@ module _ {m : List ℕ} {t : Tree} (s : Stands m t) (i : ℕ) where
       move-front (w .0) (each-mem (λ k. k < sizeIn m) (each-tab (numberIn (sizeIn m) m) (λ k. k < sizeIn m) (countIn m) (stands-numbers m s)) (w .1)) (w .2)
 
   pub use-fields : inUse m i ≡ true → i < workPlace (sizeIn m) 0
-  unfolding inUse headUse workPlace
+  unfolding inUse headUse
   use-fields h =
       or-cases (headUse i || rowsUse (sizeIn m) (countIn m) i) (any (moveUse (sizeIn m) (dimensionIn m) i) (tab (numberIn (sizeIn m) m) (countIn m))) h
       (λ k.
@@ -72,16 +72,16 @@ module _ {m : List ℕ} {t : Tree} (s : Stands m t) (i : ℕ) where
       moves-front
 
   pub use-front : inUse m i ≡ true → i < memoryNeed (sizeIn m)
-  unfolding memoryNeed workPlace
+  unfolding memoryNeed
   use-front h = omega (arith, use-fields h)
 
 module _ (m m' : List ℕ) (same : SameFields (sizeIn m) m m') where
   fields-size : sizeIn m' ≡ sizeIn m
-  unfolding sizeIn workPlace
+  unfolding sizeIn
   fields-size = word-same m m' 0 (same 0 (omega arith)) (same 1 (omega arith))
 
   fields-used : {t : Tree} → Stands m t → memoryNeed (sizeIn m) ≤ length m' → SameInUse m m'
-  unfolding longEnough workPlace
+  unfolding longEnough
   fields-used s l =
       record {
         bytes = λ i h. same i (omega (arith, use-fields s i h));
@@ -102,7 +102,7 @@ copied-holding {m} m' h same long =
 
 module _ (m m' : List ℕ) (same : SameFront m m') where
   front-fields : SameFields (sizeIn m) m m'
-  unfolding memoryNeed workPlace
+  unfolding memoryNeed
   front-fields i l = same i (omega arith)
 
   front-used : {t : Tree} → Stands m t → memoryNeed (sizeIn m) ≤ length m' → SameInUse m m'

@@ -17,7 +17,7 @@ use Rattle.model.specs.Calls.{sizeBad, memoryNeed, blocksOn}
 use Rattle.model.specs.Laws.Bool.{or-left, or-right}
 use Rattle.model.specs.Laws.Basics.{select-ext}
 use Rattle.line.specs.Line.{movesIn}
-use Rattle.promises.specs.Layout.{wordAt, numberPlace, heightPlace, markPlace, blockPlace, costPlace, sizeIn, dimensionIn, formatIn, countIn, numberIn, heightIn, markIn, blockIn, costIn, costsIn, moveIn, tab, lineFrom, lineIn, boardIn, keptFrom, keptIn}
+use Rattle.promises.specs.Layout.{wordAt, numberPlace, heightPlace, flagPlace, blockPlace, costPlace, sizeIn, dimensionIn, formatIn, countIn, numberIn, heightIn, flagIn, blockIn, costIn, costsIn, moveIn, tab, lineFrom, lineIn, boardIn, keptFrom, keptIn}
 use Rattle.promises.specs.Sound.{Stands}
 use Rattle.promises.specs.Written.{inArea}
 use Rattle.promises.specs.Used.{headUse, rowsUse, moveUse, inUse, longEnough, SameInUse}
@@ -79,22 +79,22 @@ module _ (m m' : List ℕ) (same : SameInUse m m') where
   count-same = word-same m m' 4 (count-byte 4 (omega arith) (omega arith)) (count-byte 5 (omega arith) (omega arith))
 
   module _ (i : ℕ) (l : i < countIn m) where
-    number-byte : (o : ℕ) → 16 + 2 * i ≤ o → o < 18 + 2 * i → getD m' o 0 ≡ getD m o 0
-    unfolding rowsUse numberPlace
+    number-byte : (o : ℕ) → numberPlace i ≤ o → o < numberPlace i + 2 → getD m' o 0 ≡ getD m o 0
+    unfolding rowsUse
     number-byte o k u =
         rows-byte o
-        (or-left (inArea (numberPlace c 0) (numberPlace c n) o) (inArea (heightPlace c 0) (heightPlace c n) o)
-        (in-area (numberPlace c 0) (numberPlace c n) o (omega arith) (omega arith)))
+        (or-left (inArea (numberPlace 0) (numberPlace n) o) (inArea (heightPlace c 0) (heightPlace c n) o)
+        (in-area (numberPlace 0) (numberPlace n) o (omega arith) (omega arith)))
 
     number-same : numberIn (sizeIn m) m' i ≡ numberIn (sizeIn m) m i
-    unfolding numberIn numberPlace
-    number-same = word-same m m' (16 + 2 * i) (number-byte (16 + 2 * i) (omega arith) (omega arith)) (number-byte (16 + 2 * i + 1) (omega arith) (omega arith))
+    unfolding numberIn
+    number-same = word-same m m' (numberPlace i) (number-byte (numberPlace i) (omega arith) (omega arith)) (number-byte (numberPlace i + 1) (omega arith) (omega arith))
 
     height-same : heightIn (sizeIn m) m' i ≡ heightIn (sizeIn m) m i
-    unfolding heightIn rowsUse heightPlace
+    unfolding heightIn rowsUse
     height-same =
-        rows-byte (16 + 2 * c + i)
-        (or-right (inArea (numberPlace c 0) (numberPlace c n) (heightPlace c i)) (inArea (heightPlace c 0) (heightPlace c n) (heightPlace c i))
+        rows-byte (heightPlace c i)
+        (or-right (inArea (numberPlace 0) (numberPlace n) (heightPlace c i)) (inArea (heightPlace c 0) (heightPlace c n) (heightPlace c i))
         (in-area (heightPlace c 0) (heightPlace c n) (heightPlace c i) (omega arith) (omega arith)))
 
     abbrev number : ℕ
@@ -107,26 +107,26 @@ module _ (m m' : List ℕ) (same : SameInUse m m') where
         (or-right (headUse o || rowsUse c n o) (moves-use o)
         (any-tab (numberIn c m) (moveUse c d o) n ∙ anyTo-found (λ j. moveUse c d o (numberIn c m j)) n i l h))
 
-    mark-same : markIn (sizeIn m) m' (numberIn (sizeIn m) m i) ≡ markIn (sizeIn m) m (numberIn (sizeIn m) m i)
-    unfolding markIn moveUse
-    mark-same =
-        let o = markPlace c number in
-        move-byte o (or-left (eqb o (markPlace c number) || eqb o (blockPlace c number)) (inArea (costPlace c number 0) (costPlace c number d) o) (or-left (eqb o (markPlace c number)) (eqb o (blockPlace c number)) (eq-eqb o (markPlace c number) refl)))
+    flag-same : flagIn (sizeIn m) m' (numberIn (sizeIn m) m i) ≡ flagIn (sizeIn m) m (numberIn (sizeIn m) m i)
+    unfolding flagIn moveUse
+    flag-same =
+        let o = flagPlace c number in
+        move-byte o (or-left (eqb o (flagPlace c number) || eqb o (blockPlace c number)) (inArea (costPlace c number 0) (costPlace c number d) o) (or-left (eqb o (flagPlace c number)) (eqb o (blockPlace c number)) (eq-eqb o (flagPlace c number) refl)))
 
     block-same : blockIn (sizeIn m) m' (numberIn (sizeIn m) m i) ≡ blockIn (sizeIn m) m (numberIn (sizeIn m) m i)
     unfolding blockIn moveUse
     block-same =
         let o = blockPlace c number in
-        move-byte o (or-left (eqb o (markPlace c number) || eqb o (blockPlace c number)) (inArea (costPlace c number 0) (costPlace c number d) o) (or-right (eqb o (markPlace c number)) (eqb o (blockPlace c number)) (eq-eqb o (blockPlace c number) refl)))
+        move-byte o (or-left (eqb o (flagPlace c number) || eqb o (blockPlace c number)) (inArea (costPlace c number 0) (costPlace c number d) o) (or-right (eqb o (flagPlace c number)) (eqb o (blockPlace c number)) (eq-eqb o (blockPlace c number) refl)))
 
     cost-byte : (o : ℕ) → costPlace (sizeIn m) (numberIn (sizeIn m) m i) 0 ≤ o → o < costPlace (sizeIn m) (numberIn (sizeIn m) m i) (dimensionIn m) → getD m' o 0 ≡ getD m o 0
     unfolding moveUse
     cost-byte o k u =
         move-byte o
-        (or-right (eqb o (markPlace c number) || eqb o (blockPlace c number)) (inArea (costPlace c number 0) (costPlace c number d) o) (in-area (costPlace c number 0) (costPlace c number d) o k u))
+        (or-right (eqb o (flagPlace c number) || eqb o (blockPlace c number)) (inArea (costPlace c number 0) (costPlace c number d) o) (in-area (costPlace c number 0) (costPlace c number d) o k u))
 
     costs-same : costsIn (sizeIn m) (dimensionIn m) m' (numberIn (sizeIn m) m i) ≡ costsIn (sizeIn m) (dimensionIn m) m (numberIn (sizeIn m) m i)
-    unfolding costsIn costIn costPlace
+    unfolding costsIn costIn
     costs-same =
         ap (padded d)
         (tab-ext (costIn c m' number) (costIn c m number) d
@@ -148,13 +148,13 @@ module _ (m m' : List ℕ) (same : SameInUse m m') where
       (λ i. keptFrom (size-same i) m' (movesIn (line-same i)))
       ∙ select-ext listed' listed (movesIn (lineFrom c d n m))
       (subst (Each (λ x. listed' x ≡ listed x)) (sym (movesIn-line c d n m))
-      (each-tab (moveIn c d m) (λ x. listed' x ≡ listed x) n (λ i l. ap (λ (v : ℕ). eqb v 1) (mark-same i l))))
+      (each-tab (moveIn c d m) (λ x. listed' x ≡ listed x) n (λ i l. ap (λ (v : ℕ). eqb v 1) (flag-same i l))))
     where
       listed' : Move → Bool
-      listed' x = eqb (markIn c m' (x .number)) 1
+      listed' x = eqb (flagIn c m' (x .number)) 1
 
       listed : Move → Bool
-      listed x = eqb (markIn c m (x .number)) 1
+      listed x = eqb (flagIn c m (x .number)) 1
 
   blocks-same : blocksOn (movesIn (lineIn m')) (blockIn (sizeIn m') m') ≡ blocksOn (movesIn (lineIn m)) (blockIn (sizeIn m) m)
   unfolding lineIn

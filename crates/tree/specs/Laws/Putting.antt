@@ -28,8 +28,7 @@ use Rattle.memory.specs.Laws.Lines.{numbers-each, each-numbers, length-line, he
 use Rattle.tree.specs.Rows.{row, Inserted}
 use Rattle.nodes.specs.Places.{NodeStart, NodeEnd}
 use Rattle.tree.specs.Enter.{PlaceAsked, TakesOver, PutAsked, RowPut}
-use Rattle.nodes.specs.Laws.Heights.{costs-line}
-use Rattle.nodes.specs.Laws.Heights.{end-line, start-line}
+use Rattle.nodes.specs.Laws.Heights.{costs-line, end-line, start-line}
 
 -- ---- whether it takes over
 

@@ -29,7 +29,7 @@ unfoldable pub stay : ℕ → (ℕ → Move) → ℕ → List Move → ℕ → B
 stay d f g after i = not (eqb i g) && not (hidden d after (f i))
 
 pub record Places (d : ℕ) (f : ℕ → Move) (is : List ℕ) (g : ℕ) (after : List Move) (listed : ℕ → Bool) : Type 0 where
-  pub marks : (i : ℕ) → List·Memᴰ i is → listed i ≡ not (hidden d (map f is) (f i))
+  pub flags : (i : ℕ) → List·Memᴰ i is → listed i ≡ not (hidden d (map f is) (f i))
   pub there : (i : ℕ) → List·Memᴰ i is → eqb i g ≡ false → List·Memᴰ (f i) after
   pub away : (i : ℕ) → List·Memᴰ i is → eqb i g ≡ true → ¬ List·Memᴰ (f i) after
 
@@ -37,8 +37,8 @@ module _ (d : ℕ) (f : ℕ → Move) (is : List ℕ) (g : ℕ) (after : List Mo
   listed-among : (i : ℕ) → List·Memᴰ i is → among (f i) (skyline d (map f is)) ≡ listed i
   listed-among i k =
       same-test (among (f i) (skyline d (map f is))) (listed i)
-      (λ h. q .marks i k ∙ not-flip (hidden d (map f is) (f i)) (skyline-mem d (map f is) (among-mem (f i) (skyline d (map f is)) h) .1))
-      (λ h. mem-among (mem-skyline d (Memᴰ·map f k) (not-back (hidden d (map f is) (f i)) (sym (q .marks i k) ∙ h))))
+      (λ h. q .flags i k ∙ not-flip (hidden d (map f is) (f i)) (skyline-mem d (map f is) (among-mem (f i) (skyline d (map f is)) h) .1))
+      (λ h. mem-among (mem-skyline d (Memᴰ·map f k) (not-back (hidden d (map f is) (f i)) (sym (q .flags i k) ∙ h))))
 
   stay-among : (i : ℕ) → List·Memᴰ i is → among (f i) (skyline d after) ≡ stay d f g after i
   unfolding stay
@@ -56,7 +56,7 @@ module _ (d : ℕ) (f : ℕ → Move) (is : List ℕ) (g : ℕ) (after : List Mo
   listed-places =
       select-map (λ x. not (hidden d (map f is) x)) f is
       ∙ ap (map f) (select-ext (λ i. not (hidden d (map f is) (f i))) listed is
-      (mem-each (λ i. not (hidden d (map f is) (f i)) ≡ listed i) is (λ i k. sym (q .marks i k))))
+      (mem-each (λ i. not (hidden d (map f is) (f i)) ≡ listed i) is (λ i k. sym (q .flags i k))))
 
   pub left-places : gone (skyline d (map f is)) (skyline d after) ≡ map f (select (λ i. listed i && not (stay d f g after i)) is)
   unfolding gone

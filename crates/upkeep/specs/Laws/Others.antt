@@ -14,7 +14,7 @@ use Rattle.model.specs.Sound.{Fit}
 use Rattle.model.specs.Laws.Bool.{byCases, both-ways, and-both, and-false-right, not-flip}
 use Rattle.model.specs.Laws.Order.{move-order, before-trans, before-irrefl}
 use Rattle.model.specs.Laws.Hiding.{earlier-hides, move-hiding}
-use Rattle.dominance.specs.Lanes.{Lanes, limit, isFirst}
+use Rattle.dominance.specs.Lanes.{Lanes, bound, isFirst}
 use Rattle.line.specs.Places.{moveAt}
 use Rattle.line.specs.Enter.{placeFor}
 use Rattle.promises.specs.Layout.{numberIn, moveIn, lineFrom}
@@ -76,14 +76,14 @@ module _ (c d n : ℕ) (m : List ℕ) (s : SoundRows c d n m) (b : Bytes m) wher
 -- ---- the search before the place
 
 module _ (c d n goes i : ℕ) (x : Move) (q m : List ℕ) (few : d ≤ rowCosts) (b : Bytes m) (parted : Parted c d n i x m)
-    (limits : Lanes (limit (isFirst d) (x .costs)) q) where
+    (bounds : Lanes (bound (isFirst d) (x .costs)) q) where
   other : ℕ → Bool
   other j = not (eqb j goes) && hides d (moveIn c d m j) x
 
   fits-hides : (j : ℕ) → j < i → fits All c m q j ≡ hides d (moveIn c d m j) x
   unfolding fits looksAt looks seenAt seen moveIn
   fits-hides j l =
-      words-within c d m few b (numberIn c m j) (x .costs) q (parted .wide) limits
+      words-within c d m few b (numberIn c m j) (x .costs) q (parted .wide) bounds
       ∙ sym (earlier-hides d (moveIn c d m j) x (parted .before j l) (row-length c d m (numberIn c m j) few ∙ sym (parted .wide)))
 
   unhidden : ((j : ℕ) → j < i → other j ≡ false) → hiddenByOthers c d n goes x m ≡ false

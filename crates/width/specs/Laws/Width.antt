@@ -17,8 +17,9 @@ use Rattle.model.specs.Lists.{hidden, skyline, dominators, band, dominated, ran
 use Rattle.model.specs.Hours.{blockOpen, openMoves}
 use Rattle.model.specs.Calls.{Board, listOf, queryRows, queryRefusal, queryAnswer, Answer, orElse, rowsAnswer}
 use Rattle.width.specs.Width.{Covered, list, bandQuery, rankQuery, onKQuery, chosenQuery, hoursQuery, queryOf, moveWith, rowWith, boardWith}
-use Rattle.model.specs.Laws.Basics.{each-mem, mem-each, each-map, each-append, each-select, any-map, any-ext, select-map, count-map, map-take}
+use Rattle.model.specs.Laws.Basics.{each-mem, mem-each, each-map, each-append, parts-each, any-map, any-ext, select-map, count-map, map-take}
 use Rattle.model.specs.Laws.Range.{each-place}
+use Rattle.model.specs.Laws.Chosen.{chosen-below}
 use Rattle.model.specs.Laws.Sorting.{map-sort}
 
 -- What g keeps of a row's costs: the first d, that those past d are zero, and that there are none.
@@ -28,20 +29,6 @@ pub record KeepsFirst (d : ℕ) (g : List ℕ → List ℕ) : Type 0 where
   pub none : g [] ≡ []
 
 -- ---- a set of the first d costs
-
-module _ {A : Type 0} where
-  each-parts : (P : A → Type 0) (k : ℕ) (xs : List A) → Each P xs → Each (Each P) (parts k xs)
-  unfolding parts
-  each-parts P zero xs es = (tt, tt)
-  each-parts P (suc k) [] es = tt
-  each-parts P (suc k) (x ∷ xs) es =
-      each-append (Each P) (map (λ ys. x ∷ ys) (parts k xs)) (parts (suc k) xs)
-      (each-map (Each P) (λ ys. x ∷ ys) (parts k xs) (mem-each (λ ys. P x × Each P ys) (parts k xs) (λ ys m. (es .0, each-mem (Each P) (each-parts P k xs (es .1)) m))))
-      (each-parts P (suc k) xs (es .1))
-
-chosen-first-costs : (d set : ℕ) → Each (λ i. i < d) (chosenCosts d set)
-unfolding chosenCosts
-chosen-first-costs d set = each-select _ (λ i. i < d) (numbersFrom 0 d) (each-place (λ i. i < d) d (λ i h. h))
 
 at-alike : (d : ℕ) (p p' : List ℕ) → take d p ≡ take d p' → (s : List ℕ) → Each (λ i. i < d) s → at s p ≡ at s p'
 unfolding at
@@ -76,7 +63,7 @@ module _ (d : ℕ) (g : List ℕ → List ℕ) (G : KeepsFirst d g) where
     dominates-on-with k =
         any-ext (λ s. dominatesAt s (g p) (g q)) (λ s. dominatesAt s p q) (parts k (numbersFrom 0 d))
         (mem-each (λ s. dominatesAt s (g p) (g q) ≡ dominatesAt s p q) (parts k (numbersFrom 0 d))
-        (λ s m. dominates-at-with s (each-mem (Each (λ i. i < d)) (each-parts (λ i. i < d) k (numbersFrom 0 d) (each-place (λ i. i < d) d (λ i h. h))) m)))
+        (λ s m. dominates-at-with s (each-mem (Each (λ i. i < d)) (parts-each (λ i. i < d) k (numbersFrom 0 d) (each-place (λ i. i < d) d (λ i h. h))) m)))
 
     z-before-with : (n m : ℕ) → zBefore d n (g p) m (g q) ≡ zBefore d n p m q
     unfolding zBefore
@@ -153,7 +140,7 @@ module _ (d : ℕ) (g : List ℕ → List ℕ) (G : KeepsFirst d g) where
 
     pub chosen-with : (set : ℕ) → chosen (chosenCosts d set) (map (moveWith g) ms) ≡ map (moveWith g) (chosen (chosenCosts d set) ms)
     unfolding chosen
-    chosen-with set = unbeaten-with (dominatesAt (chosenCosts d set)) (λ a b. dominates-at-with a b (chosenCosts d set) (chosen-first-costs d set))
+    chosen-with set = unbeaten-with (dominatesAt (chosenCosts d set)) (λ a b. dominates-at-with a b (chosenCosts d set) (chosen-below d set))
 
 -- ---- what calls tell
 

@@ -21,18 +21,13 @@ use Rattle.model.specs.Calls.{onBoard, Change, enter, withdraw, recost}
 use Rattle.model.specs.Opening.{opensFor, withdrawOpens, changeOpens}
 use Rattle.width.specs.Width.{moveWith, changeWith, entryWith, treeWith}
 use Rattle.model.specs.Laws.Bool.{cond-map}
-use Rattle.model.specs.Laws.Basics.{any-map, select-map, count-map, map-take}
+use Rattle.model.specs.Laws.Basics.{any-map, select-map, count-map, map-take, map-drop}
 use Rattle.model.specs.Laws.Sorting.{map-insert, map-sort, map-rising}
 use Rattle.width.specs.Laws.Width.{KeepsFirst, move-before-with, skyline-with}
 
 -- ---- lists mapped
 
 module _ {A B : Type 0} (f : A → B) where
-  map-drop : (n : ℕ) (xs : List A) → map f (drop n xs) ≡ drop n (map f xs)
-  map-drop zero xs = refl
-  map-drop (suc n) [] = refl
-  map-drop (suc n) (x ∷ xs) = map-drop n xs
-
   first-map : (z : A) (xs : List A) → firstOr (f z) (map f xs) ≡ f (firstOr z xs)
   unfolding firstOr
   first-map z [] = refl

@@ -13,11 +13,11 @@ use Rattle.zorder.specs.Between.{RowCosts}
 use Rattle.zorder.specs.Promise.{numberOf, AddressPromise, CostsPromise}
 use Rattle.zorder.specs.Refusal.{refusal, orZero, orZeros, costCountBad, costPastBad, addressBad, addressRefusal, costsRefusal}
 use Rattle.zorder.specs.Words.{wordBits, value, wordsOf}
-use Rattle.zorder.specs.declared.Words.{Words}
+use Rattle.zorder.specs.declared.AddressWords.{AddressWords}
 use Rattle.zorder.specs.declared.Verdict.{Verdict}
 use Rattle.zorder.specs.declared.Verdict.the-variants.{Accepted, BadCostCount, BadArgument}
-use Rattle.zorder.specs.declared.AddressAnswer.{AddressAnswer}
-use Rattle.zorder.specs.declared.CostsAnswer.{CostsAnswer}
+use Rattle.zorder.specs.declared.AddressResult.{AddressResult}
+use Rattle.zorder.specs.declared.CostsResult.{CostsResult}
 use Rattle.zorder.specs.Laws.Address.{address-lt'}
 use Rattle.zorder.specs.Laws.Between.{padded-row, row-costs, row-padded}
 use Rattle.zorder.specs.Laws.Inverse.{costsOf-costs, address-costs, costs-address}
@@ -66,7 +66,7 @@ unfolding numberOf
 number-zero e = ap numberOf e
 
 module _ (d : ℕ) (cs : List ℕ) (count : length cs ≡ rowCosts) (small : (i : ℕ) → getD cs i 0 < 2 ^ costBits)
-    (r : AddressAnswer) (p : AddressPromise d cs r) (good : r .verdict ≡ Accepted) where
+    (r : AddressResult) (p : AddressPromise d cs r) (good : r .verdict ≡ Accepted) where
   address-passed : (costCountBad d ≡ false) × (costPastBad d cs ≡ false)
   unfolding addressRefusal
   address-passed = passed (costCountBad d) (costPastBad d cs) (sym (p .number) ∙ number-zero good)
@@ -81,7 +81,7 @@ module _ (d : ℕ) (cs : List ℕ) (count : length cs ≡ rowCosts) (small : (i 
   costs-row = record { count = count; small = small; past = address-passed .1 }
 
   -- Costs, their address, and its costs.
-  pub costs-back : (s : CostsAnswer) → CostsPromise d (value (r .address)) s → (s .verdict ≡ Accepted) × (s .costs ≡ cs)
+  pub costs-back : (s : CostsResult) → CostsPromise d (value (r .address)) s → (s .verdict ≡ Accepted) × (s .costs ≡ cs)
   unfolding costsRefusal orZeros
   costs-back s q = (accepted-number (s .verdict) (q .number ∙ none), costs)
     where
@@ -99,7 +99,7 @@ module _ (d : ℕ) (cs : List ℕ) (count : length cs ≡ rowCosts) (small : (i 
           ∙ row-again d cs l costs-row
 
 -- An address, its costs, and their address.
-module _ (d : ℕ) (a : Words) (s : CostsAnswer) (p : CostsPromise d (value a) s) (good : s .verdict ≡ Accepted) where
+module _ (d : ℕ) (a : AddressWords) (s : CostsResult) (p : CostsPromise d (value a) s) (good : s .verdict ≡ Accepted) where
   costs-passed : (costCountBad d ≡ false) × (addressBad d (value a) ≡ false)
   unfolding costsRefusal
   costs-passed = passed (costCountBad d) (addressBad d (value a)) (sym (p .number) ∙ number-zero good)
@@ -108,7 +108,7 @@ module _ (d : ℕ) (a : Words) (s : CostsAnswer) (p : CostsPromise d (value a) s
   unfolding orZeros
   costs-told = p .costs ∙ ap (λ (n : ℕ). orZeros n (padded d (costsOf d (value a)))) (sym (p .number) ∙ number-zero good)
 
-  pub address-back : a .lower < 2 ^ wordBits → (r : AddressAnswer) → AddressPromise d (s .costs) r → (r .verdict ≡ Accepted) × (r .address ≡ a)
+  pub address-back : a .lower < 2 ^ wordBits → (r : AddressResult) → AddressPromise d (s .costs) r → (r .verdict ≡ Accepted) × (r .address ≡ a)
   unfolding addressRefusal orZero
   address-back word r q = (accepted-number (r .verdict) (q .number ∙ none), told)
     where

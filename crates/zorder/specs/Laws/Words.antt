@@ -13,11 +13,11 @@ use Rattle.zorder.specs.Address.{rowCosts, costBits, address}
 use Rattle.zorder.specs.Promise.{AddressPromise}
 use Rattle.zorder.specs.Refusal.{orZero, addressBad, addressRefusal}
 use Rattle.zorder.specs.Words.{wordBits, value, wordsOf}
-use Rattle.zorder.specs.declared.AddressAnswer.{AddressAnswer}
-use Rattle.zorder.specs.declared.Words.{Words}
+use Rattle.zorder.specs.declared.AddressResult.{AddressResult}
+use Rattle.zorder.specs.declared.AddressWords.{AddressWords}
 use Rattle.zorder.specs.Laws.Address.{address-lt'}
 
-pub value-lt : (a : Words) → a .upper < 2 ^ wordBits → a .lower < 2 ^ wordBits → value a < 2 ^ (2 * wordBits)
+pub value-lt : (a : AddressWords) → a .upper < 2 ^ wordBits → a .lower < 2 ^ wordBits → value a < 2 ^ (2 * wordBits)
 unfolding value
 value-lt a word also = digits-lt word also
 
@@ -26,7 +26,7 @@ pub value-words : (n : ℕ) → value (wordsOf n) ≡ n
 unfolding value wordsOf
 value-words n = split n wordBits
 
-pub words-value : (a : Words) → a .lower < 2 ^ wordBits → wordsOf (value a) ≡ a
+pub words-value : (a : AddressWords) → a .lower < 2 ^ wordBits → wordsOf (value a) ≡ a
 unfolding value wordsOf
 words-value a word = λ i. record { upper = high (a .upper) wordBits word i; lower = low (a .upper) wordBits word i }
 
@@ -42,20 +42,20 @@ module _ (d : ℕ) (few : d ≤ 4) where
   upper-zero cs room = div-eq-of-lt (lt-of-lt-of-le (address-lt' d cs room) (pow-mono bits-few))
 
   -- told or refused;
-  pub told-upper-zero : (cs : List ℕ) (r : AddressAnswer) → length cs ≡ rowCosts → AddressPromise d cs r → r .address .upper ≡ 0
+  pub told-upper-zero : (cs : List ℕ) (r : AddressResult) → length cs ≡ rowCosts → AddressPromise d cs r → r .address .upper ≡ 0
   unfolding orZero wordsOf
-  told-upper-zero cs r count p = ap (λ (a : Words). a .upper) (p .address) ∙ told (addressRefusal d cs)
+  told-upper-zero cs r count p = ap (λ (a : AddressWords). a .upper) (p .address) ∙ told (addressRefusal d cs)
     where
       told : (n : ℕ) → wordsOf (orZero n (address d cs)) .upper ≡ 0
       told zero = upper-zero cs (omega arith)
       told (suc n) = refl
 
   -- any other upper word is too large.
-  pub upper-bad : (a : Words) → 0 < a .upper → addressBad d (value a) ≡ true
+  pub upper-bad : (a : AddressWords) → 0 < a .upper → addressBad d (value a) ≡ true
   unfolding addressBad value
   upper-bad a some = le-leb (2 ^ (costBits * d)) (a .upper * 2 ^ wordBits + a .lower) (omega (arith, pow-mono bits-few))
 
 -- With eight costs no two words are.
-pub none-bad : (a : Words) → a .upper < 2 ^ wordBits → a .lower < 2 ^ wordBits → addressBad rowCosts (value a) ≡ false
+pub none-bad : (a : AddressWords) → a .upper < 2 ^ wordBits → a .lower < 2 ^ wordBits → addressBad rowCosts (value a) ≡ false
 unfolding addressBad
 none-bad a word also = lt-leb (2 ^ (costBits * rowCosts)) (value a) (value-lt a word also)

@@ -5,10 +5,11 @@ use mathlib.Core.Path.{_≡_, sym, ap, _∙_}
 use native.Mathlib.Omega.{arith}
 use lib.ListN.{length-set}
 use Rattle.rows.specs.declared.telling.Telling.{Telling}
-use Rattle.framing.specs.Reading.{mostDigits}
-use Rattle.framing.specs.Text.{rowsText}
-use Rattle.framing.specs.Writing.{TextPut, tellingRows, changeSaid}
-use Rattle.framing.specs.Laws.Put.{put-as}
+use Rattle.frame_lines.specs.Reading.{mostDigits}
+use Rattle.frame_lines.specs.Text.{rowsText}
+use Rattle.frame_lines.specs.Put.{TextPut}
+use Rattle.framing.specs.Writing.{tellingRows, changeSaid}
+use Rattle.frame_lines.specs.Laws.Put.{put-as}
 use Rattle.framing.specs.Laws.Said.{refused-text, left-rows, entered-rows, change-end, change-put}
 use Rattle.framing.proofs.said.put_change.Statement.{statement}
 use Rattle.framing.proofs.said.put_change.Tie as tie

@@ -3,12 +3,12 @@ use Prim.Native.Nat.{ℕ, _+_, _*_, _≤_}
 use mathlib.Core.Path.{sym, ap, _∙_}
 use native.Mathlib.Omega.{arith}
 use lib.ListN.{length-set}
-use Rattle.framing.specs.Reading.{mostDigits}
-use Rattle.framing.specs.Text.{wordText}
+use Rattle.frame_lines.specs.Reading.{mostDigits}
+use Rattle.frame_lines.specs.Text.{wordText}
 use Rattle.framing.specs.Writing.{listSaid}
-use Rattle.framing.specs.Laws.Put.{put-as}
-use Rattle.framing.specs.Laws.Texts.{wordText-low}
-use Rattle.framing.specs.Laws.Said.{refused-text, head-length, list-rows, list-end, list-put}
+use Rattle.frame_lines.specs.Laws.Put.{put-as}
+use Rattle.frame_lines.specs.Laws.Texts.{wordText-low, head-length}
+use Rattle.framing.specs.Laws.Said.{refused-text, list-rows, list-end, list-put}
 use Rattle.framing.proofs.said.put_list.Statement.{statement}
 use Rattle.framing.proofs.said.put_list.Tie as tie
 

@@ -2,8 +2,8 @@
 use Prim.Native.Nat.{ℕ}
 use mathlib.Core.Path.{ap}
 use borrow.Author.Needs.{needs}
-use Rattle.framing.specs.Laws.Put.{put-as}
-use Rattle.framing.specs.Text.{refused, answerText}
+use Rattle.frame_lines.specs.Laws.Put.{put-as}
+use Rattle.frame_lines.specs.Text.{refused, answerText}
 use Rattle.framing.specs.Writing.{loadSaid}
 use Rattle.framing.proofs.said.put_loaded.Statement.{statement}
 use Rattle.framing.proofs.said.put_loaded.Tie as tie

@@ -4,9 +4,9 @@ use mathlib.Core.Path.{refl, ap}
 use Rattle.planning.specs.Kind.{changeOf}
 use Rattle.planning.specs.declared.change.Kind.the-variants as change
 use Rattle.framing.specs.Laws.Serving.{ready-most, answers-line, asked-now, change-frame, serve-as, served-early, served-wrong}
-use Rattle.framing.specs.Reading.{framed, asFrame, calling}
-use Rattle.framing.specs.declared.frame.Kind.{Kind}
-use Rattle.framing.specs.declared.frame.Kind.the-variants.{Enter, Withdraw, Recost}
+use Rattle.frame_lines.specs.Reading.{framed, asFrame, calling}
+use Rattle.frame_lines.specs.declared.frame.Kind.{Kind}
+use Rattle.frame_lines.specs.declared.frame.Kind.the-variants.{Enter, Withdraw, Recost}
 use Rattle.framing.proofs.serving.answer.Statement.{statement}
 use Rattle.framing.proofs.serving.answer.Tie as tie
 

@@ -24,8 +24,8 @@ unfolding Bytes
 loop-holds c =
     let s = c .before .before .before in
     let a = s .args in
-    sought-first (a .h .size) (a .h .dimension) (a .goes) (a .i) (a .m .now) (a .near) (c .before .limits-of .result) (s .pre .0 .0 .dimension)
-    (λ k. omega (arith, c .before .before .shared-slice-known .given k)) (omega arith) (c .before .limits-of .ensures) (c .next-within .result) (c .next-within .ensures)
+    sought-first (a .h .size) (a .h .dimension) (a .goes) (a .i) (a .m .now) (a .near) (c .before .bounds-of .result) (s .pre .0 .0 .dimension)
+    (λ k. omega (arith, c .before .before .shared-slice-known .given k)) (omega arith) (c .before .bounds-of .ensures) (c .next-within .result) (c .next-within .ensures)
 
 number-at-requires : tie.Need-number-at-requires Inv-loop μ-loop
 number-at-requires c κs = let asked = c .before .before .before .before .before .pre .0 in (asked .0 .room, omega (arith, asked .0 .rows))
@@ -41,7 +41,7 @@ returns c =
     let s = c .before .before .before .before .before .before .before .before .before in
     let a = s .args in
     let own = c .before .before .before .before .before .loop in
-    let q = c .before .before .before .before .before .before .before .limits-of in
+    let q = c .before .before .before .before .before .before .before .bounds-of in
     let number = c .before .before .before .number-at in
     let costs = c .before .before .costs-of in
     let less = c .before .exceeds in
@@ -61,7 +61,7 @@ loop-again c =
     let s = c .before .before .before .before .before .before .before .before .before .before in
     let a = s .args in
     let own = c .before .before .before .before .before .before .loop in
-    let q = c .before .before .before .before .before .before .before .before .limits-of in
+    let q = c .before .before .before .before .before .before .before .before .bounds-of in
     let number = c .before .before .before .before .number-at in
     let costs = c .before .before .before .costs-of in
     let less = c .before .before .exceeds in
@@ -73,7 +73,7 @@ returns-2 : tie.Need-returns-2 Inv-loop μ-loop
 returns-2 c =
     let a = c .before .before .before .before .before .args in
     let own = c .before .loop in
-    sym (sought-none (a .h .size) (a .h .dimension) (a .goes) (a .i) (a .m .now) (a .near) (c .before .before .before .limits-of .result) (own .j) (own .inv) (omega arith))
+    sym (sought-none (a .h .size) (a .h .dimension) (a .goes) (a .i) (a .m .now) (a .near) (c .before .before .before .bounds-of .result) (own .j) (own .inv) (omega arith))
 
 pub corner-dominated-spec : {M : Type 1} → statement M
 corner-dominated-spec =

@@ -1,6 +1,6 @@
 -- `band::few_before` meets its contract. The loop's invariant: the dominators before the place that the search has come to are
 -- counted, and few enough. Assumes nothing.
-use Prim.Native.Nat.{ℕ, _-_}
+use Prim.Native.Nat.{ℕ, _-_, _≤_}
 use mathlib.Core.Bool.{true, false}
 use mathlib.Core.List.{List}
 use mathlib.Core.Logic.{⊎-elim}
@@ -8,28 +8,32 @@ use mathlib.Core.Path.{sym, ap₂, _∙_, subst}
 use native.Mathlib.Omega.{arith}
 use lib.ListN.{take}
 use Rattle.model.specs.Dominance.{somewhereLess}
-use Rattle.dominance.specs.Lanes.{Lanes, limit, isFirst}
+use Rattle.dominance.specs.Lanes.{Lanes, bound, isFirst}
 use Rattle.promises.specs.Layout.{moveIn}
 use Rattle.promises.specs.Run.{Bytes}
+use Rattle.search.specs.Search.{fits}
 use Rattle.search.specs.Laws.Search.{corners-fewer}
-use Rattle.query.specs.Laws.Band.{CountedTo, counted-start, counted-turn, counted-over, counted-all}
+use Rattle.search.specs.Laws.Counts.{CountedTo}
+use Rattle.search.specs.declared.search.Among.the-variants.{All}
+use Rattle.query.specs.Band.{dominatesPlace}
+use Rattle.query.specs.Laws.Band.{dominators-first, dominators-next, dominators-over, dominators-within}
 use Rattle.query.proofs.band.few_before.Statement.{statement}
 use Rattle.query.proofs.band.few_before.Tie as tie
 
 abbrev Inv-loop : tie.InvT-loop
-Inv-loop m h most i corners costs q found₀ j₀ found j = CountedTo (h .size) (h .dimension) m i q most found j
+Inv-loop m h most i corners costs q found₀ j₀ found j = (found ≤ most) × CountedTo (fits All (h .size) m q) (dominatesPlace (h .size) (h .dimension) m i) i j found
 
 abbrev μ-loop : tie.MeasureT-loop
 μ-loop m h most i corners costs q found₀ j₀ found j = i - j
 
-bytes : (c : tie.After-limits-of Inv-loop μ-loop) → Bytes (c .before .before .before .args .m .now)
+bytes : (c : tie.After-bounds-of Inv-loop μ-loop) → Bytes (c .before .before .before .args .m .now)
 unfolding Bytes
 bytes c i = omega (arith, c .before .before .shared-slice-known .given i)
 
--- The limits are those of the move at place i.
-limits : (c : tie.After-limits-of Inv-loop μ-loop) → let a = c .before .before .before .args in Lanes (limit (isFirst (a .h .dimension)) (moveIn (a .h .size) (a .h .dimension) (a .m .now) (a .i) .costs)) (c .limits-of .result)
-limits c =
-    subst (λ (x : List ℕ). Lanes (limit (isFirst (c .before .before .before .args .h .dimension)) x) (c .limits-of .result)) (c .before .costs-at .ensures) (c .limits-of .ensures)
+-- The bounds are those of the move at place i.
+bounds : (c : tie.After-bounds-of Inv-loop μ-loop) → let a = c .before .before .before .args in Lanes (bound (isFirst (a .h .dimension)) (moveIn (a .h .size) (a .h .dimension) (a .m .now) (a .i) .costs)) (c .bounds-of .result)
+bounds c =
+    subst (λ (x : List ℕ). Lanes (bound (isFirst (c .before .before .before .args .h .dimension)) x) (c .bounds-of .result)) (c .before .costs-at .ensures) (c .bounds-of .ensures)
 
 next-within-requires : tie.Need-next-within-requires Inv-loop μ-loop
 next-within-requires c κs = let pre = c .before .before .before .pre in ((pre .0 .0, omega arith, omega arith), corners-fewer (omega arith) (pre .1))
@@ -38,7 +42,7 @@ loop-holds : tie.Need-loop-holds Inv-loop μ-loop
 loop-holds c =
     let s = c .before .before .before .before in
     let a = s .args in
-    counted-start (a .h .size) (a .h .dimension) (a .m .now) (s .pre .0 .0 .dimension) (bytes (c .before)) (a .i) (c .before .limits-of .result) (limits (c .before)) (a .most) (omega arith) (c .next-within .ensures)
+    (omega arith, dominators-first (a .h .size) (a .h .dimension) (a .m .now) (s .pre .0 .0 .dimension) (bytes (c .before)) (a .i) (c .before .bounds-of .result) (bounds (c .before)) (omega arith) (c .next-within .ensures))
 
 costs-at-requires-2 : tie.Need-costs-at-requires-2 Inv-loop μ-loop
 costs-at-requires-2 c κs = (c .before .before .before .before .before .before .pre .0 .0, omega arith)
@@ -51,7 +55,7 @@ returns c =
     let at = c .before .before .before .before .before .before .before in
     let lower = ap₂ (λ (p q : List ℕ). somewhereLess (take (a .h .dimension) p) (take (a .h .dimension) q)) (sym (c .before .before .before .costs-at2 .ensures)) (sym (at .before .costs-at .ensures)) ∙ sym (c .before .before .exceeds .ensures) in
     sym
-    (counted-over (a .h .size) (a .h .dimension) (a .m .now) (s .pre .0 .0 .dimension) (bytes at) (a .i) (at .limits-of .result) (limits at) (a .most) (own .inv) (c .before .before .before .before .loop-test .taken)
+    (dominators-over (a .h .size) (a .h .dimension) (a .m .now) (s .pre .0 .0 .dimension) (bytes at) (a .i) (at .bounds-of .result) (bounds at) (own .inv .1) (a .most) (c .before .before .before .before .loop-test .taken)
     (lower ∙ c .before .if1 .taken) (c .if2 .taken))
 
 next-within-requires-2 : tie.Need-next-within-requires-2 Inv-loop μ-loop
@@ -66,10 +70,10 @@ loop-again c =
     let own = c .before .before .before .before .before .loop in
     let at = c .before .before .before .before .before .before .before in
     let lower = ap₂ (λ (p q : List ℕ). somewhereLess (take (a .h .dimension) p) (take (a .h .dimension) q)) (sym (c .before .before .before .costs-at2 .ensures)) (sym (at .before .costs-at .ensures)) ∙ sym (c .before .before .exceeds .ensures) in
-    let turn = counted-turn (a .h .size) (a .h .dimension) (a .m .now) (s .pre .0 .0 .dimension) (bytes at) (a .i) (at .limits-of .result) (limits at) (a .most) (own .inv) in
+    let turn = dominators-next (a .h .size) (a .h .dimension) (a .m .now) (s .pre .0 .0 .dimension) (bytes at) (a .i) (at .bounds-of .result) (bounds at) (own .inv .1) in
     ⊎-elim
-    (λ w. turn true (c .before .before .before .before .loop-test .taken) (lower ∙ w .0 .taken) (w .2) (omega (arith, w .1 .left, w .2, own .inv .few)) (c .next-within2 .ensures))
-    (λ w. turn false (c .before .before .before .before .loop-test .taken) (lower ∙ w .0 .left) (w .1) (omega (arith, w .1, own .inv .few)) (c .next-within2 .ensures))
+    (λ w. (omega (arith, w .1 .left, w .2, own .inv .0), turn true (c .before .before .before .before .loop-test .taken) (lower ∙ w .0 .taken) (w .2) (c .next-within2 .ensures)))
+    (λ w. (omega (arith, w .1, own .inv .0), turn false (c .before .before .before .before .loop-test .taken) (lower ∙ w .0 .left) (omega (arith, w .1)) (c .next-within2 .ensures)))
     (c .before .if1 .came)
 
 returns-2 : tie.Need-returns-2 Inv-loop μ-loop
@@ -78,7 +82,7 @@ returns-2 c =
     let a = s .args in
     let at = c .before .before .before in
     sym
-    (counted-all (a .h .size) (a .h .dimension) (a .m .now) (s .pre .0 .0 .dimension) (bytes at) (a .i) (at .limits-of .result) (limits at) (a .most) (c .before .loop .inv) (omega arith))
+    (dominators-within (a .h .size) (a .h .dimension) (a .m .now) (s .pre .0 .0 .dimension) (bytes at) (a .i) (at .bounds-of .result) (bounds at) (c .before .loop .inv .1) (a .most) (omega arith) (c .before .loop .inv .0))
 
 pub few-before-spec : {M : Type 1} → statement M
 few-before-spec =

@@ -6,9 +6,9 @@ use Rattle.model.specs.Opening.{queryOpens}
 use Rattle.memory.specs.Held.{SoundAt}
 use Rattle.soundness.specs.Laws.Held.{sound-held, unsound-held}
 use Rattle.rows.specs.Laws.Planned.{query-unsound, query-bad}
+use Rattle.query.specs.Band.{inBand}
 use Rattle.query.specs.Laws.Calls.{band-bad, band-right, band-rows}
-use Rattle.query.specs.Laws.Plan.{kept-planned}
-use Rattle.query.specs.declared.rule.Rule.the-variants.{All}
+use Rattle.query.specs.Laws.Plan.{found-planned}
 use Rattle.query.proofs.plan.plan_band.Statement.{statement}
 use Rattle.query.proofs.plan.plan_band.Tie as tie
 
@@ -33,8 +33,7 @@ unfolding queryOpens
 returns-3 c =
     let a = c .before .before .before .before .before .before .before .before .args in
     let s = sound-at (c .before .before .before) in
-    kept-planned (c .before .before .before .before .h .given .0 .0) All (a .b) (a .m .now) s (c .before .find-band .result) (c .before .find-band .ensures) (c .plan-found .ensures)
-    .plans (bandQuery (a .b))
+    found-planned (λ d ms. inBand d (a .b) ms) (bandQuery (a .b)) s (c .before .find-band .ensures) (c .plan-found .ensures)
     (band-right (a .m .now) (a .b) (c .before .before .if1 .left))
     (band-rows (a .m .now) (a .b)) (λ _. refl)
 

@@ -10,8 +10,9 @@ use Rattle.memory.specs.Held.{SoundAt}
 use Rattle.soundness.specs.Laws.Held.{sound-held, unsound-held}
 use Rattle.rows.specs.Laws.Planned.{query-unsound, query-bad}
 use Rattle.query.specs.Rule.{Fair}
+use Rattle.query.specs.Unbeaten.{unbeaten}
 use Rattle.query.specs.Laws.Calls.{on-bad, on-right, on-rows}
-use Rattle.query.specs.Laws.Plan.{kept-planned}
+use Rattle.query.specs.Laws.Plan.{found-planned}
 use Rattle.query.specs.declared.rule.Rule.the-variants.{OnK}
 use Rattle.query.proofs.plan.plan_on_k.Statement.{statement}
 use Rattle.query.proofs.plan.plan_on_k.Tie as tie
@@ -41,8 +42,7 @@ unfolding queryOpens
 returns-3 c =
     let a = c .before .before .before .before .before .before .before .before .before .before .args in
     let s = sound-at (c .before .before .before .before .before) in
-    kept-planned (c .before .before .before .before .before .before .h .given .0 .0) (OnK (a .k)) 0 (a .m .now) s (c .before .find-unbeaten .result) (c .before .find-unbeaten .ensures) (c .plan-found .ensures)
-    .plans (onKQuery (a .k))
+    found-planned (λ d. unbeaten d (OnK (a .k))) (onKQuery (a .k)) s (c .before .find-unbeaten .ensures) (c .plan-found .ensures)
     (on-right (a .m .now) (a .k) (c .before .before .before .before .if1 .left) (omega (arith, s .dimension, ltb-false _ (a .k) (c .before .before .if2 .left))))
     (on-rows (a .m .now) (a .k)) (λ _. refl)
 

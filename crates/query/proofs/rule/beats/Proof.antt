@@ -14,31 +14,14 @@ dominates-on-requires c κs = (omega arith, subst spec.Fair (c .before .rule .gi
 returns : tie.Need-returns
 unfolding spec.beats
 returns c =
-    let a = c .before .before .before .args in
-    c .dominates .ensures ∙ ap (λ (r : Rule). spec.beats (a .d) r (a .p) (a .q)) (sym (c .before .enum-told .given .1))
+    let a = c .before .before .before .before .args in
+    c .dominates-on .ensures ∙ ap (λ (r : Rule). spec.beats (a .d) r (a .p) (a .q)) (sym (c .before .before .rule .given .1))
 
 returns-2 : tie.Need-returns-2
 unfolding spec.beats
 returns-2 c =
     let a = c .before .before .before .before .args in
-    c .dominates-on .ensures ∙ ap (λ (r : Rule). spec.beats (a .d) r (a .p) (a .q)) (sym (c .before .before .rule .given .1))
-
-returns-3 : tie.Need-returns-3
-unfolding spec.beats
-returns-3 c =
-    let a = c .before .before .before .before .args in
     c .dominates-at .ensures ∙ ap (λ (r : Rule). spec.beats (a .d) r (a .p) (a .q)) (sym (c .before .before .rule2 .given .1))
 
 pub beats-spec : {M : Type 1} → statement M
-beats-spec =
-    tie.close
-    (tie.spec
-    (λ c. search needs)
-    (λ c κs. search needs)
-    (λ c. search needs)
-    dominates-on-requires
-    (λ c. search needs)
-    (λ c κs. search needs)
-    returns
-    returns-2
-    returns-3)
+beats-spec = tie.close (tie.spec (λ c. search needs) dominates-on-requires (λ c. search needs) (λ c κs. search needs) returns returns-2)

@@ -3,7 +3,7 @@ use mathlib.Core.Path.{sym, subst}
 use native.Mathlib.Omega.{arith}
 use borrow.Author.Needs.{needs}
 use Rattle.promises.specs.Run.{Bytes}
-use Rattle.query.specs.Kept.{Next}
+use Rattle.query.specs.Unbeaten.{Next}
 use Rattle.query.specs.Laws.Unbeaten.{unlisted-beat-not, passed-beat-not}
 use Rattle.query.specs.declared.rule.Rule.{Rule}
 use Rattle.query.proofs.unbeaten.candidate.Statement.{statement}
@@ -16,23 +16,17 @@ returns c =
     record { from = next .from; to = next .to; passed = unlisted-beat-not (a .h .size) (a .h .dimension) (a .rule) (a .m .now) (a .costs) (next .passed) }
 
 returns-2 : tie.Need-returns-2
-returns-2 c =
-    let a = c .before .before .before .before .args in
-    let next = c .next-listed2 .ensures in
-    record { from = next .from; to = next .to; passed = unlisted-beat-not (a .h .size) (a .h .dimension) (a .rule) (a .m .now) (a .costs) (next .passed) }
-
-returns-3 : tie.Need-returns-3
 unfolding Bytes
-returns-3 c =
+returns-2 c =
     let s = c .before .before .before .before .before .before in
     let a = s .args in
     let m = a .m .now in
     let set = c .before .before .before .rule .given .0 .0 in
     let next = c .next-within .ensures in
-    let limits = c .before .chosen-limits in
+    let bounds = c .before .chosen-bounds in
     let bytes : Bytes m = λ i. omega (arith, c .before .before .before .before .before .shared-slice-known .given i) in
-    subst (λ (rule : Rule). Next (a .h .size) (a .h .dimension) (a .h .count) rule m (a .costs) (a .j) (c .next-within .result)) (sym (c .before .before .before .rule .given .1))
-    (record { from = next .from; to = next .to; passed = passed-beat-not (a .h .size) (a .h .dimension) m (s .pre .0 .0 .dimension) bytes set (a .costs) (limits .result) (limits .ensures) (next .passed) })
+    subst (λ (rule : Rule). Next (a .h) rule m (a .costs) (a .j) (c .next-within .result)) (sym (c .before .before .before .rule .given .1))
+    (record { from = next .from; to = next .to; passed = passed-beat-not (a .h .size) (a .h .dimension) m (s .pre .0 .0 .dimension) bytes set (a .costs) (bounds .result) (bounds .ensures) (next .passed) })
 
 pub candidate-spec : {M : Type 1} → statement M
 candidate-spec =
@@ -42,9 +36,6 @@ candidate-spec =
     (λ c κs. search needs)
     (λ c. search needs)
     (λ c κs. search needs)
-    (λ c. search needs)
-    (λ c κs. search needs)
     (λ c κs. search needs)
     returns
-    returns-2
-    returns-3)
+    returns-2)

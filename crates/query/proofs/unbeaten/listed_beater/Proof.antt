@@ -11,7 +11,7 @@ use Rattle.memory.specs.Tests.{isListed}
 use Rattle.memory.specs.Laws.Held.{held-readable}
 use Rattle.search.specs.Laws.Search.{none-more, none-join}
 use Rattle.query.specs.Rule as rules
-use Rattle.query.specs.Kept.{beatsAt, listedBeats}
+use Rattle.query.specs.Unbeaten.{beatsAt, listedBeats}
 use Rattle.query.specs.Laws.Unbeaten.{none-beats}
 use Rattle.query.proofs.unbeaten.listed_beater.Statement.{statement}
 use Rattle.query.proofs.unbeaten.listed_beater.Tie as tie
@@ -65,7 +65,7 @@ returns-2 c =
     record {
       to = omega arith;
       found = λ l. absurd (omega arith);
-      none = λ l. none-beats (s .pre .0 .0) bytes (a .rule) (a .costs) (omega arith)
+      none = λ l. none-beats (s .pre .0 .0) bytes (a .rule) (a .costs)
           (subst (None (listedBeats (a .h .size) (a .h .dimension) (a .rule) (a .m .now) (a .costs)) 0) all (own .inv .1));
     }
 

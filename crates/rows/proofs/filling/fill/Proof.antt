@@ -61,8 +61,8 @@ use Rattle.rows.proofs.row.Row as T
 use Rattle.rows.proofs.row.Row.Laws as T′
 use Rattle.rows.proofs.telling.Telling as Y
 use Rattle.rows.proofs.telling.Telling.Laws as Y′
-use Rattle.rows.proofs.telling.Told as D
-use Rattle.rows.proofs.telling.Told.Laws as D′
+use Rattle.rows.proofs.telling.View as D
+use Rattle.rows.proofs.telling.View.Laws as D′
 use Rattle.rows.proofs.telling.Step as S
 use Rattle.rows.proofs.telling.Step.Laws as S′
 use Rattle.rows.proofs.telling.told_next as told-next

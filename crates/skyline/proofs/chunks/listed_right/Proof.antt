@@ -1,5 +1,5 @@
 -- `chunks::listed_right` meets its contract. The loop's invariant: no move at a place passed hides a listed one, and once a chunk is
--- passed the runs have their greatest limits. Assumes nothing.
+-- passed the runs have their greatest bounds. Assumes nothing.
 use Prim.Native.Nat.{ℕ, _-_, _≤_, _<_}
 use mathlib.Core.List.{List}
 use mathlib.Core.Logic.{⊎-elim}
@@ -44,7 +44,7 @@ put-highs-requires : tie.Need-put-highs-requires Inv-loop μ-loop
 put-highs-requires c κs =
     (c .before .before .before .before .before .before .before .before .before .before .before .pre .0, c .before .before .before .before .before .before .before .before .before .loop .inv .2)
 
--- The greatest limits were made for the first chunk, or are there.
+-- The greatest bounds were made for the first chunk, or are there.
 highs-there : (c : tie.Joined3 Inv-loop μ-loop)
     → Highs (c .before .before .before .before .before .before .before .before .before .before .args .h .size) (c .before .before .before .before .before .before .before .before .before .before .args .h .dimension)
     (c .before .before .before .before .before .before .before .before .before .before .args .m .now) (c .before .before .before .before .before .before .before .before .before .before .args .h .count) (c .if3 .highs)

@@ -11,10 +11,10 @@ use lib.Dec.{ltb}
 use Rattle.model.specs.Laws.Bool.{byCases, both-ways, and-left, and-right}
 use Rattle.dominance.specs.Lanes.{Lanes, lesser}
 use Rattle.promises.specs.Run.{Bytes}
-use Rattle.search.specs.Search.{seenAt, limitsAt}
-use Rattle.search.specs.Columns.{countTo, Limits, Put, Filled}
+use Rattle.search.specs.Search.{seenAt, boundsAt}
+use Rattle.search.specs.Columns.{countTo, Bounds, Put, Filled}
 use Rattle.skyline.specs.Chunks.{listed, Gathered, Unhidden}
-use Rattle.skyline.specs.Laws.Chunks.{limits-past, gathered-none, gathered-same, gathered-more, same-count, more-count, none-fits-before, chunk-grows, chunk-some}
+use Rattle.skyline.specs.Laws.Chunks.{bounds-past, gathered-none, gathered-same, gathered-more, same-count, more-count, none-fits-before, chunk-grows, chunk-some}
 use Rattle.skyline.specs.Laws.Unhidden.{exceeds-none, columns-none, columns-some, unhidden-none, unhidden-within}
 use Rattle.search.specs.declared.search.Among.the-variants.{Listed}
 use Rattle.skyline.proofs.chunks.next_chunk.Statement.{statement}
@@ -57,8 +57,8 @@ looks-at-requires c κs =
     let s = c .before .before .before in
     (s .pre .0, inside (c .before .loop .i) (s .args .h .count) _ (c .loop-test .taken))
 
-limits-at-requires : tie.Need-limits-at-requires Inv-loop μ-loop
-limits-at-requires c κs =
+bounds-at-requires : tie.Need-bounds-at-requires Inv-loop μ-loop
+bounds-at-requires c κs =
     let s = c .before .before .before .before .before in
     let own = c .before .before .before .loop in
     (s .pre .0, inside (own .i) (s .args .h .count) _ (c .before .before .loop-test .taken))
@@ -67,7 +67,7 @@ some-fits-requires : tie.Need-some-fits-requires Inv-loop μ-loop
 some-fits-requires c κs =
     let a = c .before .before .before .before .before .before .before .before .before .args in
     let own = c .before .before .before .before .before .before .before .loop in
-    subst (Limits (a .h .dimension)) (sym (c .before .before .before .limits-at .ensures)) (limits-past (a .h .size) (a .h .dimension) (a .m .now) (own .i))
+    subst (Bounds (a .h .dimension)) (sym (c .before .before .before .bounds-at .ensures)) (bounds-past (a .h .size) (a .h .dimension) (a .m .now) (own .i))
 
 returns : tie.Need-returns Inv-loop μ-loop
 unfolding Bytes
@@ -75,7 +75,7 @@ returns c =
     let s = c .before .before .before .before .before .before .before .before .before .before .before in
     let a = s .args in
     let own = c .before .before .before .before .before .before .before .before .before .loop in
-    let limits = c .before .before .before .before .before .limits-at in
+    let bounds = c .before .before .before .before .before .bounds-at in
     let bytes : Bytes (a .m .now) = λ k. omega (arith, c .before .before .before .before .before .before .before .before .before .before .shared-slice-known .given k) in
     let some = ltb-true 0 (own .count) (and-left (ltb 0 (own .count)) (not (c .before .before .before .before .exceeds .result)) (c .before .before .before .if2 .taken)) in
     record {
@@ -87,7 +87,7 @@ returns c =
       said = record {
         true-says = λ e. both-ways e refl;
         false-says = λ _.
-            columns-some (a .h .size) (a .h .dimension) (a .m .now) (own .i) (limits .result) (limits .ensures) (a .from) (own .i) (own .columns) (own .low) (own .inv .5) bytes
+            columns-some (a .h .size) (a .h .dimension) (a .m .now) (own .i) (bounds .result) (bounds .ensures) (a .from) (own .i) (own .columns) (own .low) (own .inv .5) bytes
             (omega (arith, own .inv .4, some)) (omega arith) (a .h .count)
             (inside (own .i) (a .h .count) _ (c .before .before .before .before .before .before .before .before .loop-test .taken))
             (sym (c .before .before .before .before .before .before .before .looks-at .ensures) ∙ c .before .before .before .before .before .before .if1 .taken)
@@ -157,7 +157,7 @@ loop-again c =
           byCases (ltb 0 (own .count))
           (λ some. exceeds-none size d m i (w .1 .result) (w .1 .ensures) (a .from) i (own .columns) (own .low) (inv .5)
           (sym (w .2 .ensures) ∙ not-false (w .2 .result) (ap (λ (b : Bool). b && not (w .2 .result)) (sym some) ∙ u .left)))
-          (λ none. none-fits-before size m (a .from) i (own .count) (own .columns) (own .low) (inv .0) (inv .5) (inv .4) (omega (arith, ltb-false 0 (own .count) none)) (limitsAt size d m i)))
+          (λ none. none-fits-before size m (a .from) i (own .count) (own .columns) (own .low) (inv .0) (inv .5) (inv .4) (omega (arith, ltb-false 0 (own .count) none)) (boundsAt size d m i)))
           (w .3 .came))
           (λ w. both-ways t (shown ∙ w .0 .left))
           (c .if1 .came)),
@@ -184,7 +184,7 @@ next-chunk-spec =
     μ-loop
     loop-holds
     looks-at-requires
-    limits-at-requires
+    bounds-at-requires
     (λ c κs. omega arith)
     some-fits-requires
     returns

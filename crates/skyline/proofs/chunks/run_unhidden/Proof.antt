@@ -6,9 +6,9 @@ use native.Mathlib.Omega.{arith}
 use borrow.Author.Tests.{not-false}
 use Rattle.model.specs.Laws.Bool.{both-ways}
 use Rattle.promises.specs.Run.{Bytes}
-use Rattle.search.specs.Columns.{Limits}
+use Rattle.search.specs.Columns.{Bounds}
 use Rattle.skyline.specs.Chunks.{Gathered, Unhidden}
-use Rattle.skyline.specs.Laws.Chunks.{limits-past}
+use Rattle.skyline.specs.Laws.Chunks.{bounds-past}
 use Rattle.skyline.specs.Laws.Unhidden.{exceeds-none, columns-none, columns-some, unhidden-none, unhidden-more}
 use Rattle.skyline.proofs.chunks.run_unhidden.Statement.{statement}
 use Rattle.skyline.proofs.chunks.run_unhidden.Tie as tie
@@ -28,14 +28,14 @@ loop-holds c =
 looks-at-requires : tie.Need-looks-at-requires Inv-loop μ-loop
 looks-at-requires c κs = (c .before .before .before .before .pre .0 .0, omega arith)
 
-limits-at-requires : tie.Need-limits-at-requires Inv-loop μ-loop
-limits-at-requires c κs = (c .before .before .before .before .before .before .pre .0 .0, omega arith)
+bounds-at-requires : tie.Need-bounds-at-requires Inv-loop μ-loop
+bounds-at-requires c κs = (c .before .before .before .before .before .before .pre .0 .0, omega arith)
 
 some-fits-requires : tie.Need-some-fits-requires Inv-loop μ-loop
 some-fits-requires c κs =
     let x = c .before .before .before .before .before .before .before .before .before .args in
     let own = c .before .before .before .before .before .before .loop in
-    subst (Limits (x .h .dimension)) (sym (c .before .before .limits-at .ensures)) (limits-past (x .h .size) (x .h .dimension) (x .m .now) (own .j))
+    subst (Bounds (x .h .dimension)) (sym (c .before .before .bounds-at .ensures)) (bounds-past (x .h .size) (x .h .dimension) (x .m .now) (own .j))
 
 returns : tie.Need-returns Inv-loop μ-loop
 unfolding Bytes
@@ -43,12 +43,12 @@ returns c =
     let s = c .before .before .before .before .before .before .before .before .before .before .before in
     let x = s .args in
     let own = c .before .before .before .before .before .before .before .before .loop in
-    let limits = c .before .before .before .before .limits-at in
+    let bounds = c .before .before .before .before .bounds-at in
     let bytes : Bytes (x .m .now) = λ i. omega (arith, c .before .before .before .before .before .before .before .before .before .before .shared-slice-known .given i) in
     record {
       true-says = λ e. both-ways e refl;
       false-says = λ _.
-          columns-some (x .h .size) (x .h .dimension) (x .m .now) (own .j) (limits .result) (limits .ensures) (x .chunk .from) (x .chunk .to) (x .columns .now) (x .chunk .low)
+          columns-some (x .h .size) (x .h .dimension) (x .m .now) (own .j) (bounds .result) (bounds .ensures) (x .chunk .from) (x .chunk .to) (x .columns .now) (x .chunk .low)
           (s .pre .1 .0) bytes (s .pre .1 .1) (omega (arith, s .pre .0, own .inv)) (x .h .count)
           (omega (arith, s .pre .0, c .before .before .before .before .before .before .before .loop-test .taken))
           (sym (c .before .before .before .before .before .before .looks-at .ensures) ∙ c .before .before .before .before .before .if1 .taken)
@@ -96,7 +96,7 @@ run-unhidden-spec =
     μ-loop
     loop-holds
     looks-at-requires
-    limits-at-requires
+    bounds-at-requires
     (λ c κs. omega arith)
     some-fits-requires
     returns

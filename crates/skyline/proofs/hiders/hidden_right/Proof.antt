@@ -8,7 +8,7 @@ use mathlib.Core.Path.{_≡_, sym, _∙_, subst}
 use native.Mathlib.Omega.{arith}
 use borrow.Author.Tests.{lt-ltb, le-ltb}
 use Rattle.promises.specs.Run.{Bytes}
-use Rattle.search.specs.Search.{looksAt, looks, limitsAt, ListedCorners, ListedSome}
+use Rattle.search.specs.Search.{looksAt, looks, boundsAt, ListedCorners, ListedSome}
 use Rattle.memory.specs.Tests.{isListed, hiddenRight}
 use Rattle.search.specs.Laws.Search.{corners-none, corners-unlooked, corners-more}
 use Rattle.search.specs.Laws.Hiders.{hidden-at}
@@ -34,8 +34,8 @@ looks-at-requires c κs = (c .before .before .before .pre .0, omega arith)
 corner-with-requires : tie.Need-corner-with-requires Inv-loop μ-loop
 corner-with-requires c κs = (c .before .before .before .before .before .before .pre .0, omega arith)
 
-limits-at-requires : tie.Need-limits-at-requires Inv-loop μ-loop
-limits-at-requires c κs = (c .before .before .before .before .before .pre .0, omega arith)
+bounds-at-requires : tie.Need-bounds-at-requires Inv-loop μ-loop
+bounds-at-requires c κs = (c .before .before .before .before .before .pre .0, omega arith)
 
 guessed-requires : tie.Need-guessed-requires Inv-loop μ-loop
 guessed-requires c κs = (c .before .before .before .before .before .before .before .before .pre .0, omega (arith, c .before .before .before .before .before .loop-test .taken))
@@ -52,7 +52,7 @@ returns c =
     let inside : own .i < a .h .count = omega (arith, c .before .before .before .before .before .before .before .before .before .before .loop-test .taken) in
     let bytes : Bytes (a .m .now) = λ k. omega (arith, c .before .before .before .before .before .before .before .before .before .before .before .before .shared-slice-known .given k) in
     let found = c .before .found-from in
-    let some = subst (λ (q : List ℕ). ListedSome (a .h) (a .m .now) q (own .i) (found .result)) (c .before .before .before .before .before .before .before .limits-at .ensures) (found .ensures) in
+    let some = subst (λ (q : List ℕ). ListedSome (a .h) (a .m .now) q (own .i) (found .result)) (c .before .before .before .before .before .before .before .bounds-at .ensures) (found .ensures) in
     sym
     (hidden-fail (a .h .size) (a .h .dimension) (a .m .now) (a .h .count) (own .i) inside (sym (c .before .before .before .before .before .before .before .before .before .looks-at .ensures) ∙ c .before .before .before .before .before .before .before .before .if1 .left)
     (hidden-at (a .h .size) (a .h .dimension) (a .m .now) (s .pre .0 .dimension) bytes (a .h .count) (s .pre .1) (own .i) (found .result) inside some
@@ -70,7 +70,7 @@ loop-again c =
     let inside : own .i < a .h .count = omega (arith, c .before .before .loop-test .taken) in
     let bytes : Bytes (a .m .now) = λ k. omega (arith, c .before .before .before .before .shared-slice-known .given k) in
     let shown = sym (c .before .looks-at .ensures) in
-    let hidden : (q : List ℕ) (r : ℕ) → q ≡ limitsAt (a .h .size) (a .h .dimension) (a .m .now) (own .i) → r < own .i → ListedSome (a .h) (a .m .now) q (own .i) r
+    let hidden : (q : List ℕ) (r : ℕ) → q ≡ boundsAt (a .h .size) (a .h .dimension) (a .m .now) (own .i) → r < own .i → ListedSome (a .h) (a .m .now) q (own .i) r
     → hiddenRight (a .h .size) (a .h .dimension) (own .i + 1) (a .m .now) ≡ true =
     λ q r e l some.
     hidden-more (a .h .size) (a .h .dimension) (a .m .now) (own .i) (own .inv .3)
@@ -115,7 +115,7 @@ hidden-right-spec =
     corner-with-requires
     (λ c. omega arith)
     (λ c. omega arith)
-    limits-at-requires
+    bounds-at-requires
     guessed-requires
     found-from-requires
     returns

@@ -22,8 +22,8 @@ loop-holds c = (omega arith, omega arith, high-none _ _)
 looks-at-requires : tie.Need-looks-at-requires Inv-loop μ-loop
 looks-at-requires c κs = (c .before .before .before .pre .0, omega arith)
 
-limits-at-requires : tie.Need-limits-at-requires Inv-loop μ-loop
-limits-at-requires c κs = (c .before .before .before .before .before .pre .0, omega arith)
+bounds-at-requires : tie.Need-bounds-at-requires Inv-loop μ-loop
+bounds-at-requires c κs = (c .before .before .before .before .before .pre .0, omega arith)
 
 loop-again : tie.Need-loop-again Inv-loop μ-loop
 loop-again c =
@@ -53,7 +53,7 @@ run-high-spec =
     μ-loop
     loop-holds
     looks-at-requires
-    limits-at-requires
+    bounds-at-requires
     (λ c κs. tt)
     (λ c. omega arith)
     (λ c. omega arith)

@@ -6,7 +6,7 @@ use borrow.Author.Needs.{needs}
 use borrow.Author.Tests.{not-true, not-false}
 use Rattle.promises.specs.Run.{Bytes}
 use Rattle.memory.specs.Laws.Ordered.{right-ordered}
-use Rattle.soundness.specs.Laws.Decide.{head-decides, numbers-decides, order-decides, heights-decides, marks-decides, own-room, own-readable}
+use Rattle.soundness.specs.Laws.Decide.{head-decides, numbers-decides, order-decides, heights-decides, flags-decides, own-room, own-readable}
 use Rattle.soundness.proofs.sound.is_sound.Statement.{statement}
 use Rattle.soundness.proofs.sound.is_sound.Tie as tie
 
@@ -42,8 +42,8 @@ heights-right-requires c κs =
 returns-4 : tie.Need-returns-4
 returns-4 c = let a = c .before .before .before .before .before .before .before .before .before in heights-decides (a .args .m .now) (a .args .h) (a .pre) (failed (c .before .heights-right .ensures) (c .if4 .taken))
 
-marks-right-requires : tie.Need-marks-right-requires
-marks-right-requires c κs =
+flags-right-requires : tie.Need-flags-right-requires
+flags-right-requires c κs =
     let a = c .before .before .before .before .before .before .before .before .before in
     let h = a .args .h in (
       own-readable (a .args .m .now) h (a .pre) (passed (c .before .before .before .before .before .before .before .head-right .ensures) (c .before .before .before .before .before .before .if1 .left))
@@ -55,13 +55,13 @@ returns-5 : tie.Need-returns-5
 unfolding Bytes
 returns-5 c =
     let a = c .before .before .before .before .before .before .before .before .before .before in
-    marks-decides (a .args .m .now) (a .args .h) (a .pre)
+    flags-decides (a .args .m .now) (a .args .h) (a .pre)
     (λ i. omega (arith, c .before .before .before .before .before .before .before .before .before .shared-slice-known .given i))
     (passed (c .before .before .before .before .before .before .before .before .head-right .ensures) (c .before .before .before .before .before .before .before .if1 .left))
     (passed (c .before .before .before .before .before .before .numbers-right .ensures) (c .before .before .before .before .before .if2 .left))
     (passed (c .before .before .before .before .order-right .ensures) (c .before .before .before .if3 .left))
     (passed (c .before .before .heights-right .ensures) (c .before .if4 .left))
-    (c .marks-right .result) (c .marks-right .ensures)
+    (c .flags-right .result) (c .flags-right .ensures)
 
 pub is-sound-spec : {M : Type 1} → statement M
 is-sound-spec =
@@ -75,5 +75,5 @@ is-sound-spec =
     returns-3
     heights-right-requires
     returns-4
-    marks-right-requires
+    flags-right-requires
     returns-5)

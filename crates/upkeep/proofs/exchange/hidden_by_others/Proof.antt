@@ -23,8 +23,8 @@ returns c =
     let bytes : Bytes (a .m .now) = λ i. omega (arith, c .before .before .before .before .shared-slice-known .given i) in
     let found = c .before .next-within in
     sym
-    (others-none (a .h .size) (a .h .dimension) (a .h .count) (a .goes) (a .i) (asMove (a .x)) (c .before .before .limits-of .result) (a .m .now) (start .pre .0 .0 .dimension) bytes (start .pre .1)
-    (c .before .before .limits-of .ensures) (found .result) (found .ensures) (c .if1 .taken))
+    (others-none (a .h .size) (a .h .dimension) (a .h .count) (a .goes) (a .i) (asMove (a .x)) (c .before .before .bounds-of .result) (a .m .now) (start .pre .0 .0 .dimension) bytes (start .pre .1)
+    (c .before .before .bounds-of .ensures) (found .result) (found .ensures) (c .if1 .taken))
 
 returns-2 : tie.Need-returns-2
 unfolding Bytes
@@ -35,8 +35,8 @@ returns-2 c =
     let found = c .before .before .next-within in
     let within : found .result < a .i = omega arith in
     sym
-    (others-found (a .h .size) (a .h .dimension) (a .h .count) (a .goes) (a .i) (asMove (a .x)) (c .before .before .before .limits-of .result) (a .m .now) (start .pre .0 .0 .dimension) bytes (start .pre .1)
-    (c .before .before .before .limits-of .ensures) (found .result) (found .ensures .found within) within (c .if2 .taken))
+    (others-found (a .h .size) (a .h .dimension) (a .h .count) (a .goes) (a .i) (asMove (a .x)) (c .before .before .before .bounds-of .result) (a .m .now) (start .pre .0 .0 .dimension) bytes (start .pre .1)
+    (c .before .before .before .bounds-of .ensures) (found .result) (found .ensures .found within) within (c .if2 .taken))
 
 next-within-requires-2 : tie.Need-next-within-requires-2
 next-within-requires-2 c κs =
@@ -51,8 +51,8 @@ returns-3 c =
     let bytes : Bytes (a .m .now) = λ i. omega (arith, c .before .before .before .before .before .before .shared-slice-known .given i) in
     let found = c .before .before .before .next-within in
     sym
-    (others-next (a .h .size) (a .h .dimension) (a .h .count) (a .goes) (a .i) (asMove (a .x)) (c .before .before .before .before .limits-of .result) (a .m .now) (start .pre .0 .0 .dimension) bytes (start .pre .1)
-    (c .before .before .before .before .limits-of .ensures) (found .result) (c .next-within2 .result) (found .ensures) (c .before .if2 .left) (c .next-within2 .ensures))
+    (others-next (a .h .size) (a .h .dimension) (a .h .count) (a .goes) (a .i) (asMove (a .x)) (c .before .before .before .before .bounds-of .result) (a .m .now) (start .pre .0 .0 .dimension) bytes (start .pre .1)
+    (c .before .before .before .before .bounds-of .ensures) (found .result) (c .next-within2 .result) (found .ensures) (c .before .if2 .left) (c .next-within2 .ensures))
 
 pub hidden-by-others-spec : {M : Type 1} → statement M
 hidden-by-others-spec =

@@ -16,7 +16,7 @@ use Rattle.zorder.specs.Refusal.{orZero, orZeros, costCountBad, addressB
 use Rattle.zorder.specs.Region.{unkept, zerosBelow, onesBelow, nearCorner, farCorner, side}
 use Rattle.zorder.specs.Laws.Corners.{near-costs, far-costs}
 use Rattle.zorder.specs.Laws.Inverse.{costsOf-costs}
-use Rattle.zorder.specs.declared.RegionAnswer.{RegionAnswer}
+use Rattle.zorder.specs.declared.RegionResult.{RegionResult}
 use Rattle.zorder.specs.declared.Verdict.{Verdict}
 use Rattle.zorder.specs.declared.Verdict.the-variants.{Accepted, BadCostCount, BadArgument}
 use Rattle.zorder.specs.Words.{value}
@@ -27,7 +27,7 @@ use Rattle.zorder.proofs.corners.region.Statement.{statement}
 use Rattle.zorder.proofs.corners.region.Tie as tie
 
 -- A refused call, by the number that is not 0.
-promised-none : (d a b n : ℕ) {v : Verdict} {r : RegionAnswer} → RefusedRegion v r → numberOf v ≡ suc n → suc n ≡ regionRefusal d a b → RegionPromise d a b r
+promised-none : (d a b n : ℕ) {v : Verdict} {r : RegionResult} → RefusedRegion v r → numberOf v ≡ suc n → suc n ≡ regionRefusal d a b → RegionPromise d a b r
 unfolding orZero orZeros
 promised-none d a b n {v} {r} R number refused =
     record {
@@ -38,7 +38,7 @@ promised-none d a b n {v} {r} R number refused =
       side = R .side ∙ ap (λ (k : ℕ). orZero k (side d a b)) refused;
     }
 
-module _ (d a b : ℕ) (r : RegionAnswer) where
+module _ (d a b : ℕ) (r : RegionResult) where
   bad-count : costCountBad d ≡ true → RefusedRegion BadCostCount r → RegionPromise d a b r
   unfolding numberOf regionRefusal refusal
   bad-count bad R = promised-none d a b 1 R refl (three-checks true (addressBad d a || addressBad d b) (ltb b a) bad refl refl)

@@ -10,7 +10,7 @@ use Rattle.zorder.specs.Address as definition
 use Rattle.zorder.specs.Promise.{AddressPromise, numberOf}
 use Rattle.zorder.specs.Refusal.{orZero, allZero, costCountBad, costPastBad, addressRefusal, refusal}
 use Rattle.zorder.specs.Words.{wordsOf}
-use Rattle.zorder.specs.declared.Words.{Words}
+use Rattle.zorder.specs.declared.AddressWords.{AddressWords}
 use Rattle.zorder.specs.declared.Verdict.{Verdict}
 use Rattle.zorder.specs.declared.Verdict.the-variants.{Accepted, BadCostCount, BadArgument}
 use Rattle.zorder.specs.Laws.Refusal.{count-right}
@@ -20,7 +20,7 @@ use Rattle.zorder.proofs.interleave.address.Statement.{statement}
 use Rattle.zorder.proofs.interleave.address.Tie as tie
 
 module _ (d : ℕ) (costs : List ℕ) where
-  promised : (v : Verdict) (a : Words) → numberOf v ≡ addressRefusal d costs → a ≡ wordsOf (orZero (numberOf v) (definition.address d costs))
+  promised : (v : Verdict) (a : AddressWords) → numberOf v ≡ addressRefusal d costs → a ≡ wordsOf (orZero (numberOf v) (definition.address d costs))
       → AddressPromise d costs (record { verdict = v; address = a })
   promised v a number told =
       record {
@@ -38,7 +38,7 @@ module _ (d : ℕ) (costs : List ℕ) where
     unfolding numberOf orZero addressRefusal refusal costPastBad wordsOf
     bad-past bad = promised BadArgument (record { upper = 0; lower = 0 }) (two-checks false true right (ap not bad)) refl
 
-    accepted : allZero (drop d costs) ≡ true → (a : Words) → a ≡ wordsOf (definition.address d costs) → AddressPromise d costs (record { verdict = Accepted; address = a })
+    accepted : allZero (drop d costs) ≡ true → (a : AddressWords) → a ≡ wordsOf (definition.address d costs) → AddressPromise d costs (record { verdict = Accepted; address = a })
     unfolding numberOf orZero addressRefusal refusal costPastBad
     accepted good a told = promised Accepted a (two-checks false false right (ap not good)) told
 

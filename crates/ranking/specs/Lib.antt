@@ -1,0 +1,3 @@
+-- What rank computes; then its laws.
+pub mod Rank
+pub mod Laws
