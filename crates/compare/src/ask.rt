@@ -38,6 +38,7 @@ fn plan_query(m: &[u8], k: Call) -> Plan
     }
 }
 
+// Gives the lesser of a number and a bound.
 pub fn at_most(n: usize, bound: usize) -> usize
     ensures { λ r. ⌜ r ≤ bound ⌝ }
 {

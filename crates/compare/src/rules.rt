@@ -25,6 +25,7 @@ pub enum Test {
     Same,
 }
 
+// Says whether p is nowhere greater than q on a set of costs.
 pub fn nowhere_greater(set: usize, p: Row, q: Row) -> bool {
     let mut i = 0;
     while i < COSTS && ((set >> i) % 2 == 0 || p[2 + i] <= q[2 + i]) {
@@ -33,6 +34,7 @@ pub fn nowhere_greater(set: usize, p: Row, q: Row) -> bool {
     i == COSTS
 }
 
+// Says whether p is nowhere greater and somewhere less.
 pub fn beats(set: usize, p: Row, q: Row) -> bool {
     nowhere_greater(set, p, q) && !nowhere_greater(set, q, p)
 }

@@ -85,6 +85,7 @@ fn turn(r: Progress, t: &mut Table, m: &mut [u8], s: usize, i: usize) -> Progres
     called(before, t, m, k)
 }
 
+// Runs calls on one board and holds every answer against the plain one.
 pub fn run(b: Plain, t: &mut Table, m: &mut [u8], u: Tally, seed: usize, calls: usize) -> Tally {
     let mut r = Progress {
         board: b,

@@ -5,6 +5,7 @@ use libc::STDOUT_FILENO;
 
 pub type Tally = [u64; 128];
 
+// Adds to one of the tallies.
 pub fn add(u: Tally, name: u8, v: usize) -> Tally {
     let i = (name % 128) as usize;
     let mut after = u;
@@ -45,6 +46,7 @@ fn judge(u: Tally, letter: u8, right: bool) -> Tally {
     }
 }
 
+// Counts a call and its answer.
 pub fn count(u: Tally, letter: u8, b: Plain) -> Tally {
     let name = cell(letter, b.refusal);
     let called = add(u, name, 1);
@@ -85,6 +87,7 @@ fn put_named(u: &Tally, names: &[u8]) {
     }
 }
 
+// Writes all tallies.
 pub fn put_all(u: &Tally) {
     put_named(
         u,

@@ -37,10 +37,12 @@ pub fn minute_of(x: usize) -> usize {
     x % 10240
 }
 
+// Gives the block that has bad hours, if one has.
 pub fn bad_block(x: usize) -> usize {
     x / 10240 % 400
 }
 
+// Says whether a block has bad hours.
 pub fn is_bad(x: usize) -> bool {
     let k = bad_block(x);
     (k < BLOCKS) & !is_shut(k)
@@ -55,6 +57,7 @@ fn entry(k: usize, bad: usize) -> [u16; HOURS] {
     e
 }
 
+// Makes the hours of all blocks.
 pub fn entries(bad: usize) -> [[u16; HOURS]; BLOCKS] {
     let mut all = [[0u16; HOURS]; BLOCKS];
     let mut k = 0;

@@ -48,6 +48,7 @@ fn number_of(v: Verdict) -> usize
     }
 }
 
+// Gives the address of the first d costs.
 #[no_mangle]
 pub extern "C" fn dolzhev_address(d: usize, costs: Costs) -> AddressAnswer
     ensures { λ r. ⌜ AddressExported d (costs .costs) r ⌝ }
@@ -63,6 +64,7 @@ pub extern "C" fn dolzhev_address(d: usize, costs: Costs) -> AddressAnswer
     }
 }
 
+// Gives the d costs of an address.
 #[no_mangle]
 pub extern "C" fn dolzhev_costs_of(d: usize, address: AddressWords) -> CostsAnswer
     ensures { λ r. ⌜ CostsExported d address r ⌝ }
@@ -78,6 +80,7 @@ pub extern "C" fn dolzhev_costs_of(d: usize, address: AddressWords) -> CostsAnsw
     }
 }
 
+// Gives near corner, far corner and side of the region of two addresses.
 #[no_mangle]
 pub extern "C" fn dolzhev_region(d: usize, a: AddressWords, b: AddressWords) -> RegionAnswer
     ensures { λ r. ⌜ RegionExported d a b r ⌝ }

@@ -60,6 +60,7 @@ fn region(values: &[u64], d: usize, s: Said) -> Said {
     put(values, put_costs(values, corner, far), r.side as u64)
 }
 
+// Answers a line on addresses or regions.
 pub fn answer(values: &[u64], s: Said) -> Said {
     let d = value(values, 0) as usize;
     let word = s.word;

@@ -40,6 +40,7 @@ fn lent(values: &[u64], s: Said) -> usize {
     value_before(values, s.asked) as usize
 }
 
+// Answers a line that changes the board.
 pub fn change(memory: &mut [u8], values: &[u64], s: Said) -> Said {
     let p = plan_change(memory, asked(values, s), lent(values, s));
     let r = put_change(memory, p, s.word == WITHDRAW_OPENED, values, s);
@@ -47,6 +48,7 @@ pub fn change(memory: &mut [u8], values: &[u64], s: Said) -> Said {
     r
 }
 
+// Answers a line that previews a change.
 pub fn preview(memory: &[u8], values: &[u64], s: Said) -> Said {
     let p = plan_change(memory, asked(values, s), lent(values, s));
     put_change(memory, p, true, values, s)

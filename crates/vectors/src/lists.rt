@@ -27,6 +27,7 @@ fn plan_of(word: u32, m: &[u8], values: &[u64]) -> Plan
     }
 }
 
+// Answers a line that asks for a list.
 pub fn list(memory: &[u8], values: &[u64], s: Said) -> Said {
     put_list(
         memory,
@@ -55,6 +56,7 @@ fn rank_in(memory: &[u8], rows: &mut [[u16; ROW]], values: &[u64], s: Said) -> S
     put_ranked(rows, r.count, values, put_answer(values, s, r, false))
 }
 
+// Answers a line that asks for a rank.
 pub fn rank(memory: &[u8], values: &[u64], s: Said) -> Said {
     rank_in(memory, &mut [[0u16; ROW]; ROWS], values, s)
 }

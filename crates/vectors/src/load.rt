@@ -55,6 +55,7 @@ fn load_rows(memory: &mut [u8], input: &[[u16; INPUT]], values: &[u64], s: Said)
     )
 }
 
+// Answers a line that loads a board.
 pub fn load(memory: &mut [u8], values: &[u64], s: Said) -> Said {
     let mut input = [[0u16; INPUT]; ROWS];
     read_rows(values, has_block(s.word), &mut input);

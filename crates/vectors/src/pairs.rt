@@ -117,6 +117,7 @@ fn put_drawn(values: &[u64], s: Said, t: Tally) -> Said {
     )
 }
 
+// Answers a line on two rows: the comparison and dominance.
 pub fn answer(values: &[u64], s: Said) -> Said {
     let first = value(values, 0);
     let word = s.word;

@@ -16,6 +16,7 @@ pub struct Reading {
     pub more: bool,
 }
 
+// Goes on to the next line.
 pub fn next_line(r: Reading) -> Reading {
     let mut n = r;
     n.word = 0;

@@ -15,6 +15,7 @@ pub struct Said {
     pub agrees: bool,
 }
 
+// Begins what is said to a line.
 pub fn begun(l: Reading) -> Said {
     Said {
         word: l.word,
@@ -44,6 +45,7 @@ fn write_word(word: u32) {
     write_byte((word % 256) as u8);
 }
 
+// Writes numbers to standard output.
 pub fn write_numbers(values: &[u64], from: usize, to: usize) {
     let mut i = from;
     while i < to {

@@ -17,10 +17,12 @@ ghost use Prim.Native.Nat.{_<_, _≤_};
 ghost use Rattle.rows.specs.Telling.{TellingAsked};
 ghost use Rattle.planning.specs.Plan.{leftOf, enteredOf};
 
+// Adds the refusal and its detail to what is said.
 pub fn put_verdict(values: &[u64], s: Said, v: Verdict) -> Said {
     put(values, put(values, s, number_of(v) as u64), v.detail as u64)
 }
 
+// Adds what a call on a board answers.
 pub fn put_answer(values: &[u64], s: Said, a: CallResult, nodes: bool) -> Said {
     let verdict = a.verdict;
     let r = put(values, put_verdict(values, s, verdict), a.count as u64);
@@ -31,6 +33,7 @@ pub fn put_answer(values: &[u64], s: Said, a: CallResult, nodes: bool) -> Said {
     }
 }
 
+// Adds a row.
 pub fn put_row(values: &[u64], s: Said, row: [u16; ROW]) -> Said {
     put_all(values, s, &row)
 }
@@ -62,6 +65,7 @@ fn answer_of(verdict: Verdict, need: usize, opened: usize) -> CallResult {
     }
 }
 
+// Adds the answer and the rows of a planned list.
 pub fn put_list(m: &[u8], p: Plan, nodes: bool, values: &[u64], s: Said) -> Said
     requires { ⌜ (0 < p .telling .count → TellingAsked (p .telling .told) (now m)) ⌝ }
 {
@@ -71,6 +75,7 @@ pub fn put_list(m: &[u8], p: Plan, nodes: bool, values: &[u64], s: Said) -> Said
     put_rows(m, telling, values, answered)
 }
 
+// Adds the answer and the notice of a planned change.
 pub fn put_change(m: &[u8], p: ChangePlan, nodes: bool, values: &[u64], s: Said) -> Said
     requires { ⌜ p .upkeep .left ≤ p .need ⌝ }
     requires { ⌜ (0 < leftOf p .count → TellingAsked (leftOf p .told) (now m)) ⌝ }

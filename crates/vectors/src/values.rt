@@ -37,16 +37,19 @@ pub fn value_before(values: &[u64], i: usize) -> u64 {
     if 0 < i { value(values, i - 1) } else { 0 }
 }
 
+// Gives the lesser of a number and a bound.
 pub fn at_most(n: usize, bound: usize) -> usize
     ensures { λ r. ⌜ r ≤ bound ⌝ }
 {
     if n <= bound { n } else { bound }
 }
 
+// Cuts a number to 16 bits.
 pub fn narrow(n: u64) -> u16 {
     (n % 65536) as u16
 }
 
+// Widens a number of 16 bits.
 pub fn wide(n: u16) -> u64 {
     n as u64
 }

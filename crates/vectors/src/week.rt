@@ -73,6 +73,7 @@ fn tell(memory: &[u8], entries: &[[u16; HOURS]], lent: usize, values: &[u64], s:
     put_list(memory, p, false, values, s)
 }
 
+// Answers a line that asks for the hours call.
 pub fn hours_at(memory: &[u8], values: &[u64], s: Said) -> Said {
     let mut none = [RUBBISH; HOURS];
     none[0] = 0;

@@ -56,10 +56,12 @@ pub fn call_of(word: u32) -> u32 {
     if has_block(word) { word / 256 } else { word }
 }
 
+// Says whether a line's word loads a board.
 pub fn is_load(word: u32) -> bool {
     call_of(word) == LOAD
 }
 
+// Says whether it changes one.
 pub fn is_change(word: u32) -> bool {
     match call_of(word) {
         ENTER | WITHDRAW | WITHDRAW_OPENED | RECOST => true,

@@ -84,6 +84,7 @@ fn refused(verdict: Verdict) -> RegionResult
     }
 }
 
+// Gives the region of two addresses, or says why there is none.
 pub fn region(d: usize, a: AddressWords, b: AddressWords) -> RegionResult
     ensures { λ r. ⌜ RegionPromise d (value a) (value b) r ⌝ }
 {

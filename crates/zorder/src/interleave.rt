@@ -63,12 +63,14 @@ pub fn zero_past(d: usize, costs: [u16; COSTS]) -> bool
     true
 }
 
+// Says whether no board has d costs.
 pub fn cost_count_bad(d: usize) -> bool
     ensures { λ r. ⌜ r ≡ costCountBad d ⌝ }
 {
     d < 2 || COSTS < d
 }
 
+// Gives the address of a row of costs, or says why there is none.
 pub fn address(d: usize, costs: [u16; COSTS]) -> AddressResult
     ensures { λ r. ⌜ AddressPromise d costs r ⌝ }
 {

@@ -51,6 +51,7 @@ pub(crate) fn too_large(d: usize, a: AddressWords) -> bool
     leading_zeros(a) < 128 - BITS * d
 }
 
+// Gives the costs of an address, or says why there are none.
 pub fn costs(d: usize, address: AddressWords) -> CostsResult
     ensures { λ r. ⌜ CostsPromise d (value address) r ⌝ }
 {
