@@ -14,10 +14,8 @@ ghost use Rattle.calls.specs.Exported.{rowsOf, ChangeExported};
 // Adds a move to the board.
 #[no_mangle]
 pub extern "C" fn dolzhev_enter(memory: &mut [u8], given: Move, rows: &mut [Row]) -> Answer
-    ensures { λ r. ⌜
-        ChangeExported (spec.entering given) (now (memory .entry)) (rowsOf (now (rows .entry))) r
-        (now (memory .exit)) (rowsOf (now (rows .exit)))
-        ⌝ }
+    ensures { λ r. ⌜ ChangeExported (spec.entering given) (now (memory .entry))
+        (rowsOf (now (rows .entry))) r (now (memory .exit)) (rowsOf (now (rows .exit))) ⌝ }
 {
     let p = plan_enter(memory, given, rows.len());
     let r = tell_notice(rows, memory, p);
@@ -28,10 +26,8 @@ pub extern "C" fn dolzhev_enter(memory: &mut [u8], given: Move, rows: &mut [Row]
 // Takes the move of a number from the board.
 #[no_mangle]
 pub extern "C" fn dolzhev_withdraw(memory: &mut [u8], number: u16, rows: &mut [Row]) -> Answer
-    ensures { λ r. ⌜
-        ChangeExported (withdraw number) (now (memory .entry)) (rowsOf (now (rows .entry))) r
-        (now (memory .exit)) (rowsOf (now (rows .exit)))
-        ⌝ }
+    ensures { λ r. ⌜ ChangeExported (withdraw number) (now (memory .entry))
+        (rowsOf (now (rows .entry))) r (now (memory .exit)) (rowsOf (now (rows .exit))) ⌝ }
 {
     let p = plan_withdraw(memory, number, rows.len());
     let r = tell_notice(rows, memory, p);
@@ -42,10 +38,8 @@ pub extern "C" fn dolzhev_withdraw(memory: &mut [u8], number: u16, rows: &mut [R
 // Gives a move new costs and a block.
 #[no_mangle]
 pub extern "C" fn dolzhev_recost(memory: &mut [u8], given: Move, rows: &mut [Row]) -> Answer
-    ensures { λ r. ⌜
-        ChangeExported (spec.recosting given) (now (memory .entry)) (rowsOf (now (rows .entry))) r
-        (now (memory .exit)) (rowsOf (now (rows .exit)))
-        ⌝ }
+    ensures { λ r. ⌜ ChangeExported (spec.recosting given) (now (memory .entry))
+        (rowsOf (now (rows .entry))) r (now (memory .exit)) (rowsOf (now (rows .exit))) ⌝ }
 {
     let p = plan_recost(memory, given, rows.len());
     let r = tell_notice(rows, memory, p);

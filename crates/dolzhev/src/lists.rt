@@ -16,10 +16,8 @@ ghost use Rattle.calls.specs.Exported.{rowsOf, QueryExported};
 // Tells the list (Definition 2, with Card 4's rule).
 #[no_mangle]
 pub extern "C" fn dolzhev_list(memory: &[u8], rows: &mut [Row]) -> Answer
-    ensures { λ r. ⌜
-        QueryExported list (now (memory .entry)) (rowsOf (now (rows .entry))) r
-        (rowsOf (now (rows .exit)))
-        ⌝ }
+    ensures { λ r. ⌜ QueryExported list (now (memory .entry)) (rowsOf (now (rows .entry))) r
+        (rowsOf (now (rows .exit))) ⌝ }
 {
     let p = plan_list(memory, rows.len());
     tell_list(rows, memory, p)
@@ -28,10 +26,8 @@ pub extern "C" fn dolzhev_list(memory: &[u8], rows: &mut [Row]) -> Answer
 // Tells a band (Definition 3): the moves that b others or fewer dominate.
 #[no_mangle]
 pub extern "C" fn dolzhev_band(memory: &[u8], b: usize, rows: &mut [Row]) -> Answer
-    ensures { λ r. ⌜
-        QueryExported (bandQuery b) (now (memory .entry)) (rowsOf (now (rows .entry))) r
-        (rowsOf (now (rows .exit)))
-        ⌝ }
+    ensures { λ r. ⌜ QueryExported (bandQuery b) (now (memory .entry)) (rowsOf (now (rows .entry)))
+        r (rowsOf (now (rows .exit))) ⌝ }
 {
     let p = plan_band(memory, b, rows.len());
     tell_list(rows, memory, p)
@@ -40,10 +36,8 @@ pub extern "C" fn dolzhev_band(memory: &[u8], b: usize, rows: &mut [Row]) -> Ans
 // Tells the moves that none dominates on k of the costs (Definition 6).
 #[no_mangle]
 pub extern "C" fn dolzhev_on_k(memory: &[u8], k: usize, rows: &mut [Row]) -> Answer
-    ensures { λ r. ⌜
-        QueryExported (onKQuery k) (now (memory .entry)) (rowsOf (now (rows .entry))) r
-        (rowsOf (now (rows .exit)))
-        ⌝ }
+    ensures { λ r. ⌜ QueryExported (onKQuery k) (now (memory .entry)) (rowsOf (now (rows .entry))) r
+        (rowsOf (now (rows .exit))) ⌝ }
 {
     let p = plan_on_k(memory, k, rows.len());
     tell_list(rows, memory, p)
@@ -53,10 +47,8 @@ pub extern "C" fn dolzhev_on_k(memory: &[u8], k: usize, rows: &mut [Row]) -> Ans
 // for cost i.
 #[no_mangle]
 pub extern "C" fn dolzhev_chosen(memory: &[u8], set: usize, rows: &mut [Row]) -> Answer
-    ensures { λ r. ⌜
-        QueryExported (chosenQuery set) (now (memory .entry)) (rowsOf (now (rows .entry))) r
-        (rowsOf (now (rows .exit)))
-        ⌝ }
+    ensures { λ r. ⌜ QueryExported (chosenQuery set) (now (memory .entry))
+        (rowsOf (now (rows .entry))) r (rowsOf (now (rows .exit))) ⌝ }
 {
     let p = plan_chosen(memory, set, rows.len());
     tell_list(rows, memory, p)
@@ -72,10 +64,8 @@ pub extern "C" fn dolzhev_hours(
     hours: &[[u16; HOURS]],
     rows: &mut [Row],
 ) -> Answer
-    ensures { λ r. ⌜
-        QueryExported (hoursQuery minute (map blockHours (now (hours .entry))))
-        (now (memory .entry)) (rowsOf (now (rows .entry))) r (rowsOf (now (rows .exit)))
-        ⌝ }
+    ensures { λ r. ⌜ QueryExported (hoursQuery minute (map blockHours (now (hours .entry))))
+        (now (memory .entry)) (rowsOf (now (rows .entry))) r (rowsOf (now (rows .exit))) ⌝ }
 {
     let p = plan_hours(memory, minute, hours, rows.len());
     tell_list(rows, memory, p)

@@ -15,10 +15,8 @@ pub extern "C" fn dolzhev_load(
     d: usize,
     rows: &[[u16; INPUT]],
 ) -> Answer
-    ensures { λ r. ⌜
-        LoadExported c d (map inputRow (now (rows .entry))) (now (memory .entry)) r
-        (now (memory .exit))
-        ⌝ }
+    ensures { λ r. ⌜ LoadExported c d (map inputRow (now (rows .entry))) (now (memory .entry)) r
+        (now (memory .exit)) ⌝ }
 {
     let verdict = load(memory, c, d, rows);
     handed(verdict, 0, 0)

@@ -14,10 +14,8 @@ ghost use Rattle.calls.specs.Exported.{rowsOf, PreviewExported};
 // Answers and tells what `dolzhev_enter` would.
 #[no_mangle]
 pub extern "C" fn dolzhev_preview_enter(memory: &[u8], given: Move, rows: &mut [Row]) -> Answer
-    ensures { λ r. ⌜
-        PreviewExported (spec.entering given) (now (memory .entry)) (rowsOf (now (rows .entry))) r
-        (rowsOf (now (rows .exit)))
-        ⌝ }
+    ensures { λ r. ⌜ PreviewExported (spec.entering given) (now (memory .entry))
+        (rowsOf (now (rows .entry))) r (rowsOf (now (rows .exit))) ⌝ }
 {
     let p = plan_enter(memory, given, rows.len());
     tell_notice(rows, memory, p)
@@ -26,10 +24,8 @@ pub extern "C" fn dolzhev_preview_enter(memory: &[u8], given: Move, rows: &mut [
 // Answers and tells what `dolzhev_withdraw` would.
 #[no_mangle]
 pub extern "C" fn dolzhev_preview_withdraw(memory: &[u8], number: u16, rows: &mut [Row]) -> Answer
-    ensures { λ r. ⌜
-        PreviewExported (withdraw number) (now (memory .entry)) (rowsOf (now (rows .entry))) r
-        (rowsOf (now (rows .exit)))
-        ⌝ }
+    ensures { λ r. ⌜ PreviewExported (withdraw number) (now (memory .entry))
+        (rowsOf (now (rows .entry))) r (rowsOf (now (rows .exit))) ⌝ }
 {
     let p = plan_withdraw(memory, number, rows.len());
     tell_notice(rows, memory, p)
@@ -38,10 +34,8 @@ pub extern "C" fn dolzhev_preview_withdraw(memory: &[u8], number: u16, rows: &mu
 // Answers and tells what `dolzhev_recost` would.
 #[no_mangle]
 pub extern "C" fn dolzhev_preview_recost(memory: &[u8], given: Move, rows: &mut [Row]) -> Answer
-    ensures { λ r. ⌜
-        PreviewExported (spec.recosting given) (now (memory .entry)) (rowsOf (now (rows .entry))) r
-        (rowsOf (now (rows .exit)))
-        ⌝ }
+    ensures { λ r. ⌜ PreviewExported (spec.recosting given) (now (memory .entry))
+        (rowsOf (now (rows .entry))) r (rowsOf (now (rows .exit))) ⌝ }
 {
     let p = plan_recost(memory, given, rows.len());
     tell_notice(rows, memory, p)

@@ -13,10 +13,8 @@ ghost use Rattle.calls.specs.Exported.{QueryExported};
 // arrays of the row's layout, as load's are.
 #[no_mangle]
 pub extern "C" fn dolzhev_rank(memory: &[u8], t: usize, rows: &mut [[u16; ROW]]) -> Answer
-    ensures { λ r. ⌜
-        QueryExported (rankQuery t) (now (memory .entry)) (map resultRow (now (rows .entry))) r
-        (map resultRow (now (rows .exit)))
-        ⌝ }
+    ensures { λ r. ⌜ QueryExported (rankQuery t) (now (memory .entry))
+        (map resultRow (now (rows .entry))) r (map resultRow (now (rows .exit))) ⌝ }
 {
     let r = rank(memory, t, rows);
     let verdict = r.verdict;
