@@ -17,8 +17,8 @@ use Rattle.frame_lines.specs.Text.{lineEnd}
 use Rattle.frame_lines.specs.Lines.{linesFrom}
 use Rattle.frame_lines.specs.declared.reading.Line.{Line}
 use Rattle.frame_lines.specs.declared.reading.Read.{Read}
-use Rattle.frame_lines.specs.declared.frame.Kind.{Kind}
-use Rattle.frame_lines.specs.declared.frame.Kind.the-variants.{Load, Enter, Withdraw, Recost, List as ListAll, Early, Wrong}
+use Rattle.frame_lines.specs.declared.frame.FrameKind.{FrameKind}
+use Rattle.frame_lines.specs.declared.frame.FrameKind.the-variants.{Load, Enter, Withdraw, Recost, List as ListAll, Early, Wrong}
 use Rattle.frame_lines.specs.declared.frame.Frame.{Frame}
 
 -- No frame is longer than an enter with all its costs: of a longer line it is enough to know whether it has whole bytes, and
@@ -71,26 +71,26 @@ unfoldable pub costsAt : List ℕ → ℕ → List ℕ
 costsAt digits d = tab (costAt digits d) rowCosts
 
 -- The kind of a frame of whole bytes, by its first byte and the number of its digits.
-unfoldable pub sizedKind : ℕ → ℕ → Kind → Kind
+unfoldable pub sizedKind : ℕ → ℕ → FrameKind → FrameKind
 sizedKind count n k = cond (eqb count n) k Wrong
 
-unfoldable pub kindOn : ℕ → ℕ → ℕ → Kind
+unfoldable pub kindOn : ℕ → ℕ → ℕ → FrameKind
 kindOn d code count =
     cond (eqb code 0x20) (sizedKind count (6 + 4 * d) Enter)
     (cond (eqb code 0x30) (sizedKind count 6 Withdraw)
     (cond (eqb code 0x40) (sizedKind count (6 + 4 * d) Recost) (sizedKind count 2 ListAll)))
 
-unfoldable pub kindOf : ℕ → ℕ → ℕ → Kind
+unfoldable pub kindOf : ℕ → ℕ → ℕ → FrameKind
 kindOf d code count =
     cond (eqb code 0x10) (sizedKind count 4 Load)
     (cond (has code callCodes) (cond (eqb d 0) Early (kindOn d code count)) Wrong)
 
-unfoldable pub lineKind : ℕ → Line → Kind
+unfoldable pub lineKind : ℕ → Line → FrameKind
 lineKind d l =
     cond (l .odd) Wrong (cond (l .spelled) (kindOf d (byteAt (l .first) 0) (l .count)) Wrong)
 
 -- The code's frame as one of the definitions.
-unfoldable pub framed : Kind → ℕ → ℕ → List ℕ → frames.Frame
+unfoldable pub framed : FrameKind → ℕ → ℕ → List ℕ → frames.Frame
 framed Load d number costs = frames.load d
 framed Enter d number costs = frames.change (enter number 0 costs)
 framed Withdraw d number costs = frames.change (withdraw number)
@@ -103,7 +103,7 @@ unfoldable pub asFrame : Frame → frames.Frame
 asFrame f = framed (f .kind) (f .dimension) (f .number) (f .costs)
 
 -- Before an accepted 10 no call is made on the board.
-unfoldable pub calling : Kind → Bool
+unfoldable pub calling : FrameKind → Bool
 calling Load = false
 calling Enter = true
 calling Withdraw = true
@@ -112,7 +112,7 @@ calling ListAll = true
 calling Early = false
 calling Wrong = false
 
-unfoldable pub Timely : ℕ → Kind → Type 0
+unfoldable pub Timely : ℕ → FrameKind → Type 0
 Timely d k = calling k ≡ true → 0 < d
 
 -- The number by which the code knows what is held: 0 before an accepted 10, then the board's number of costs.

@@ -8,7 +8,7 @@ ghost use Prim.Native.Nat.{_+_, _*_, _<_, _≤_};
 ghost use Rattle.frame_lines.specs.Reading as spec;
 ghost use Rattle.zorder.specs.Address.{rowCosts};
 
-pub enum Kind {
+pub enum FrameKind {
     Load,
     Enter,
     Withdraw,
@@ -22,7 +22,7 @@ pub enum Kind {
 // The kind, and what that kind of frame carries: the number of costs that a load asks for, the
 // number of a move, its costs.
 pub struct Frame {
-    pub kind: Kind,
+    pub kind: FrameKind,
     pub dimension: usize,
     pub number: u16,
     pub costs: [u16; COSTS],
@@ -67,57 +67,57 @@ fn costs_at(digits: [u8; DIGITS], d: usize) -> [u16; COSTS]
 }
 
 // The kind, if the frame has as many digits as it asks for.
-fn sized(count: usize, n: usize, kind: Kind) -> Kind
+fn sized(count: usize, n: usize, kind: FrameKind) -> FrameKind
     ensures { λ r. ⌜ r ≡ spec.sizedKind count n kind ⌝ }
 {
-    if count == n { kind } else { Kind::Wrong }
+    if count == n { kind } else { FrameKind::Wrong }
 }
 
 // The kind of a frame for a board of d costs, which has two digits of its first byte, four of a
 // number and four of each cost.
-fn kind_on(d: usize, code: u8, count: usize) -> Kind
+fn kind_on(d: usize, code: u8, count: usize) -> FrameKind
     requires { ⌜ d ≤ rowCosts ⌝ }
     ensures { λ r. ⌜ r ≡ spec.kindOn d code count ⌝ }
 {
     let all = 6 + 4 * d;
     match code {
-        0x20 => sized(count, all, Kind::Enter),
-        0x30 => sized(count, 6, Kind::Withdraw),
-        0x40 => sized(count, all, Kind::Recost),
-        _ => sized(count, 2, Kind::List),
+        0x20 => sized(count, all, FrameKind::Enter),
+        0x30 => sized(count, 6, FrameKind::Withdraw),
+        0x40 => sized(count, all, FrameKind::Recost),
+        _ => sized(count, 2, FrameKind::List),
     }
 }
 
 // The kind of a frame of whole bytes, by its first byte and how many digits it has; d is 0 before
 // the first accepted load.
-fn kind_of(d: usize, code: u8, count: usize) -> Kind
+fn kind_of(d: usize, code: u8, count: usize) -> FrameKind
     requires { ⌜ d ≤ rowCosts ⌝ }
     ensures { λ r. ⌜ r ≡ spec.kindOf d code count ⌝ }
 {
     match code {
-        0x10 => return sized(count, 4, Kind::Load),
+        0x10 => return sized(count, 4, FrameKind::Load),
         0x20 | 0x30 | 0x40 | 0x50 => {}
-        _ => return Kind::Wrong,
+        _ => return FrameKind::Wrong,
     }
     if d == 0 {
-        return Kind::Early;
+        return FrameKind::Early;
     }
     kind_on(d, code, count)
 }
 
 // The kind of a line: half a byte, or a byte that is no digit, is wrong form.
-fn line_kind(d: usize, line: Line) -> Kind
+fn line_kind(d: usize, line: Line) -> FrameKind
     requires { ⌜ d ≤ rowCosts ⌝ }
     ensures { λ r. ⌜ r ≡ spec.lineKind d line ⌝ }
 {
     let digits = line.first;
     if line.odd {
-        return Kind::Wrong;
+        return FrameKind::Wrong;
     }
     if line.spelled {
         return kind_of(d, byte_at(digits, 0), line.count);
     }
-    Kind::Wrong
+    FrameKind::Wrong
 }
 
 // Gives the frame of a line on a board of d costs; d is 0 before the first accepted load.

@@ -6,7 +6,7 @@ mod reading;
 mod text;
 
 pub use frame::Frame;
-pub use frame::Kind;
+pub use frame::FrameKind;
 pub use frame::frame_of;
 pub use reading::DIGITS;
 pub use reading::Line;

@@ -6,7 +6,7 @@ use crate::said::put_list;
 use crate::said::put_loaded;
 use board::carry_out;
 use frame_lines::Frame;
-use frame_lines::Kind;
+use frame_lines::FrameKind;
 use frame_lines::Line;
 use frame_lines::frame_of;
 use frame_lines::put_refusal;
@@ -96,13 +96,13 @@ pub fn answer(m: &mut [u8], d: usize, line: Line, out: &mut [u8]) -> Response
     let f = frame_of(d, line);
     let kind = f.kind;
     let answered = match kind {
-        Kind::Load => return loaded(m, d, f.dimension, out),
-        Kind::List => listed(m, d, out),
-        Kind::Early => put_refusal(out, 3, 0),
-        Kind::Wrong => put_refusal(out, 9, 0),
-        Kind::Enter => change(m, d, asked(planning::Kind::Enter, f), out),
-        Kind::Withdraw => change(m, d, asked(planning::Kind::Withdraw, f), out),
-        Kind::Recost => change(m, d, asked(planning::Kind::Recost, f), out),
+        FrameKind::Load => return loaded(m, d, f.dimension, out),
+        FrameKind::List => listed(m, d, out),
+        FrameKind::Early => put_refusal(out, 3, 0),
+        FrameKind::Wrong => put_refusal(out, 9, 0),
+        FrameKind::Enter => change(m, d, asked(planning::Kind::Enter, f), out),
+        FrameKind::Withdraw => change(m, d, asked(planning::Kind::Withdraw, f), out),
+        FrameKind::Recost => change(m, d, asked(planning::Kind::Recost, f), out),
     };
     Response {
         answered,

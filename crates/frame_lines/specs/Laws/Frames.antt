@@ -19,17 +19,17 @@ use Rattle.frame_lines.specs.Frames.{Frame, load, change, wrong, sized, 
 use Rattle.frame_lines.specs.Reading.{mostDigits, Judged, byteAt, wordSpelled, costAt, costsAt, sizedKind, kindOn, kindOf, lineKind, framed, calling, Timely, CostsHeld}
 use Rattle.frame_lines.specs.Laws.Pairs.{joined-length, joined-at, tab-padded}
 use Rattle.frame_lines.specs.declared.reading.Line.{Line}
-use Rattle.frame_lines.specs.declared.frame.Kind.{Kind}
-use Rattle.frame_lines.specs.declared.frame.Kind.the-variants.{Load, Enter, Withdraw, Recost, List as ListAll, Early, Wrong}
+use Rattle.frame_lines.specs.declared.frame.FrameKind.{FrameKind}
+use Rattle.frame_lines.specs.declared.frame.FrameKind.the-variants.{Load, Enter, Withdraw, Recost, List as ListAll, Early, Wrong}
 
 -- ---- by the number of digits
 
 -- What follows the first byte, how many digits there are in all, as far as they are counted, and what the code read besides.
 module _ (rest : List ℕ) (count asked number : ℕ) (costs : List ℕ) (counts : count ≡ min (2 * suc (length rest)) (suc mostDigits)) where
-  abbrev found : Kind → Frame
+  abbrev found : FrameKind → Frame
   found k = framed k asked number costs
 
-  sized-found : (m n : ℕ) (k : Kind) {f : Frame} → m ≡ 2 + 2 * n → n ≤ 2 + 2 * rowCosts → (length rest ≡ n → found k ≡ f) → found (sizedKind count m k) ≡ sized n rest f
+  sized-found : (m n : ℕ) (k : FrameKind) {f : Frame} → m ≡ 2 + 2 * n → n ≤ 2 + 2 * rowCosts → (length rest ≡ n → found k ≡ f) → found (sizedKind count m k) ≡ sized n rest f
   unfolding sizedKind sized framed
   sized-found m n k {f} digits most same =
       let tests : eqb count m ≡ eqb (length rest) n =
@@ -157,8 +157,8 @@ module _ (line : List ℕ) (l : Line) (j : Judged line l) where
   unfolding lineKind frameOf wholeBytes framed bytesOf Reads
   found-line s d costs most =
       let first : List ℕ = l .first in
-      let found : Kind → Frame = λ k. framed k (byteAt first 1) (wordSpelled first 1) (costsAt first d) in
-      let kind : Kind = kindOf d (byteAt first 0) (l .count) in
+      let found : FrameKind → Frame = λ k. framed k (byteAt first 1) (wordSpelled first 1) (costsAt first d) in
+      let kind : FrameKind = kindOf d (byteAt first 0) (l .count) in
       let odd : Bool = eqb (length line % 2) 1 in
       cond-map found (l .odd) Wrong (cond (l .spelled) kind Wrong)
       ∙ ap (cond (l .odd) wrong) (cond-map found (l .spelled) kind Wrong)
@@ -176,14 +176,14 @@ module _ (line : List ℕ) (l : Line) (j : Judged line l) where
 calm : (code count : ℕ) → calling (kindOf 0 code count) ≡ false
 unfolding kindOf sizedKind calling
 calm code count =
-    condCases (λ (k : Kind). calling k ≡ false) (eqb code 0x10)
-    (λ e. condCases (λ (k : Kind). calling k ≡ false) (eqb count 4) (λ f. refl) (λ f. refl))
-    (λ e. condCases (λ (k : Kind). calling k ≡ false) (has code callCodes) (λ f. refl) (λ f. refl))
+    condCases (λ (k : FrameKind). calling k ≡ false) (eqb code 0x10)
+    (λ e. condCases (λ (k : FrameKind). calling k ≡ false) (eqb count 4) (λ f. refl) (λ f. refl))
+    (λ e. condCases (λ (k : FrameKind). calling k ≡ false) (has code callCodes) (λ f. refl) (λ f. refl))
 
 pub timely-kind : (d : ℕ) (l : Line) → Timely d (lineKind d l)
 unfolding Timely lineKind calling
 timely-kind zero l calls =
     both-ways calls
-    (condCases (λ (k : Kind). calling k ≡ false) (l .odd) (λ e. refl)
-    (λ e. condCases (λ (k : Kind). calling k ≡ false) (l .spelled) (λ f. calm (byteAt (l .first) 0) (l .count)) (λ f. refl)))
+    (condCases (λ (k : FrameKind). calling k ≡ false) (l .odd) (λ e. refl)
+    (λ e. condCases (λ (k : FrameKind). calling k ≡ false) (l .spelled) (λ f. calm (byteAt (l .first) 0) (l .count)) (λ f. refl)))
 timely-kind (suc d) l calls = omega arith

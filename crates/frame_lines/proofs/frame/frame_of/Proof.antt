@@ -5,7 +5,7 @@ use mathlib.Core.List.{List}
 use mathlib.Core.Path.{sym, ap₂, subst, _∙_}
 use Rattle.frame_lines.specs.Reading.{byteAt, framed, asFrame, Timely, lineKind}
 use Rattle.frame_lines.specs.Laws.Frames.{found-line, timely-kind}
-use Rattle.frame_lines.specs.declared.frame.Kind.{Kind}
+use Rattle.frame_lines.specs.declared.frame.FrameKind.{FrameKind}
 use Rattle.frame_lines.proofs.frame.frame_of.Statement.{statement}
 use Rattle.frame_lines.proofs.frame.frame_of.Tie as tie
 
@@ -19,7 +19,7 @@ returns c =
     let costs = c .costs-at in
     record {
       frame = λ s line costs-held j.
-          ap₂ (λ (k : Kind) (n : ℕ). framed k n (number .result) (costs .result)) (kind .ensures) (asked .ensures)
+          ap₂ (λ (k : FrameKind) (n : ℕ). framed k n (number .result) (costs .result)) (kind .ensures) (asked .ensures)
           ∙ ap₂ (λ (n : ℕ) (cs : List ℕ). framed (lineKind (a .d) (a .line)) (byteAt (a .line .first) 1) n cs) (number .ensures) (costs .ensures)
           ∙ found-line line (a .line) j s (a .d) costs-held (c .before .before .before .before .before .pre);
       timely = subst (Timely (a .d)) (sym (kind .ensures)) (timely-kind (a .d) (a .line));

@@ -11,7 +11,7 @@ use types.Run.{OneOf}
 use Rattle.model.specs.Basics.{any, has}
 use Rattle.frame_lines.specs.Frames.{callCodes}
 use Rattle.frame_lines.specs.Reading.{kindOn, kindOf}
-use Rattle.frame_lines.specs.declared.frame.Kind.the-variants.{Early}
+use Rattle.frame_lines.specs.declared.frame.FrameKind.the-variants.{Early}
 use Rattle.frame_lines.proofs.frame.kind_of.Statement.{statement}
 use Rattle.frame_lines.proofs.frame.kind_of.Tie as tie
 

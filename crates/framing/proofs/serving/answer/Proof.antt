@@ -5,8 +5,8 @@ use Rattle.planning.specs.Kind.{changeOf}
 use Rattle.planning.specs.declared.change.Kind.the-variants as change
 use Rattle.framing.specs.Laws.Serving.{ready-most, answers-line, asked-now, change-frame, serve-as, served-early, served-wrong}
 use Rattle.frame_lines.specs.Reading.{framed, asFrame, calling}
-use Rattle.frame_lines.specs.declared.frame.Kind.{Kind}
-use Rattle.frame_lines.specs.declared.frame.Kind.the-variants.{Enter, Withdraw, Recost}
+use Rattle.frame_lines.specs.declared.frame.FrameKind.{FrameKind}
+use Rattle.frame_lines.specs.declared.frame.FrameKind.the-variants.{Enter, Withdraw, Recost}
 use Rattle.framing.proofs.serving.answer.Statement.{statement}
 use Rattle.framing.proofs.serving.answer.Tie as tie
 
@@ -21,7 +21,7 @@ returns c =
     let f = found .result in
     answers-line (start .args .d) (start .args .line) f _ _ _ _ _ (start .pre .0) (found .ensures)
     (serve-as
-    (ap (λ (k : Kind). framed k (f .dimension) (f .number) (f .costs)) (c .before .before .before .before .before .before .before .enum-told .given .1))
+    (ap (λ (k : FrameKind). framed k (f .dimension) (f .number) (f .costs)) (c .before .before .before .before .before .before .before .enum-told .given .1))
     (c .before .before .before .before .loaded .ensures))
 
 listed-requires : tie.Need-listed-requires
@@ -60,7 +60,7 @@ returns-2 c =
     let f = found .result in
     answers-line (start .args .d) (start .args .line) f _ _ _ _ _ (start .pre .0) (found .ensures)
     (serve-as
-    (ap (λ (k : Kind). framed k (f .dimension) (f .number) (f .costs)) (c .before .before .before .before .before .enum-told2 .given .1))
+    (ap (λ (k : FrameKind). framed k (f .dimension) (f .number) (f .costs)) (c .before .before .before .before .before .enum-told2 .given .1))
     (c .before .before .listed .ensures))
 
 returns-3 : tie.Need-returns-3
@@ -71,7 +71,7 @@ returns-3 c =
     let f = found .result in
     answers-line (start .args .d) (start .args .line) f _ _ _ _ _ (start .pre .0) (found .ensures)
     (serve-as
-    (ap (λ (k : Kind). framed k (f .dimension) (f .number) (f .costs)) (c .before .before .before .before .enum-told3 .given .1))
+    (ap (λ (k : FrameKind). framed k (f .dimension) (f .number) (f .costs)) (c .before .before .before .before .enum-told3 .given .1))
     (served-early _ _ _ _ _ (c .before .before .put-refusal .ensures)))
 
 returns-4 : tie.Need-returns-4
@@ -82,7 +82,7 @@ returns-4 c =
     let f = found .result in
     answers-line (start .args .d) (start .args .line) f _ _ _ _ _ (start .pre .0) (found .ensures)
     (serve-as
-    (ap (λ (k : Kind). framed k (f .dimension) (f .number) (f .costs)) (c .before .before .before .before .enum-told4 .given .1))
+    (ap (λ (k : FrameKind). framed k (f .dimension) (f .number) (f .costs)) (c .before .before .before .before .enum-told4 .given .1))
     (served-wrong _ _ _ _ _ (c .before .before .put-refusal2 .ensures)))
 
 returns-5 : tie.Need-returns-5
