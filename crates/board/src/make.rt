@@ -76,7 +76,7 @@ fn make_moves(m: &mut [u8], p: ChangePlan)
     }
 }
 
-// What an accepted plan makes: the moves, then the block. A refused one makes nothing.
+// Makes what an accepted plan says: the moves, then the block. A refused one makes nothing.
 pub fn carry_out(m: &mut [u8], p: ChangePlan)
     requires { ⌜ plan.Able p (now m) ⌝ }
     ensures { λ _. ⌜ plan.CarriedOut p (now (m .entry)) (now (m .exit)) ⌝ }

@@ -57,7 +57,7 @@ fn ranked(m: &[u8], k: Call, t: &mut Table, b: Plain) -> Plain {
     with_rows(said, t, TOLD, said.count)
 }
 
-// The first n rows loaded.
+// Loads the first n rows.
 pub fn load(m: &mut [u8], c: usize, d: usize, rows: &[[u16; INPUT]], n: usize) -> Verdict {
     let k = at_most(n, rows.len());
     loading::load(m, c, d, &rows[..k])
@@ -87,8 +87,8 @@ fn asked(m: &mut [u8], k: Call, t: &mut Table, b: Plain) -> Plain {
     }
 }
 
-// The call on the memory of the board b; what it said, and how many rows the holder then holds. He
-// listens to notices; before there is one, a list is read.
+// Makes the call on the memory of the board b; what it said, and how many rows the holder then
+// holds. He listens to notices; before there is one, a list is read.
 pub fn ask(m: &mut [u8], k: Call, t: &mut Table, b: Plain) -> Plain {
     let mut said = asked(m, k, t, b);
     let listens = if b.holding {

@@ -113,7 +113,7 @@ fn short(t: &mut Table) -> Tally {
     run(after, t, &mut m, count([0u64; 128], b'L', after), 1, 300)
 }
 
-// So many boards.
+// Runs so many boards.
 pub fn all(t: &mut Table, m: &mut [u8; MEMORY], n: usize) -> Tally {
     let mut counts = short(t);
     let mut s = 88172645463325252;

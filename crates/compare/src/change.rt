@@ -41,13 +41,13 @@ fn change_of(k: Call) -> Change {
     }
 }
 
-// What the change would say, with its rows.
+// Gives what the change would say, with its rows.
 pub fn preview(m: &[u8], k: Call, t: &mut Table, b: Plain) -> Plain {
     let p = plan_change(m, change_of(k), k.lent);
     noticed(m, p, t, b, SEEN)
 }
 
-// The change; its rows are held against those of the preview before it, too.
+// Makes the change; its rows are held against those of the preview before it, too.
 pub fn change(m: &mut [u8], k: Call, t: &mut Table, b: Plain) -> Plain {
     let p = plan_change(m, change_of(k), k.lent);
     let mut said = noticed(m, p, t, b, TOLD);

@@ -14,7 +14,7 @@ use crate::week::block_of;
 use rows::ROW;
 use zorder::COSTS;
 
-// The number after s.
+// Gives the number after s.
 pub fn next(s: usize) -> usize {
     s % 4294967296 * 4294957665 + s / 4294967296 % 4294967296
 }
@@ -35,7 +35,7 @@ fn cost(s: usize, style: usize, second: bool, last: u16) -> u16 {
     }
 }
 
-// A row with d costs drawn.
+// Gives a row with d costs drawn.
 pub fn row(seed: usize, mark: u16, number: u16, d: usize, style: usize) -> Row {
     let mut r = [0u16; ROW];
     r[0] = mark;
@@ -117,12 +117,12 @@ fn change(b: Plain, t: &Table, s: usize, growing: bool) -> Call {
     }
 }
 
-// Whether a change is looked at before a call and not made: so before one call in eight.
+// Says whether a change is looked at before a call and not made: so before one call in eight.
 pub fn looks(s: usize) -> bool {
     s / 16777216 % 8 == 0
 }
 
-// Such a change, drawn aside, so that the calls are those that they are without it.
+// Draws such a change aside, so that the calls are those that they are without it.
 pub fn looked_at(b: Plain, t: &Table, s: usize, i: usize) -> Call {
     change(b, t, next(s ^ 54321), is_growing(i))
 }
@@ -153,7 +153,7 @@ fn reading(b: Plain, s: usize, letter: u8) -> Call {
     }
 }
 
-// The calls in turn: a change, the list, another list or a load.
+// Gives the calls in turn: a change, the list, another list or a load.
 pub fn drawn(b: Plain, t: &Table, s: usize, i: usize) -> Call {
     match i % 3 {
         0 => change(b, t, s, is_growing(i)),

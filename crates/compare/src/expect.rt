@@ -33,7 +33,7 @@ pub struct Call {
     pub lent: usize,
 }
 
-// The board with an answer: so many rows told, or a refusal.
+// Gives the board with an answer: so many rows told, or a refusal.
 pub fn answer(b: Plain, refusal: usize, detail: usize, count: usize) -> Plain {
     let mut after = b;
     after.refusal = refusal;
@@ -94,8 +94,8 @@ fn change(b: Plain, t: &mut Table, k: Call) -> Plain {
     }
 }
 
-// What a preview is to answer: that of the change, made and undone. The row past the last is put
-// back too, since the dice may read it.
+// Gives what a preview is to answer: that of the change, made and undone. The row past the last is
+// put back too, since the dice may read it.
 pub fn foreseen(b: Plain, t: &mut Table, k: Call) -> Plain {
     let new = k.row;
     let old = find(t, b.n, k.number);
@@ -172,7 +172,7 @@ fn list(b: Plain, t: &mut Table, k: Call) -> Plain {
     }
 }
 
-// The plain board after the call, with its answer.
+// Gives the plain board after the call, with its answer.
 pub fn expect(b: Plain, t: &mut Table, k: Call) -> Plain {
     let refusal = refused(b, k);
     if refusal == 12 {

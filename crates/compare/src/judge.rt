@@ -9,7 +9,7 @@ fn holds(b: Plain, t: &Table) -> bool {
     !b.holding || (b.held == b.listed && same_rows(t, HELD, b.list, b.held))
 }
 
-// Whether two calls have the same answer, their rows apart.
+// Says whether two calls have the same answer, their rows apart.
 pub fn alike(p: Plain, q: Plain) -> bool {
     (p.refusal == q.refusal)
         & (p.detail == q.detail)
@@ -17,8 +17,8 @@ pub fn alike(p: Plain, q: Plain) -> bool {
         & (p.opened == q.opened)
 }
 
-// The plain board after a call that is to tell so many nodes if it is accepted, with what the board
-// said of it.
+// Gives the plain board after a call that is to tell so many nodes if it is accepted, with what the
+// board said of it.
 pub fn judged(want: Plain, said: Plain, t: &Table, letter: u8, opened: usize) -> Plain {
     let mut wanted = want;
     wanted.opened = if want.refusal == 0 { opened } else { 0 };

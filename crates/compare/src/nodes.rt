@@ -101,7 +101,7 @@ fn opened_by(m: &[u8], b: Plain, t: &Table, by: Opening) -> usize {
     k
 }
 
-// Of a call that is accepted: a list, and the withdrawal of a listed move.
+// Counts the nodes of a call that is accepted: a list, and the withdrawal of a listed move.
 pub fn opened(m: &[u8], b: Plain, t: &Table, k: Call) -> usize {
     let moves = Part {
         area: BOARD,

@@ -83,7 +83,7 @@ pub struct Part {
     pub count: usize,
 }
 
-// How many rows of a part stand so to a row; counted no further than one past `most`.
+// Counts how many rows of a part stand so to a row; counted no further than one past `most`.
 pub fn count(t: &Table, part: Part, test: Test, r: Row, most: usize) -> usize {
     let n = part.count;
     let mut k: usize = 0;
@@ -118,7 +118,7 @@ fn marked(t: &Table, area: usize, i: usize, by: Pick) -> Row {
     r
 }
 
-// How many stand in that area then.
+// Selects rows into an area, and counts how many stand there then.
 pub fn select(t: &mut Table, part: Part, by: Pick) -> usize {
     let n = part.count;
     let mut k = by.at;

@@ -18,7 +18,7 @@ ghost use Prim.Native.Nat.{_<_, _≤_};
 ghost use Rattle.rows.specs.Telling.{TellingAsked};
 ghost use Rattle.planning.specs.Plan.{leftOf, enteredOf};
 
-// The board with what a call said: of a refused one the counts are zero.
+// Gives the board with what a call said: of a refused one the counts are zero.
 pub fn spoken(b: Plain, v: Verdict, need: usize, opened: usize) -> Plain {
     let mut said = b;
     said.refusal = number_of(v) as usize;
@@ -29,7 +29,7 @@ pub fn spoken(b: Plain, v: Verdict, need: usize, opened: usize) -> Plain {
     said
 }
 
-// What was said, the rows put into an area held against the wanted ones.
+// Gives what was said, the rows put into an area held against the wanted ones.
 pub fn with_rows(said: Plain, t: &Table, area: usize, count: usize) -> Plain {
     let mut held = said;
     held.right = (count == said.count) & same_rows(t, area, WANT, count);
@@ -56,7 +56,7 @@ fn put_rows(m: &[u8], telling: Telling, t: &mut Table, to: usize, from: usize) -
     k
 }
 
-// The board with what the plan of a list says, its rows put into an area.
+// Gives the board with what the plan of a list says, its rows put into an area.
 pub fn told(m: &[u8], p: Plan, t: &mut Table, b: Plain, to: usize) -> Plain
     requires { ⌜ (0 < p .telling .count → TellingAsked (p .telling .told) (now m)) ⌝ }
 {
@@ -66,7 +66,7 @@ pub fn told(m: &[u8], p: Plan, t: &mut Table, b: Plain, to: usize) -> Plain
     with_rows(spoken(b, v, p.need, p.opened), t, to, count)
 }
 
-// The same of a change, with its notice.
+// Gives the same of a change, with its notice.
 pub fn noticed(m: &[u8], p: ChangePlan, t: &mut Table, b: Plain, to: usize) -> Plain
     requires { ⌜ p .upkeep .left ≤ p .need ⌝ }
     requires { ⌜ (0 < leftOf p .count → TellingAsked (leftOf p .told) (now m)) ⌝ }

@@ -7,7 +7,7 @@ use hours::HOURS;
 
 const BLOCKS: usize = 64;
 
-// The block that goes with a row, by its number and first cost.
+// Gives the block that goes with a row, by its number and first cost.
 pub fn block_of(r: Row) -> u16 {
     (number_of(r) ^ r[2]) % 64
 }
@@ -31,8 +31,8 @@ pub fn is_open(minute: usize, r: Row) -> bool {
     !is_shut(k) & (since < 5040)
 }
 
-// What the argument of an hours call says: the minute, at times too large, and at times a block
-// with bad hours.
+// Gives what the argument of an hours call says: the minute, at times too large, and at times a
+// block with bad hours.
 pub fn minute_of(x: usize) -> usize {
     x % 10240
 }

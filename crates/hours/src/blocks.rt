@@ -19,7 +19,7 @@ fn entries_read(hours: &[[u16; HOURS]]) -> usize
     if n < BLOCKS { n } else { BLOCKS }
 }
 
-// The lowest block whose hours are refused; 64 if there is none.
+// Gives the lowest block whose hours are refused; 64 if there is none.
 pub(crate) fn first_bad(hours: &[[u16; HOURS]]) -> usize
     ensures { λ r. ⌜ FirstBad (map blockHours (now (hours .entry))) r ⌝ }
 {
@@ -34,7 +34,7 @@ pub(crate) fn first_bad(hours: &[[u16; HOURS]]) -> usize
     BLOCKS
 }
 
-// The blocks open at a minute.
+// Gives the blocks open at a minute.
 pub(crate) fn open_blocks(minute: u16, hours: &[[u16; HOURS]]) -> u64
     ensures { λ r. ⌜ OpenBlocks minute (map blockHours (now (hours .entry))) r ⌝ }
 {

@@ -10,7 +10,7 @@ use upkeep::find_listed;
 ghost use Rattle.model.specs.Calls.{list};
 ghost use Rattle.rows.specs.Planned.{QueryPlanned};
 
-// The plan of a list.
+// Gives the plan of a list.
 pub fn plan_list(m: &[u8], lent: usize) -> Plan
     ensures { λ r. ⌜ QueryPlanned list (now (m .entry)) lent r ⌝ }
 {

@@ -8,7 +8,7 @@ ghost use Rattle.promises.specs.Answers.{inputRow};
 ghost use Rattle.memory.specs.Room.{Room};
 ghost use Rattle.loading.specs.Blocks.{Storable, BlocksGiven};
 
-// From the last row on, as the definition gives them.
+// Gives the blocks from the last row on, as the definition gives them.
 pub fn give_blocks(m: &mut [u8], c: usize, rows: &[[u16; INPUT]])
     requires { ⌜ Room c (now m) × Storable c (map inputRow (now rows)) ⌝ }
     ensures { λ _. ⌜ BlocksGiven c (map inputRow (now (rows .entry))) (now (m .entry))

@@ -13,7 +13,7 @@ pub struct Head {
     pub count: usize,
 }
 
-// What the head says, whatever that is.
+// Gives what the head says, whatever that is.
 pub fn head_of(m: &[u8]) -> Head
     requires { ⌜ 16 ≤ length (now m) ⌝ }
     ensures { λ r. ⌜ HeadOf r (now (m .entry)) ⌝ }

@@ -12,7 +12,7 @@ pub(crate) const FORMAT_PLACE: usize = 3;
 
 pub(crate) const COUNT_PLACE: usize = 4;
 
-// The number of the move at place i.
+// Gives where the number of the move at place i stands.
 pub(crate) fn number_place(i: usize) -> usize
     requires { ⌜ i < 4096 ⌝ }
     ensures { λ r. ⌜ r ≡ layout.numberPlace i ⌝ }
@@ -20,7 +20,7 @@ pub(crate) fn number_place(i: usize) -> usize
     16 + 2 * i
 }
 
-// The height at place i.
+// Gives where the height at place i stands.
 pub(crate) fn height_place(c: usize, i: usize) -> usize
     requires { ⌜ (i < c) × (c ≤ 4096) ⌝ }
     ensures { λ r. ⌜ r ≡ layout.heightPlace c i ⌝ }
@@ -28,7 +28,7 @@ pub(crate) fn height_place(c: usize, i: usize) -> usize
     16 + 2 * c + i
 }
 
-// The flag of a number's move.
+// Gives where the flag of a number's move stands.
 pub(crate) fn flag_place(c: usize, number: u16) -> usize
     requires { ⌜ (number < c) × (c ≤ 4096) ⌝ }
     ensures { λ r. ⌜ r ≡ layout.flagPlace c number ⌝ }
@@ -36,7 +36,7 @@ pub(crate) fn flag_place(c: usize, number: u16) -> usize
     16 + 3 * c + (number as usize)
 }
 
-// The block of a number's move.
+// Gives where the block of a number's move stands.
 pub(crate) fn block_place(c: usize, number: u16) -> usize
     requires { ⌜ (number < c) × (c ≤ 4096) ⌝ }
     ensures { λ r. ⌜ r ≡ layout.blockPlace c number ⌝ }
@@ -44,7 +44,7 @@ pub(crate) fn block_place(c: usize, number: u16) -> usize
     16 + 4 * c + (number as usize)
 }
 
-// The first cost of a number's move; the others follow it, two bytes each.
+// Gives where the first cost of a number's move stands; the others follow it, two bytes each.
 pub(crate) fn costs_place(c: usize, number: u16) -> usize
     requires { ⌜ (number < c) × (c ≤ 4096) ⌝ }
     ensures { λ r. ⌜ r ≡ layout.costPlace c number 0 ⌝ }
@@ -52,7 +52,7 @@ pub(crate) fn costs_place(c: usize, number: u16) -> usize
     16 + 5 * c + 16 * (number as usize)
 }
 
-// Number i of the work area.
+// Gives where number i of the work area stands.
 pub(crate) fn work_place(c: usize, i: usize) -> usize
     requires { ⌜ (i < c) × (c ≤ 4096) ⌝ }
     ensures { λ r. ⌜ r ≡ layout.workPlace c i ⌝ }

@@ -18,7 +18,7 @@ ghost use lib.ListN.{length};
 ghost use Rattle.memory.specs.Room.{Room};
 ghost use Rattle.memory.specs.Stores as stores;
 
-// C, d, the format and the number of moves.
+// Writes C, d, the format and the number of moves.
 pub fn set_head(m: &mut [u8], c: usize, d: usize, n: usize)
     requires { ⌜ (16 ≤ length (now m)) × (c < 65536) × (d < 256) × (n < 65536) ⌝ }
     ensures { λ _. ⌜ now (m .exit) ≡ stores.setHead c d n (now (m .entry)) ⌝ }

@@ -97,7 +97,7 @@ pub struct Leaf {
     pub opened: usize,
 }
 
-// The next leaf that is opened, from place `from` on, where a node starts.
+// Gives the next leaf that is opened, from place `from` on, where a node starts.
 pub fn next_leaf(
     m: &[u8],
     h: Head,
@@ -136,7 +136,7 @@ pub fn next_leaf(
     }
 }
 
-// How many nodes a list opens.
+// Counts how many nodes a list opens.
 pub fn nodes_opened(m: &[u8], h: Head) -> usize
     requires { ⌜ search.SoundAt h (now m) ⌝ }
     ensures { λ r. ⌜ search.Opened (h .dimension) (now (m .entry)) r ⌝ }

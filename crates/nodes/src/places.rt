@@ -8,7 +8,7 @@ ghost use Rattle.memory.specs.Room.{Room};
 ghost use Rattle.nodes.specs.Places.{NodeEnd, NodeStart, Entries, EntryAt, SideAt, SideAsked};
 ghost use Rattle.nodes.specs.Places.{EntryAsked};
 
-// Where the node at level l that holds place p ends.
+// Finds where the node at level l that holds place p ends.
 pub fn node_end(m: &[u8], c: usize, n: usize, l: u8, p: usize) -> usize
     requires { ⌜ Room c (now m) × (n ≤ c) × (p < n) ⌝ }
     ensures { λ r. ⌜ NodeEnd c n l p (now (m .entry)) r ⌝ }
@@ -23,7 +23,7 @@ pub fn node_end(m: &[u8], c: usize, n: usize, l: u8, p: usize) -> usize
     e
 }
 
-// Where it starts.
+// Finds where it starts.
 pub fn node_start(m: &[u8], c: usize, l: u8, p: usize) -> usize
     requires { ⌜ Room c (now m) × (p < c) ⌝ }
     ensures { λ r. ⌜ NodeStart c l p (now (m .entry)) r ⌝ }
@@ -38,7 +38,7 @@ pub fn node_start(m: &[u8], c: usize, l: u8, p: usize) -> usize
     0
 }
 
-// How many entries of level l start from place s up to place e.
+// Counts how many entries of level l start from place s up to place e.
 pub fn entries(m: &[u8], c: usize, l: u8, s: usize, e: usize) -> usize
     requires { ⌜ Room c (now m) × (s ≤ e) × (e ≤ c) ⌝ }
     ensures { λ r. ⌜ Entries c l s e (now (m .entry)) r ⌝ }
@@ -54,7 +54,7 @@ pub fn entries(m: &[u8], c: usize, l: u8, s: usize, e: usize) -> usize
     k
 }
 
-// Where the entry j of level l, counted from place s on from 0, starts.
+// Finds where the entry j of level l, counted from place s on from 0, starts.
 pub fn entry_at(m: &[u8], c: usize, n: usize, l: u8, s: usize, j: usize) -> usize
     requires { ⌜ EntryAsked c n l s j (now m) ⌝ }
     ensures { λ r. ⌜ EntryAt c n l s j (now (m .entry)) r ⌝ }
@@ -68,7 +68,7 @@ pub fn entry_at(m: &[u8], c: usize, n: usize, l: u8, s: usize, j: usize) -> usiz
     q
 }
 
-// The side of the region from place i to place j.
+// Gives the side of the region from place i to place j.
 pub fn side_between(m: &[u8], c: usize, d: usize, i: usize, j: usize) -> u32
     requires { ⌜ SideAsked c d i j (now m) ⌝ }
     ensures { λ r. ⌜ SideAt c d i j (now (m .entry)) r ⌝ }

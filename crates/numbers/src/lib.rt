@@ -22,7 +22,7 @@ pub fn has(set: &[u64; WORDS], n: u16) -> bool
     (set[at] >> (n % 64)) & 1 == 1
 }
 
-// n put into the set.
+// Puts n into the set.
 pub fn add(set: &mut [u64; WORDS], n: u16)
     requires { ⌜ n < 4096 ⌝ }
     ensures { λ _. ⌜ With (now (set .entry)) n (now (set .exit)) ⌝ }

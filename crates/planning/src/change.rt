@@ -20,7 +20,7 @@ pub struct Change {
     pub costs: [u16; COSTS],
 }
 
-// Whether a move comes: only then are block and costs looked at.
+// Says whether a move comes: only then are block and costs looked at.
 pub fn comes(kind: Kind) -> bool
     ensures { λ r. ⌜ r ≡ spec.comes kind ⌝ }
 {
@@ -31,7 +31,7 @@ pub fn comes(kind: Kind) -> bool
     }
 }
 
-// Whether the number has to be new to the board.
+// Says whether the number has to be new to the board.
 pub(crate) fn is_new(kind: Kind) -> bool
     ensures { λ r. ⌜ r ≡ spec.isNew kind ⌝ }
 {
@@ -42,7 +42,7 @@ pub(crate) fn is_new(kind: Kind) -> bool
     }
 }
 
-// The move that comes.
+// Gives the move that comes.
 pub fn coming_of(x: Change) -> Move
     ensures { λ r. ⌜ r ≡ spec.comingOf x ⌝ }
 {
@@ -53,7 +53,7 @@ pub fn coming_of(x: Change) -> Move
     }
 }
 
-// The exchange of moves that a change makes: its number's place is the one that goes.
+// Gives the exchange of moves that a change makes: its number's place is the one that goes.
 pub(crate) fn exchange_of(x: Change, goes: usize) -> Exchange
     ensures { λ r. ⌜ r ≡ spec.exchangeOf x goes ⌝ }
 {

@@ -42,7 +42,7 @@ fn same(p: [u16; COSTS], q: [u16; COSTS]) -> bool
     true
 }
 
-// The rows that the notice of a change needs.
+// Gives the rows that the notice of a change needs.
 pub fn needed(u: Upkeep) -> usize
     requires { ⌜ Counted u ⌝ }
     ensures { λ r. ⌜ r ≡ Rattle.planning.specs.Change.neededRows u ⌝ }
@@ -53,15 +53,15 @@ pub fn needed(u: Upkeep) -> usize
     u.left + u.entered
 }
 
-// The nodes that a change reports as opened: a withdrawal those opened while looking for moves that
-// come up, the others none.
+// Gives the nodes that a change reports as opened: a withdrawal those opened while looking for
+// moves that come up, the others none.
 pub fn reported(comes: bool, opened: usize) -> usize
     ensures { λ r. ⌜ r ≡ cond comes 0 opened ⌝ }
 {
     if comes { 0 } else { opened }
 }
 
-// Whether a move comes for one that goes, with its costs.
+// Says whether a move comes for one that goes, with its costs.
 pub fn alike(m: &[u8], h: Head, k: Exchange) -> bool
     requires { ⌜ Readable h (now m) ⌝ }
     ensures { λ r. ⌜ r ≡ plan.alike (h .size) (h .dimension) (h .count) k (now (m .entry)) ⌝ }
@@ -82,8 +82,8 @@ pub fn alike(m: &[u8], h: Head, k: Exchange) -> bool
     )
 }
 
-// The place that a coming move gets among the moves before the change; past the last where none
-// comes.
+// Gives the place that a coming move gets among the moves before the change; past the last where
+// none comes.
 pub fn coming_place(m: &[u8], h: Head, k: Exchange) -> usize
     requires { ⌜ Readable h (now m) ⌝ }
     requires { ⌜ InOrder h (now m) ⌝ }

@@ -11,7 +11,7 @@ ghost use mathlib.Core.Path.{_≡_};
 ghost use Prim.Native.Nat.{_≤_};
 ghost use Rattle.planning.specs.Plan.{leftOf, enteredOf};
 
-// The listed moves whose flag changes.
+// Gives the listed moves whose flag changes.
 pub fn left_of(p: ChangePlan) -> Telling
     ensures { λ r. ⌜ r ≡ leftOf p ⌝ }
 {
@@ -30,7 +30,7 @@ pub fn left_of(p: ChangePlan) -> Telling
     }
 }
 
-// The hidden moves whose flag changes, and the coming one.
+// Gives the hidden moves whose flag changes, and the coming one.
 pub fn entered_of(p: ChangePlan) -> Telling
     requires { ⌜ p .upkeep .left ≤ p .need ⌝ }
     ensures { λ r. ⌜ r ≡ enteredOf p ⌝ }

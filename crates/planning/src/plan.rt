@@ -54,8 +54,8 @@ fn keeps_moves(head: Head, change: Change, outcome: Outcome) -> ChangePlan
     }
 }
 
-// The plan on memory that is known to be sound. A number that is not on the board has the place
-// past the last: where one enters none goes.
+// Gives the plan on memory that is known to be sound. A number that is not on the board has the
+// place past the last: where one enters none goes.
 pub fn plan_on(m: &[u8], h: Head, x: Change, lent: usize) -> ChangePlan
     requires { ⌜ SoundAt h (now m) ⌝ }
     ensures { λ r. ⌜ spec.Planned x (now (m .entry)) lent r ⌝ }
@@ -86,7 +86,7 @@ pub fn plan_on(m: &[u8], h: Head, x: Change, lent: usize) -> ChangePlan
     }
 }
 
-// The plan of a change: 3 first, then as on sound memory.
+// Gives the plan of a change: 3 first, then as on sound memory.
 pub fn plan_change(m: &[u8], x: Change, lent: usize) -> ChangePlan
     ensures { λ r. ⌜ spec.Planned x (now (m .entry)) lent r ⌝ }
 {

@@ -6,7 +6,7 @@ ghost use lib.Dec.{eqb};
 ghost use Rattle.model.specs.Calls.{rowsAnswer};
 ghost use Rattle.promises.specs.Answers as spec;
 
-// Document 01's number of a verdict.
+// Gives document 01's number of a verdict.
 pub fn number_of(verdict: Verdict) -> u8
     ensures { λ r. ⌜ r ≡ spec.numberOf verdict ⌝ }
 {
@@ -26,21 +26,21 @@ pub fn number_of(verdict: Verdict) -> u8
     }
 }
 
-// Whether a verdict accepts the call.
+// Says whether a verdict accepts the call.
 pub fn accepts(verdict: Verdict) -> bool
     ensures { λ r. ⌜ r ≡ eqb (spec.numberOf verdict) 0 ⌝ }
 {
     number_of(verdict) == 0
 }
 
-// What a call with this verdict tells of a count: a refused one tells zero.
+// Gives what a call with this verdict tells of a count: a refused one tells zero.
 pub fn counted(verdict: Verdict, n: usize) -> usize
     ensures { λ r. ⌜ r ≡ spec.counted (spec.numberOf verdict) n ⌝ }
 {
     if accepts(verdict) { n } else { 0 }
 }
 
-// Refusal 8, if more rows are needed than lent.
+// Gives refusal 8, if more rows are needed than lent.
 pub fn enough(need: usize, lent: usize) -> Verdict
     ensures { λ r. ⌜ spec.answerOf r ≡ rowsAnswer need lent ⌝ }
 {

@@ -10,7 +10,7 @@ pub fn size_bad(c: usize) -> bool
     c < 16 || 4096 < c
 }
 
-// How many bytes a board of size C asks for.
+// Counts how many bytes a board of size C asks for.
 pub fn memory_need(c: usize) -> usize
     requires { ⌜ sizeBad c ≡ false ⌝ }
     ensures { λ r. ⌜ r ≡ memoryNeed c ⌝ }

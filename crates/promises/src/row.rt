@@ -5,7 +5,7 @@ ghost use lib.ListN.{drop};
 
 pub const WORDS: usize = COSTS + 2;
 
-// The costs of a row.
+// Gives the costs of a row.
 pub fn costs_from(row: [u16; WORDS]) -> [u16; COSTS]
     ensures { λ r. ⌜ r ≡ drop 2 row ⌝ }
 {

@@ -10,7 +10,7 @@ ghost use lib.ListN.{length};
 ghost use Rattle.rows.specs.Rows.{rowNumbers};
 ghost use Rattle.rows.specs.Telling.{TellingAsked, filledRows};
 
-// The rows that a telling tells, put into the lent ones from row `from` on.
+// Puts the rows that a telling tells into the lent ones from row `from` on.
 pub fn fill(rows: &mut [Row], m: &[u8], t: Telling, from: usize)
     requires { ⌜ (0 < t .count → TellingAsked (t .told) (now m))
         × (from + t .count ≤ length (now rows)) ⌝ }

@@ -16,7 +16,7 @@ pub struct Row {
     pub costs: [u16; COSTS],
 }
 
-// The numbers of a move's row.
+// Gives the numbers of a move's row.
 pub fn row_of(x: Move, mark: u16) -> [u16; ROW]
     ensures { λ r. ⌜ r ≡ moveNumbers mark (asMove x) ⌝ }
 {
@@ -32,7 +32,7 @@ pub fn row_of(x: Move, mark: u16) -> [u16; ROW]
     row
 }
 
-// The row of these numbers.
+// Gives the row of these numbers.
 pub fn row_from(numbers: [u16; ROW]) -> Row
     ensures { λ x. ⌜ rowNumbers x ≡ numbers ⌝ }
 {

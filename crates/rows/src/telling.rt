@@ -58,7 +58,7 @@ pub fn nobody() -> Coming
     }
 }
 
-// The moves of these numbers, told as listed.
+// Gives the moves of these numbers, told as listed.
 pub(crate) fn listing_of(head: Head, numbers: [u64; WORDS], count: usize) -> Telling
     ensures { λ r. ⌜ r ≡ spec.listing head numbers count ⌝ }
 {
@@ -127,7 +127,7 @@ fn row_at(m: &[u8], t: View, i: usize) -> [u16; ROW]
     row_of(x, t.mark)
 }
 
-// The first told row from position i on.
+// Gives the first told row from position i on.
 pub fn told_next(m: &[u8], t: View, numbers: &[u64; WORDS], i: usize) -> Step
     requires { ⌜ spec.TellingAsked t (now m) ⌝ }
     ensures { λ r. ⌜ (r .row ≡ spec.nextRow t (now (numbers .entry)) (now (m .entry)) i)

@@ -21,7 +21,7 @@ fn zero(a: u16) -> u16
     1 - (less(0, a) as u16)
 }
 
-// 1 if column j is nowhere greater than q in the first w costs, else 0.
+// Gives 1 if column j is nowhere greater than q in the first w costs, else 0.
 pub fn fits_column(columns: &[u16; CELLS], w: usize, j: usize, q: [u16; COSTS]) -> u16
     requires { ⌜ (w ≤ rowCosts) × (j < 64) ⌝ }
     ensures { λ r. ⌜ r ≡ cond (spec.columnFits w (now (columns .entry)) q j) 1 0 ⌝ }
@@ -50,7 +50,7 @@ fn fitting(columns: &[u16; CELLS], w: usize, q: [u16; COSTS]) -> u16
     fitting
 }
 
-// Whether a column is nowhere greater than q, a row of bounds for d costs.
+// Says whether a column is nowhere greater than q, a row of bounds for d costs.
 pub fn some_fits(columns: &[u16; CELLS], d: usize, q: [u16; COSTS]) -> bool
     requires { ⌜ spec.Bounds d q ⌝ }
     ensures { λ r. ⌜ spec.SomeFits (now (columns .entry)) q r ⌝ }
@@ -61,7 +61,7 @@ pub fn some_fits(columns: &[u16; CELLS], d: usize, q: [u16; COSTS]) -> bool
     0 < fitting(columns, 8, q)
 }
 
-// A move as column `at`.
+// Puts a move in as column `at`.
 pub fn put(columns: &mut [u16; CELLS], at: usize, costs: [u16; COSTS])
     requires { ⌜ at < 64 ⌝ }
     ensures { λ _. ⌜ spec.Put (now (columns .entry)) at costs (now (columns .exit)) ⌝ }
@@ -75,7 +75,7 @@ pub fn put(columns: &mut [u16; CELLS], at: usize, costs: [u16; COSTS])
     }
 }
 
-// A move as every column.
+// Puts a move in as every column.
 pub fn fill(columns: &mut [u16; CELLS], costs: [u16; COSTS])
     ensures { λ _. ⌜ spec.Filled costs (now (columns .exit)) ⌝ }
 {

@@ -39,7 +39,7 @@ pub fn in_blocks(m: &[u8], c: usize, number: u16, blocks: u64) -> bool
     (blocks >> (block_of(m, c, number) % 64)) & 1 == 1
 }
 
-// Whether a search looks at the move of a number.
+// Says whether a search looks at the move of a number.
 pub fn looks(m: &[u8], c: usize, number: u16, among: Among) -> bool
     requires { ⌜ Room c (now m) × (number < c) ⌝ }
     ensures { λ r. ⌜ r ≡ spec.looks among c (now (m .entry)) number ⌝ }
@@ -70,7 +70,7 @@ fn from_above(costs: [u16; COSTS]) -> [u16; COSTS]
     row
 }
 
-// Costs as a search sees them.
+// Gives costs as a search sees them.
 pub fn seen(among: Among, costs: [u16; COSTS]) -> [u16; COSTS]
     ensures { λ r. ⌜ r ≡ spec.seen among costs ⌝ }
 {
@@ -82,7 +82,7 @@ pub fn seen(among: Among, costs: [u16; COSTS]) -> [u16; COSTS]
     }
 }
 
-// All words of the row, also those past d, which the bounds of what is looked for leave out.
+// Gives all words of the row, also those past d, which the bounds of what is looked for leave out.
 pub fn seen_at(m: &[u8], h: Head, i: usize, among: Among) -> [u16; COSTS]
     requires { ⌜ Readable h (now m) × (i < h .count) ⌝ }
     ensures { λ r. ⌜ r ≡ spec.seenAt among (h .size) (now (m .entry)) i ⌝ }
@@ -98,7 +98,7 @@ pub fn looks_at(m: &[u8], h: Head, i: usize, among: Among) -> bool
     looks(m, h.size, number_at(m, h.size, i), among)
 }
 
-// What a move before place i that hides the one there is nowhere greater than.
+// Gives what a move before place i that hides the one there is nowhere greater than.
 pub fn bounds_at(m: &[u8], h: Head, i: usize) -> [u16; COSTS]
     requires { ⌜ Readable h (now m) × (i < h .count) ⌝ }
     ensures { λ r. ⌜ r ≡ spec.boundsAt (h .size) (h .dimension) (now (m .entry)) i ⌝ }
@@ -106,7 +106,7 @@ pub fn bounds_at(m: &[u8], h: Head, i: usize) -> [u16; COSTS]
     bounds_of(h.dimension, seen_at(m, h, i, Among::Listed))
 }
 
-// A corner with the move at place i, if the search looks at it.
+// Gives a corner with the move at place i, if the search looks at it.
 pub fn corner_with(m: &[u8], h: Head, i: usize, among: Among, low: [u16; COSTS]) -> [u16; COSTS]
     requires { ⌜ Readable h (now m) × (i < h .count) ⌝ }
     ensures { λ r. ⌜ spec.CornerWith among (h .size) (now (m .entry)) i (i + 1) low r ⌝ }
@@ -139,7 +139,7 @@ fn run_corner(
     corner
 }
 
-// Where the run of place i ends, or `to` if that is before.
+// Finds where the run of place i ends, or `to` if that is before.
 pub fn run_end(i: usize, to: usize) -> usize
     requires { ⌜ (i < to) × (to ≤ 4096) ⌝ }
     ensures { λ r. ⌜ (i < r) × (r ≤ to) × (r ≤ 64 * (i / 64) + 64) ⌝ }
@@ -165,8 +165,8 @@ pub fn corners_of(m: &[u8], h: Head, among: Among) -> [[u16; COSTS]; RUNS]
     corners
 }
 
-// Whether the search looks at the move at place i, and that is nowhere greater than q. Most moves
-// are greater: the costs are asked first.
+// Says whether the search looks at the move at place i, and that is nowhere greater than q. Most
+// moves are greater: the costs are asked first.
 pub fn fits_at(m: &[u8], h: Head, i: usize, among: Among, q: [u16; COSTS]) -> bool
     requires { ⌜ Readable h (now m) × (i < h .count) ⌝ }
     ensures { λ r. ⌜ r ≡ spec.fits among (h .size) (now (m .entry)) q i ⌝ }
@@ -192,7 +192,7 @@ fn within(m: &[u8], h: Head, i: usize, to: usize, among: Among, q: [u16; COSTS])
     j
 }
 
-// The same as `within`, run by run.
+// Finds the same as `within`, run by run.
 pub fn next_within(
     m: &[u8],
     h: Head,
@@ -221,7 +221,7 @@ pub fn next_within(
     f
 }
 
-// The place that is tried first in the next search: the one found, if one was.
+// Gives the place that is tried first in the next search: the one found, if one was.
 pub fn tried_next(found: usize, to: usize, first: usize) -> usize {
     if found < to { found } else { first }
 }

@@ -15,9 +15,9 @@ ghost use Rattle.memory.specs.Room.{Readable, InOrder};
 ghost use Rattle.search.specs.Search as search;
 ghost use Rattle.memory.specs.Tests as tests;
 
-// A place before i with a listed move that hides the one at i, `last` if that does; i if there is
-// none. An earlier move that is nowhere greater hides: of equal costs the lower number stands
-// first.
+// Gives a place before i with a listed move that hides the one at i, `last` if that does; i if
+// there is none. An earlier move that is nowhere greater hides: of equal costs the lower number
+// stands first.
 pub fn hider_before(
     m: &[u8],
     h: Head,

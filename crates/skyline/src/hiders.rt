@@ -77,8 +77,8 @@ fn guessed(
     i
 }
 
-// A place before i with a listed move that is nowhere greater than q, `first` if that is one; i if
-// there is none.
+// Gives a place before i with a listed move that is nowhere greater than q, `first` if that is one;
+// i if there is none.
 pub(crate) fn found_from(
     m: &[u8],
     h: Head,

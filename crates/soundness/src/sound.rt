@@ -101,7 +101,7 @@ pub enum Held {
     Unsound,
 }
 
-// The board that the memory holds, if it is sound.
+// Gives the board that the memory holds, if it is sound.
 pub fn sound_head(m: &[u8]) -> Held
     ensures { λ r. ⌜ HeldIn (now (m .entry)) r ⌝ }
 {

@@ -66,7 +66,7 @@ fn put_row(m: &mut [u8], h: Head, p: usize, x: Move)
     }
 }
 
-// The same board with n rows.
+// Gives the same board with n rows.
 pub fn with_rows(h: Head, n: usize) -> Head
     ensures { λ r. ⌜ r ≡ enter.withRows h n ⌝ }
 {
@@ -77,7 +77,7 @@ pub fn with_rows(h: Head, n: usize) -> Head
     }
 }
 
-// x entered among the rows. Its costs stand in the memory already.
+// Enters x among the rows. Its costs stand in the memory already.
 pub fn enter_line(m: &mut [u8], h: Head, x: Move)
     requires { ⌜ enter.EnterAsked (h .size) (h .dimension) (h .count) (asMove x) (now m) ⌝ }
     ensures { λ _. ⌜ enter.Entered (h .size) (h .dimension) (h .count) (asMove x) (now (m .entry))

@@ -39,7 +39,7 @@ fn raise_level(m: &mut [u8], c: usize, n: usize, l: u8, entries: usize)
     }
 }
 
-// All levels, from rows of height 0.
+// Makes all levels, from rows of height 0.
 pub fn raise_levels(m: &mut [u8], c: usize, n: usize)
     requires { ⌜ Room c (now m) × (n ≤ c) × (0 < n) ⌝ }
     ensures { λ _. ⌜ RaisedAll c n (now (m .entry)) (now (m .exit)) ⌝ }

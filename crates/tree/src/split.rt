@@ -53,7 +53,7 @@ fn cut(m: &mut [u8], h: Head, l: u8, s: usize, e: usize)
     }
 }
 
-// From the leaf that holds place p up, while the node has nine entries.
+// Splits from the leaf that holds place p up, while the node has nine entries.
 pub fn cascade(m: &mut [u8], h: Head, p: usize)
     requires { ⌜ split.CascadeAsked (h .size) (h .dimension) (h .count) p (now m) ⌝ }
     ensures { λ _. ⌜ split.Cascaded (h .size) (h .dimension) (h .count) p (now (m .entry))

@@ -23,7 +23,7 @@ pub struct Range {
     pub to: usize,
 }
 
-// The place of the move of a number, or n where it is not on the board.
+// Gives the place of the move of a number, or n where it is not on the board.
 pub fn place_of(m: &[u8], c: usize, n: usize, number: u16) -> usize
     requires { ⌜ withdraw.RowsAsked c n (now m) ⌝ }
     ensures { λ r. ⌜ withdraw.PlaceOf c n number (now (m .entry)) r ⌝ }
@@ -168,7 +168,7 @@ fn enter_saved(m: &mut [u8], h: Head, k: usize)
     }
 }
 
-// The move at place p taken out of the rows.
+// Takes the move at place p out of the rows.
 pub fn withdraw_line(m: &mut [u8], h: Head, p: usize)
     requires { ⌜ withdraw.WithdrawAsked (h .size) (h .dimension) (h .count) p (now m) ⌝ }
     ensures { λ _. ⌜ withdraw.Withdrawn (h .size) (h .dimension) (h .count) p (now (m .entry))

@@ -127,7 +127,7 @@ fn find_in_leaves(
     Entered { count, opened }
 }
 
-// The moves that enter the list: none does unless a listed one goes.
+// Gives the moves that enter the list: none does unless a listed one goes.
 pub fn find_entering(
     m: &[u8],
     h: Head,

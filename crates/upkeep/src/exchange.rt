@@ -35,8 +35,8 @@ pub struct Upkeep {
     pub listed: bool,
 }
 
-// Whether a move other than that at place `goes` hides x, whose place is i: only earlier moves can,
-// and they do where they are nowhere greater.
+// Says whether a move other than that at place `goes` hides x, whose place is i: only earlier moves
+// can, and they do where they are nowhere greater.
 pub fn hidden_by_others(
     m: &[u8],
     h: Head,
@@ -62,7 +62,7 @@ pub fn hidden_by_others(
     next_within(m, h, j + 1, i, Among::All, corners, q) < i
 }
 
-// Whether the coming move hides x.
+// Says whether the coming move hides x.
 pub fn hidden_by_coming(d: usize, k: Exchange, x: Move) -> bool
     requires { ⌜ d ≤ rowCosts ⌝ }
     ensures { λ r. ⌜ r ≡ spec.hiddenByComing d k (asMove x) ⌝ }

@@ -23,7 +23,7 @@ fn set_flag(m: &mut [u8], c: usize, i: usize, changed: &[u64; WORDS])
     }
 }
 
-// The flags of the moves that stood before the change.
+// Sets the flags of the moves that stood before the change.
 pub fn set_flags(m: &mut [u8], h: Head, u: Upkeep)
     requires { ⌜ Readable h (now m) ⌝ }
     requires { ⌜ spec.Once (h .size) (h .count) (now m) ⌝ }

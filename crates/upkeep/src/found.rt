@@ -30,7 +30,7 @@ pub fn add_found(m: &[u8], h: Head, i: usize, found: bool, numbers: &mut [u64; W
     0
 }
 
-// The listed ones.
+// Gives the listed ones.
 pub fn find_listed(m: &[u8], h: Head) -> Found
     requires { ⌜ Readable h (now m) ⌝ }
     ensures { λ r. ⌜ spec.Finds h (isFlaged (h .size) (now (m .entry))) (now (m .entry)) r ⌝ }

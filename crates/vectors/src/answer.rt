@@ -38,7 +38,7 @@ fn call(memory: &mut [u8], values: &[u64], s: Said) -> Said {
     read(memory, values, s)
 }
 
-// Whether the answer is the line's.
+// Says whether the answer is the line's.
 pub fn agrees(l: Reading, memory: &mut [u8], values: &[u64]) -> bool {
     said::ended(values, call(memory, values, said::begun(l)))
 }

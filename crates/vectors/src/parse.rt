@@ -46,7 +46,7 @@ pub fn store(values: &mut [u64], i: usize, open: bool, b: u8) {
     }
 }
 
-// The line with one byte more.
+// Gives the line with one byte more.
 pub fn step(r: Reading, b: u8) -> Reading {
     let mut l = r;
     if !r.named {

@@ -26,7 +26,7 @@ pub fn begun(l: Reading) -> Said {
     }
 }
 
-// A blank and a number.
+// Writes a blank and a number.
 pub fn write_number(n: u64) {
     io::write_all(STDOUT_FILENO, b" ");
     io::print_decimal(STDOUT_FILENO, n);
@@ -62,7 +62,7 @@ fn write_agreed(values: &[u64], s: Said) {
     write_numbers(values, s.asked, s.at);
 }
 
-// With one number more.
+// Goes on with one number more.
 pub fn put(values: &[u64], s: Said, n: u64) -> Said {
     let mut r = s;
     if s.agrees {
@@ -77,7 +77,7 @@ pub fn put(values: &[u64], s: Said, n: u64) -> Said {
     r
 }
 
-// With all of the numbers.
+// Goes on with all of the numbers.
 pub fn put_all(values: &[u64], s: Said, ns: &[u16]) -> Said {
     let mut r = s;
     let mut i = 0;
@@ -88,7 +88,7 @@ pub fn put_all(values: &[u64], s: Said, ns: &[u16]) -> Said {
     r
 }
 
-// Whether all of the answer agrees; else the line that was written ends.
+// Says whether all of the answer agrees; else the line that was written ends.
 pub fn ended(values: &[u64], s: Said) -> bool {
     if s.agrees {
         if s.at == s.count {

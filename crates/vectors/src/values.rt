@@ -15,12 +15,12 @@ pub const VALUES: usize = 4096;
 // More rows than a line of so many numbers has.
 pub const ROWS: usize = 409;
 
-// The number at place i, or 0 past the end.
+// Gives the number at place i, or 0 past the end.
 pub fn value(values: &[u64], i: usize) -> u64 {
     if i < values.len() { values[i] } else { 0 }
 }
 
-// The number j places after place i, or 0 past the end.
+// Gives the number j places after place i, or 0 past the end.
 pub fn value_after(values: &[u64], i: usize, j: usize) -> u64 {
     if values.len() <= i {
         return 0;
@@ -32,7 +32,7 @@ pub fn value_after(values: &[u64], i: usize, j: usize) -> u64 {
     }
 }
 
-// The number before place i, or 0 at the start.
+// Gives the number before place i, or 0 at the start.
 pub fn value_before(values: &[u64], i: usize) -> u64 {
     if 0 < i { value(values, i - 1) } else { 0 }
 }
@@ -54,7 +54,7 @@ pub fn wide(n: u16) -> u64 {
     n as u64
 }
 
-// The costs from place i on.
+// Gives the costs from place i on.
 pub fn costs(values: &[u64], i: usize) -> [u16; COSTS] {
     let mut costs = [0u16; COSTS];
     let mut j = 0;
@@ -65,7 +65,7 @@ pub fn costs(values: &[u64], i: usize) -> [u16; COSTS] {
     costs
 }
 
-// The move that stands at a place; without a block it lies in block 0.
+// Gives the move that stands at a place; without a block it lies in block 0.
 pub fn move_at(values: &[u64], at: usize, with_block: bool) -> Given
     requires { ⌜ at ≤ 4096 ⌝ }
 {

@@ -45,13 +45,13 @@ pub const SO_FAR: u32 = 256 * (b'S' as u32) + (b'F' as u32);
 
 pub const HIDER: u32 = 256 * (b'W' as u32) + (b'H' as u32);
 
-// Whether the moves of such a line have a block: a B behind the word of one whose moves lie in
+// Says whether the moves of such a line have a block: a B behind the word of one whose moves lie in
 // block 0 says so.
 pub fn has_block(word: u32) -> bool {
     255 < word && word % 256 == (b'B' as u32)
 }
 
-// The word without that B.
+// Gives the word without that B.
 pub fn call_of(word: u32) -> u32 {
     if has_block(word) { word / 256 } else { word }
 }

@@ -36,8 +36,8 @@ fn zeros_below(u: usize, c: u16) -> u16
     (((c as u32) >> u) << u) as u16
 }
 
-// The first d costs with their last u bits filled with 0: the near corner of a region that does not
-// keep u groups.
+// Gives the first d costs with their last u bits filled with 0: the near corner of a region that
+// does not keep u groups.
 pub(crate) fn near(d: usize, u: usize, costs: [u16; COSTS]) -> [u16; COSTS]
     requires { ⌜ (d ≤ rowCosts) × (u ≤ 16) ⌝ }
     ensures { λ r. ⌜ r ≡ padded d (map (definition.zerosBelow 1 u) (take d costs)) ⌝ }
@@ -59,7 +59,7 @@ fn ones_below(u: usize, c: u16) -> u16
     zeros_below(u, c) + (((1u32 << u) - 1) as u16)
 }
 
-// The far corner likewise.
+// Gives the far corner likewise.
 pub(crate) fn far(d: usize, u: usize, costs: [u16; COSTS]) -> [u16; COSTS]
     requires { ⌜ (d ≤ rowCosts) × (u ≤ 16) ⌝ }
     ensures { λ r. ⌜ r ≡ padded d (map (definition.onesBelow 1 u) (take d costs)) ⌝ }

@@ -20,7 +20,7 @@ fn wide(c: u16) -> u64
     c as u64
 }
 
-// The group for bit j of the first d costs.
+// Gives the group for bit j of the first d costs.
 pub(crate) fn group(d: usize, costs: [u16; COSTS], j: usize) -> u64
     requires { ⌜ (d ≤ rowCosts) × (j < 16) ⌝ }
     ensures { λ r. ⌜ r ≡ definition.group j (take d costs) ⌝ }
@@ -48,7 +48,7 @@ fn interleaved(d: usize, costs: [u16; COSTS]) -> AddressWords
     a
 }
 
-// Whether the costs past d are zero.
+// Says whether the costs past d are zero.
 pub fn zero_past(d: usize, costs: [u16; COSTS]) -> bool
     requires { ⌜ d ≤ rowCosts ⌝ }
     ensures { λ r. ⌜ r ≡ allZero (drop d costs) ⌝ }

@@ -29,7 +29,7 @@ fn cost_in(d: usize, a: AddressWords, e: usize) -> u16
     c
 }
 
-// The d costs of an address, and zeros past them.
+// Gives the d costs of an address, and zeros past them.
 pub(crate) fn separated(d: usize, a: AddressWords) -> [u16; COSTS]
     requires { ⌜ d ≤ rowCosts ⌝ }
     ensures { λ r. ⌜ r ≡ definition.padded d (definition.costsOf d (value a)) ⌝ }
@@ -43,7 +43,7 @@ pub(crate) fn separated(d: usize, a: AddressWords) -> [u16; COSTS]
     costs
 }
 
-// Whether a has a bit beyond the 16 groups of d. With eight costs no two words have.
+// Says whether a has a bit beyond the 16 groups of d. With eight costs no two words have.
 pub(crate) fn too_large(d: usize, a: AddressWords) -> bool
     requires { ⌜ d ≤ rowCosts ⌝ }
     ensures { λ r. ⌜ r ≡ addressBad d (value a) ⌝ }

@@ -8,7 +8,7 @@ ghost use lib.Dec.{ltb};
 ghost use Rattle.zorder.specs.Address as definition;
 ghost use Rattle.zorder.specs.Words.{value};
 
-// a shifted up by d bits, with g in the freed ones.
+// Shifts a up by d bits, with g in the freed ones.
 pub(crate) fn shift_in(a: AddressWords, d: usize, g: u64) -> AddressWords
     requires { ⌜ (1 ≤ d) × (d < 64) × (g < 2 ^ d) × (value a * 2 ^ d < 2 ^ 128) ⌝ }
     ensures { λ r. ⌜ value r ≡ value a * 2 ^ d + g ⌝ }
@@ -26,6 +26,7 @@ fn bit_of(word: u64, place: usize) -> u16
     ((word >> place) & 1) as u16
 }
 
+// Gives one bit.
 pub(crate) fn bit(a: AddressWords, place: usize) -> u16
     requires { ⌜ place < 128 ⌝ }
     ensures { λ r. ⌜ (r ≡ definition.bit place (value a)) × (r < 2) ⌝ }
@@ -36,7 +37,7 @@ pub(crate) fn bit(a: AddressWords, place: usize) -> u16
     bit_of(a.upper, place - 64)
 }
 
-// Those of the upper word, or all of its 64 and those of the lower.
+// Counts those of the upper word, or all of its 64 and those of the lower.
 pub(crate) fn leading_zeros(a: AddressWords) -> usize
     ensures { λ r. ⌜ r ≡ leadingZeros 128 (value a) ⌝ }
 {
@@ -46,6 +47,7 @@ pub(crate) fn leading_zeros(a: AddressWords) -> usize
     u64::leading_zeros(a.upper) as usize
 }
 
+// Joins by an exclusive or.
 pub(crate) fn xor(a: AddressWords, b: AddressWords) -> AddressWords
     ensures { λ r. ⌜ value r ≡ bitXor (value a) (value b) ⌝ }
 {
@@ -55,6 +57,7 @@ pub(crate) fn xor(a: AddressWords, b: AddressWords) -> AddressWords
     }
 }
 
+// Says whether a is below b.
 pub(crate) fn below(a: AddressWords, b: AddressWords) -> bool
     ensures { λ r. ⌜ r ≡ ltb (value a) (value b) ⌝ }
 {
