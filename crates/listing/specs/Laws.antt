@@ -1,2 +1,2 @@
--- The flaged moves are the list.
+-- The flagged moves are the list.
 pub mod List

@@ -39,11 +39,11 @@ unfoldable pub orderRight : ℕ → ℕ → ℕ → List ℕ → Bool
 orderRight c d n m = allTo (λ i. moveBefore d (moveIn c d m i) (moveIn c d m (suc i))) (n - 1)
 
 -- Whether the move with a number is listed, and the one at place i.
-abbrev pub isFlaged : ℕ → List ℕ → ℕ → Bool
-isFlaged c m k = eqb (flagIn c m k) 1
+abbrev pub isFlagged : ℕ → List ℕ → ℕ → Bool
+isFlagged c m k = eqb (flagIn c m k) 1
 
 unfoldable pub isListed : ℕ → List ℕ → ℕ → Bool
-isListed c m i = isFlaged c m (numberIn c m i)
+isListed c m i = isFlagged c m (numberIn c m i)
 
 -- A listed move at a place before i hides x.
 unfoldable pub hiddenBefore : ℕ → ℕ → List ℕ → ℕ → Move → Bool

@@ -9,7 +9,7 @@ use Rattle.zorder.specs.Address.{rowCosts}
 use Rattle.model.specs.Dominance.{nowhereGreater}
 use Rattle.dominance.specs.Lanes.{bound, isFirst}
 use Rattle.promises.specs.Layout.{numberIn, blockIn, costsIn, tab}
-use Rattle.memory.specs.Tests.{isFlaged}
+use Rattle.memory.specs.Tests.{isFlagged}
 use Rattle.search.specs.declared.search.Among.{Among}
 use Rattle.search.specs.declared.search.Among.the-variants.{All, Listed, Hidden, InBlocks}
 use Rattle.memory.specs.declared.head.Head.{Head}
@@ -21,8 +21,8 @@ inBlocks blocks c m k = eqb (blocks / 2 ^ (blockIn c m k % 64) % 2) 1
 -- Whether a search looks at the move of a number, and at the one at place i.
 unfoldable pub looks : Among → ℕ → List ℕ → ℕ → Bool
 looks All c m k = true
-looks Listed c m k = isFlaged c m k
-looks Hidden c m k = not (isFlaged c m k)
+looks Listed c m k = isFlagged c m k
+looks Hidden c m k = not (isFlagged c m k)
 looks (InBlocks blocks) c m k = inBlocks blocks c m k
 
 unfoldable pub looksAt : Among → ℕ → List ℕ → ℕ → Bool

@@ -1,4 +1,4 @@
--- That both halves together decide whether the flaged moves are the list.
+-- That both halves together decide whether the flagged moves are the list.
 pub mod Chunks
 pub mod Unhidden
 pub mod Highs

@@ -1,4 +1,4 @@
-// Whether the flaged moves are the list: each move is held against the listed moves before it.
+// Whether the flagged moves are the list: each move is held against the listed moves before it.
 mod chunks;
 mod flags;
 mod hiders;

@@ -14,7 +14,6 @@ use skyline::flags_right;
 use zorder::cost_count_bad;
 ghost use mathlib.Core.Path.{_≡_};
 ghost use Prim.Native.Nat.{_≤_};
-ghost use lib.ListN.{length};
 ghost use Rattle.memory.specs.Held.{HeadOf};
 ghost use Rattle.soundness.specs.Held.{HeldIn};
 ghost use Rattle.memory.specs.Room.{Room, Readable};

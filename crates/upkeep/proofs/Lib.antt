@@ -1,2 +1,2 @@
 -- What the proofs of the functions use.
-pub mod Flaging
+pub mod Flagging

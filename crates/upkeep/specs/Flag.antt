@@ -13,7 +13,7 @@ use Rattle.numbers.specs.Set.{inSet}
 abbrev pub Once : ℕ → ℕ → List ℕ → Type 0
 Once c n m = (i j : ℕ) → i < n → j < n → numberIn c m i ≡ numberIn c m j → i ≡ j
 
-pub record Flaged (c d n : ℕ) (m m' : List ℕ) : Type 0 where
+pub record Flagged (c d n : ℕ) (m m' : List ℕ) : Type 0 where
   pub right : flagsRight c d n m' ≡ true
   pub frame : FlagsOnly c m m'
 

@@ -11,13 +11,13 @@ use search::tried_next;
 use skyline::hider_before;
 use zorder::COSTS;
 ghost use Rattle.memory.specs.Room.{Readable, InOrder};
-ghost use Rattle.upkeep.specs.Flag.{Once, Flaged};
+ghost use Rattle.upkeep.specs.Flag.{Once, Flagged};
 
-// Flags the moves in Z-order, so that what can hide one is flaged before it.
+// Flags the moves in Z-order, so that what can hide one is flagged before it.
 pub fn flag_all(m: &mut [u8], h: Head)
     requires { ⌜ Readable h (now m) × InOrder h (now m) ⌝ }
     requires { ⌜ Once (h .size) (h .count) (now m) ⌝ }
-    ensures { λ _. ⌜ Flaged (h .size) (h .dimension) (h .count) (now (m .entry)) (now (m .exit)) ⌝ }
+    ensures { λ _. ⌜ Flagged (h .size) (h .dimension) (h .count) (now (m .entry)) (now (m .exit)) ⌝ }
 {
     let n = h.count;
     let mut corners = [[65535u16; COSTS]; RUNS];

@@ -7,7 +7,7 @@ use numbers::add;
 use numbers::empty;
 ghost use Prim.Native.Nat.{_<_};
 ghost use Rattle.memory.specs.Room.{Readable};
-ghost use Rattle.memory.specs.Tests.{isFlaged};
+ghost use Rattle.memory.specs.Tests.{isFlagged};
 ghost use Rattle.upkeep.specs.Found as spec;
 
 // The numbers, and how many they are.
@@ -33,7 +33,7 @@ pub fn add_found(m: &[u8], h: Head, i: usize, found: bool, numbers: &mut [u64; W
 // Gives the listed ones.
 pub fn find_listed(m: &[u8], h: Head) -> Found
     requires { ⌜ Readable h (now m) ⌝ }
-    ensures { λ r. ⌜ spec.Finds h (isFlaged (h .size) (now (m .entry))) (now (m .entry)) r ⌝ }
+    ensures { λ r. ⌜ spec.Finds h (isFlagged (h .size) (now (m .entry))) (now (m .entry)) r ⌝ }
 {
     let n = h.count;
     let mut numbers = empty();

@@ -1,4 +1,4 @@
-// The kept list: flaged anew after a load, kept up by what a change does.
+// The kept list: flagged anew after a load, kept up by what a change does.
 mod entering;
 mod exchange;
 mod flag;

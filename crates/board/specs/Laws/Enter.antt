@@ -43,12 +43,12 @@ module _ {c d n : ℕ} {x : Move} {u : Upkeep} {m m₁ m₂ m₃ : List ℕ} (a 
   abbrev s : SoundRows c d n m
   s = a .asked .sound
 
-  flaged : FlagsOnly c m m₂
-  flaged = listed-frame (x .number) (u .listed) (a .asked .fit refl .number) (set .frame) e₂
+  flagged : FlagsOnly c m m₂
+  flagged = listed-frame (x .number) (u .listed) (a .asked .fit refl .number) (set .frame) e₂
 
   module _ (t : Tree) (stands : Stands m t) where
-    flaged-holds : RowsHold c d n m₂ t
-    flaged-holds = holds-over-flags (holds-sound s b t stands) flaged
+    flagged-holds : RowsHold c d n m₂ t
+    flagged-holds = holds-over-flags (holds-sound s b t stands) flagged
 
     off : onBoard (x .number) (movesOf t) ≡ false
     off = ap (onBoard (x .number)) (sym (holds-moves (holds-sound s b t stands)) ∙ sym (entering-moves c d n m)) ∙ a .asked .new refl
@@ -57,26 +57,26 @@ module _ {c d n : ℕ} {x : Move} {u : Upkeep} {m m₁ m₂ m₃ : List ℕ} (a 
   enter-line-asked =
       let t = s .sound .tree in
       let stands = s .sound .stands in
-      stored-asked (flaged-holds t stands) (a .asked .fit refl) (off t stands) e₃ (a .space)
+      stored-asked (flagged-holds t stands) (a .asked .fit refl) (off t stands) e₃ (a .space)
 
   pub enter-count-asked : {m₄ : List ℕ} → tree.Entered c d n (asMove x) m₃ m₄ → (16 ≤ length m₄) × (n + 1 < 65536)
   enter-count-asked entered =
       let t = s .sound .tree in
       let stands = s .sound .stands in
-      let k = holds-counted (entered .holds t (stored-holds (flaged-holds t stands) (a .asked .fit refl) (off t stands) e₃)) in
+      let k = holds-counted (entered .holds t (stored-holds (flagged-holds t stands) (a .asked .fit refl) (off t stands) e₃)) in
       omega arith
 
   module _ {m₄ m₅ : List ℕ} (entered : tree.Entered c d n (asMove x) m₃ m₄) (e₅ : m₅ ≡ setCount (n + 1) m₄) (t : Tree) (stands : Stands m t) where
     costs : CostsOnly c m₂ m₃
-    costs = stored-frame (flaged-holds t stands) (a .asked .fit refl) (off t stands) e₃
+    costs = stored-frame (flagged-holds t stands) (a .asked .fit refl) (off t stands) e₃
 
     enter-kept : (block : ℕ) → Moved (calls.enter (x .number) block (x .costs)) m m₅ t
     unfolding changeTree calls.changedMoves movesAfter
     enter-kept block =
         let h = holds-sound s b t stands in
         made s (calls.enter (x .number) block (x .costs)) t
-        (only-trans (flags-written c flaged) (only-trans (costs-written c costs) (rows-written c (entered .frame))))
-        (entered .holds t (stored-holds (flaged-holds t stands) (a .asked .fit refl) (off t stands) e₃))
+        (only-trans (flags-written c flagged) (only-trans (costs-written c costs) (rows-written c (entered .frame))))
+        (entered .holds t (stored-holds (flagged-holds t stands) (a .asked .fit refl) (off t stands) e₃))
         (enter-moves d (Fit c d) (move-order d c (h .readable .dimension)) (asMove x) (a .asked .fit refl) t (h .rules) (h .fits) ∙ ap (insert d (asMove x)) (sym (holds-moves h)))
         (subst (FlagsRight c d m₄) (ap (insert d (asMove x)) (entering-moves c d n m))
         (flags-come (a .asked) (a .upkept) set m₄ refl

@@ -1,14 +1,11 @@
 -- The flags after a change, and the moves that it leaves.
-use Prim.Native.Nat.{ℕ, suc, _<_}
+use Prim.Native.Nat.{ℕ, _<_}
 use mathlib.Core.Bool.{Bool, true, false, cond, not, _&&_, Bool·beq}
-use mathlib.Core.List.{List, _++_, append-nil}
+use mathlib.Core.List.{List}
 use mathlib.Core.Logic.{_≢_}
-use mathlib.Core.Path.{_≡_, refl, sym, ap, ap₂, _∙_, subst}
-use native.Mathlib.Omega.{arith}
+use mathlib.Core.Path.{_≡_, refl, sym, ap, _∙_, subst}
 use borrow.Author.Tests.{eq-eqb, eqb-false, ne-eqb, not-true}
 use lib.Dec.{eqb}
-use lib.ListN.{length, length-map, drop-of-length-le}
-use lib.Seq.{take-all}
 use Rattle.model.specs.Basics.{Each, select, any, numbersFrom}
 use Rattle.model.specs.Moves.{Move, moveBefore, insert}
 use Rattle.model.specs.Lists.{hidden}
@@ -25,7 +22,6 @@ use Rattle.memory.specs.Laws.Places.{anyTo-found}
 use Rattle.memory.specs.Stores.{setListed}
 use Rattle.memory.specs.Laws.Frames.{room-over}
 use Rattle.memory.specs.Laws.Stored.{flag-setListed-other, listed-setListed}
-use Rattle.memory.specs.Laws.Lines.{length-line}
 use Rattle.memory.specs.Laws.Held.{held-room, held-numbers}
 use Rattle.upkeep.specs.Change.{dropAt, movesAfter, stays, AskedRows, UpkeptRows}
 use Rattle.upkeep.specs.Flag.{listedThen, SetFlags}

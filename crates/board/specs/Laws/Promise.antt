@@ -24,7 +24,7 @@ use Rattle.rows.specs.Laws.Telling.{filled-length}
 use Rattle.rows.specs.Laws.Planned.{foreseen-said, foreseen-unsaid, tells-put, tells-none, put-both}
 use Rattle.planning.specs.Kind.{callOf, comes}
 use Rattle.planning.specs.Change.{Made}
-use Rattle.planning.specs.Plan.{CarriedOut, Planned, leftOf, enteredOf, rowsFilled}
+use Rattle.planning.specs.Plan.{CarriedOut, Planned, leftOf, rowsFilled}
 use Rattle.board.specs.Laws.Give.{kept-given, given-alone, given-again}
 use Rattle.planning.specs.declared.change.Change.{Change}
 use Rattle.planning.specs.declared.plan.ChangePlan.{ChangePlan}

@@ -1,13 +1,10 @@
 -- Giving a move new costs, step by step on sound memory: what the steps ask, and what all of them leave.
 use Prim.Native.Nat.{ℕ, suc, _-_, _≤_, _<_}
-use mathlib.Core.Bool.{Bool, true, false, cond, _||_}
-use mathlib.Core.List.{List, [], _∷_}
+use mathlib.Core.Bool.{false}
+use mathlib.Core.List.{List}
 use mathlib.Core.Path.{_≡_, refl, sym, ap, ap₂, _∙_, subst, subst₂}
 use native.Mathlib.Omega.{arith}
-use borrow.Author.Tests.{eqb-true}
-use lib.Dec.{eqb}
 use lib.ListN.{length}
-use Rattle.model.specs.Basics.{Each, any}
 use Rattle.model.specs.Moves as model
 use Rattle.model.specs.Moves.{insert}
 use Rattle.model.specs.Tree.{Tree, movesOf}
@@ -17,15 +14,14 @@ use Rattle.model.specs.Calls as calls
 use Rattle.model.specs.Calls.{onBoard}
 use Rattle.model.specs.Changing.{changeTree}
 use Rattle.model.specs.Sound.{Fit}
-use Rattle.model.specs.Laws.Bool.{condCases, both-ways}
+use Rattle.model.specs.Laws.Bool.{condCases}
 use Rattle.model.specs.Laws.Basics.{equal-true}
 use Rattle.model.specs.Laws.Order.{move-order}
 use Rattle.model.specs.Laws.Entering.{enter-moves}
 use Rattle.line.specs.Line.{movesIn}
-use Rattle.promises.specs.Layout.{numberIn, costsIn, flagIn, moveIn, lineFrom}
+use Rattle.promises.specs.Layout.{numberIn, costsIn, flagIn, lineFrom}
 use Rattle.promises.specs.Sound.{Stands}
 use Rattle.promises.specs.Run.{Bytes}
-use Rattle.promises.specs.Laws.Tab.{each-tab}
 use Rattle.dominance.specs.Move.{asMove}
 use Rattle.dominance.specs.declared.Move.{Move}
 use Rattle.memory.specs.Held.{SoundRows}
@@ -33,7 +29,6 @@ use Rattle.memory.specs.Stores.{setListed, setCosts, setCount}
 use Rattle.memory.specs.Frame.{MovesOnly, FlagsOnly, CostsOnly}
 use Rattle.memory.specs.Laws.Written.{only-trans, rows-written, flags-written, costs-written}
 use Rattle.memory.specs.Laws.Fields.{flag-over-rows, flag-over-costs}
-use Rattle.memory.specs.Laws.Lines.{movesIn-line}
 use Rattle.memory.specs.Laws.Blocks.{on-at}
 use Rattle.memory.specs.Laws.Held.{held-few}
 use Rattle.tree.specs.Hold.{RowsHold}
@@ -65,13 +60,13 @@ module _ {c d n p : ℕ} {x : Move} {u : Upkeep} {m m₁ m₂ : List ℕ} (a : T
   abbrev fit : Fit c d (asMove x)
   fit = a .asked .fit refl
 
-  flaged : FlagsOnly c m m₂
-  flaged = listed-frame (x .number) (u .listed) (fit .number) (set .frame) e₂
+  flagged : FlagsOnly c m m₂
+  flagged = listed-frame (x .number) (u .listed) (fit .number) (set .frame) e₂
 
   pub recost-withdraw-asked : withdraw.WithdrawAsked c d n p m₂
   recost-withdraw-asked =
       let t = s .sound .tree in
-      record { tree = record { tree = t; holds = holds-over-flags (holds-sound s b t (s .sound .stands)) flaged }; place = a .place }
+      record { tree = record { tree = t; holds = holds-over-flags (holds-sound s b t (s .sound .stands)) flagged }; place = a .place }
 
   rest : without (x .number) before ≡ dropAt p before
   rest = ap (λ (k : ℕ). without k before) (sym (a .number)) ∙ sym (rest-without c d n p m s b (a .place))
@@ -90,14 +85,14 @@ module _ {c d n p : ℕ} {x : Move} {u : Upkeep} {m m₁ m₂ : List ℕ} (a : T
       (λ _. ap (λ (k : ℕ). enterTree d (asMove x) (withdrawTree d k t)) (a .number))
 
   pub recost-written : {m₃ : List ℕ} → withdraw.Withdrawn c d n p m₂ m₃ → MovesOnly c m m₃
-  recost-written w = only-trans (flags-written c flaged) (gone-written w)
+  recost-written w = only-trans (flags-written c flagged) (gone-written w)
 
   module _ {m₃ m₄ : List ℕ} (w : withdraw.Withdrawn c d n p m₂ m₃) (e₄ : m₄ ≡ setCosts c (x .number) (x .costs) m₃) where
     gone : (t : Tree) → Stands m t → RowsHold c d (n - 1) m₃ (withdrawTree d (numberIn c m p) t)
-    gone = gone-holds w s b (a .place) flaged
+    gone = gone-holds w s b (a .place) flagged
 
     off : (t : Tree) → Stands m t → onBoard (x .number) (movesOf (withdrawTree d (numberIn c m p) t)) ≡ false
-    off t stands = ap (onBoard (x .number)) (gone-moves w s b (a .place) flaged t stands) ∙ a .asked .new refl
+    off t stands = ap (onBoard (x .number)) (gone-moves w s b (a .place) flagged t stands) ∙ a .asked .new refl
 
     pub recost-enter-asked : tree.EnterAsked c d (n - 1) (asMove x) m₄
     recost-enter-asked =
@@ -113,7 +108,7 @@ module _ {c d n p : ℕ} {x : Move} {u : Upkeep} {m m₁ m₂ : List ℕ} (a : T
       moves =
           let h = gone t stands in
           enter-moves d (Fit c d) (move-order d c (h .readable .dimension)) (asMove x) fit (withdrawTree d (numberIn c m p) t) (h .rules) (h .fits)
-          ∙ ap (insert d (asMove x)) (gone-moves w s b (a .place) flaged t stands)
+          ∙ ap (insert d (asMove x)) (gone-moves w s b (a .place) flagged t stands)
 
       held : RowsHold c d n m₅ (recostTree d (asMove x) t)
       held =

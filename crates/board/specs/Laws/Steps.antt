@@ -68,12 +68,12 @@ module _ {c d n p : ℕ} {m₁ m₂ : List ℕ} (w : Withdrawn c d n p m₁ m₂
   pub gone-flag : (v : ℕ) → v < c → flagIn c m₂ v ≡ flagIn c m₁ v
   gone-flag v k = flag-over-rows c (w .rows) v ∙ flag-over-work c (w .work) v k
 
-  module _ {m : List ℕ} (s : SoundRows c d n m) (b : Bytes m) (l : p < n) (flaged : FlagsOnly c m m₁) (t : Tree) (stands : Stands m t) where
+  module _ {m : List ℕ} (s : SoundRows c d n m) (b : Bytes m) (l : p < n) (flagged : FlagsOnly c m m₁) (t : Tree) (stands : Stands m t) where
     pub gone-holds : RowsHold c d (n - 1) m₂ (withdrawTree d (numberIn c m p) t)
     gone-holds =
         let h = holds-sound s b t stands in
-        subst (λ (k : ℕ). RowsHold c d (n - 1) m₂ (withdrawTree d k t)) (number-over-flags c flaged p (omega (arith, h .readable .rows)))
-        (w .holds t (holds-over-flags h flaged))
+        subst (λ (k : ℕ). RowsHold c d (n - 1) m₂ (withdrawTree d k t)) (number-over-flags c flagged p (omega (arith, h .readable .rows)))
+        (w .holds t (holds-over-flags h flagged))
 
     pub gone-moves : movesOf (withdrawTree d (numberIn c m p) t) ≡ dropAt p (movesIn (lineFrom c d n m))
     gone-moves =

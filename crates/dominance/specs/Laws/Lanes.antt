@@ -12,7 +12,7 @@ use lib.Dec.{eqb, ltb}
 use lib.ListN.{length, getD, set, take, length-set, List·getD-eq-default}
 use lib.Seq.{getD-set-same, getD-set-other, getD-take, length-take-le}
 use Rattle.zorder.specs.Address.{rowCosts}
-use Rattle.model.specs.Dominance.{less, nowhereGreater, at}
+use Rattle.model.specs.Dominance.{less, nowhereGreater}
 use Rattle.model.specs.Laws.Bool.{testCases, same-test}
 use Rattle.model.specs.Laws.Dominance.{nowhere-greater-places, places-nowhere-greater, take-same-length}
 use Rattle.dominance.specs.Lanes.{Lanes, bound, isFirst, lesser, greater}

@@ -1,4 +1,4 @@
--- The test of the flags passes exactly if the flaged moves are the list.
+-- The test of the flags passes exactly if the flagged moves are the list.
 use Prim.Native.Nat.{ℕ, zero, suc, _≤_}
 use mathlib.Core.Bool.{Bool, true, false, not, _&&_, Bool·beq, false≢true}
 use mathlib.Core.List.{List, [], _∷_, _++_, append-cancel-right}

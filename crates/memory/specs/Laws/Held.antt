@@ -23,7 +23,7 @@ use Rattle.model.specs.Laws.Basics.{mem-at, select-same, each-mem, any-false, a
 use Rattle.line.specs.Line.{Placed, lineOf, movesIn}
 use Rattle.line.specs.Laws.Line.{moves-line}
 use Rattle.promises.specs.Layout.{sizeIn, dimensionIn, countIn, numberIn, flagIn, moveIn, placedIn, tab, lineFrom, lineIn, boardIn, keptFrom, keptIn}
-use Rattle.promises.specs.Sound.{Stands, Sound}
+use Rattle.promises.specs.Sound.{Stands}
 use Rattle.promises.specs.Run.{Bytes}
 use Rattle.promises.specs.Laws.Stands.{stands-dimension, stands-moves, stands-order, stands-fit, stands-once}
 use Rattle.memory.specs.Room.{Room, Numbers, ReadableRows, Ordered}

@@ -11,7 +11,7 @@ use Rattle.model.specs.Calls.{blockBad}
 use Rattle.model.specs.Laws.Bool.{and-left, and-right, and-both, and-false-right}
 use Rattle.promises.specs.Layout.{numberIn, blockIn, moveIn}
 use Rattle.memory.specs.Room.{Numbers}
-use Rattle.memory.specs.Tests.{allTo, numberRight, numbersRight, orderRight, isFlaged, isListed, hiddenBefore, flagsRight}
+use Rattle.memory.specs.Tests.{allTo, numberRight, numbersRight, orderRight, isFlagged, isListed, hiddenBefore, flagsRight}
 use Rattle.memory.specs.Laws.Places.{allTo-at, allTo-all, allTo-more, allTo-next, allTo-fails}
 
 beq-not : (a b : Bool) → Bool·beq a (not b) ≡ not (Bool·beq a b)
@@ -23,9 +23,9 @@ beq-not false false = refl
 -- ---- numbers
 
 module _ (c : ℕ) (m : List ℕ) where
-  pub listed-at : (i n : ℕ) → n ≡ numberIn c m i → isListed c m i ≡ isFlaged c m n
+  pub listed-at : (i n : ℕ) → n ≡ numberIn c m i → isListed c m i ≡ isFlagged c m n
   unfolding isListed
-  listed-at i n e = ap (isFlaged c m) (sym e)
+  listed-at i n e = ap (isFlagged c m) (sym e)
 
   abbrev block : ℕ → ℕ
   block i = blockIn c m (numberIn c m i)

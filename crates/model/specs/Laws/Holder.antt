@@ -28,9 +28,9 @@ marked-all k ms =
     select-all (λ r. eqb (r .mark) k) (map (rowOf k) ms)
     (each-map (λ r. eqb (r .mark) k ≡ true) (rowOf k) ms (mem-each (λ m. eqb k k ≡ true) ms (λ m _. eq-eqb k k refl)))
 
-flaged-none : (j k : ℕ) (ms : List Move) → eqb j k ≡ false → marked k (map (rowOf j) ms) ≡ []
+marked-none : (j k : ℕ) (ms : List Move) → eqb j k ≡ false → marked k (map (rowOf j) ms) ≡ []
 unfolding marked rowOf
-flaged-none j k ms h =
+marked-none j k ms h =
     select-none (λ r. eqb (r .mark) k) (map (rowOf j) ms)
     (each-map (λ r. eqb (r .mark) k ≡ false) (rowOf j) ms (mem-each (λ m. eqb j k ≡ false) ms (λ m _. h)))
 
@@ -42,13 +42,13 @@ module _ (ms ns : List Move) where
   marked-left : marked left (map (rowOf left) ms ++ map (rowOf entered) ns) ≡ map (rowOf left) ms
   marked-left =
       marked-append left (map (rowOf left) ms) (map (rowOf entered) ns)
-      ∙ ap₂ _++_ (marked-all left ms) (flaged-none entered left ns refl)
+      ∙ ap₂ _++_ (marked-all left ms) (marked-none entered left ns refl)
       ∙ append-nil (map (rowOf left) ms)
 
   marked-entered : marked entered (map (rowOf left) ms ++ map (rowOf entered) ns) ≡ map (rowOf entered) ns
   marked-entered =
       marked-append entered (map (rowOf left) ms) (map (rowOf entered) ns)
-      ∙ ap₂ _++_ (flaged-none left entered ms refl) (marked-all entered ns)
+      ∙ ap₂ _++_ (marked-none left entered ms refl) (marked-all entered ns)
 
 -- ---- rows taken out and put in, by their moves
 

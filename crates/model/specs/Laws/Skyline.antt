@@ -1,12 +1,11 @@
 -- The list of the entries that no entry hides: its laws, over any relation that hides and any order that it agrees with,
 -- then at the list of a board.
 use Prim.Native.Nat.{ℕ, _≤_}
-use mathlib.Core.Bool.{Bool, true, false, not, cond, _||_, false≢true, or-false, or-comm}
+use mathlib.Core.Bool.{Bool, true, false, not, _||_, false≢true, or-false, or-comm}
 use mathlib.Core.Path.{_≡_, refl, sym, _∙_, ap, subst}
-use mathlib.Core.List.{List, [], _∷_, _++_, append-nil, List·Memᴰ, List·Memᴰ·head, Memᴰ·append-right}
-use lib.Seq.{append-snoc}
+use mathlib.Core.List.{List, [], _∷_, _++_, List·Memᴰ, List·Memᴰ·head, Memᴰ·append-right}
 use Rattle.zorder.specs.Between.{rowCosts}
-use Rattle.model.specs.Basics.{Each, consIf, select, any, insertBy, rising}
+use Rattle.model.specs.Basics.{Each, select, any, insertBy, rising}
 use Rattle.model.specs.Moves.{Move, moveBefore, insert, ordered}
 use Rattle.model.specs.Dominance.{hides}
 use Rattle.model.specs.Lists.{hidden, skyline}
@@ -44,10 +43,6 @@ first-found p (x ∷ xs) e =
     (λ h. ([], x, xs, refl, refl, h))
     (λ h. let f = first-found p xs (subst (λ (b : Bool). (b || any p xs) ≡ true) h e) in
     (x ∷ f .0, f .1, f .2, ap (λ (l : List _). x ∷ l) (f .3), ap (λ (b : Bool). b || any p (f .0)) h ∙ f .4, f .5))
-
-append-unless : {A : Type 0} (b : Bool) (xs : List A) (m : A) → xs ++ consIf (not b) m [] ≡ cond b xs (xs ++ m ∷ [])
-append-unless true xs m = append-nil xs
-append-unless false xs m = refl
 
 module _ {A : Type 0} (hides : A → A → Bool) where
   pub unhidden-mem : {m : A} (ms : List A) → List·Memᴰ m (unhidden hides ms) → List·Memᴰ m ms × (hiddenIn hides ms m ≡ false)

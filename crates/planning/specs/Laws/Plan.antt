@@ -1,16 +1,15 @@
 -- The plan of a change, for each of its answers.
 use Prim.Native.Nat.{ℕ, zero, suc, _+_, _-_, _≤_, _<_}
 use mathlib.Core.Bool.{Bool, true, false, cond, _&&_}
-use mathlib.Core.List.{List, [], _++_}
+use mathlib.Core.List.{List, []}
 use mathlib.Core.Path.{_≡_, refl, sym, ap, ap₂, _∙_, subst}
 use native.Mathlib.Omega.{arith}
 use borrow.Author.Tests.{ltb-true, lt-ltb, le-ltb}
 use lib.Dec.{ltb}
-use lib.ListN.{length, length-append}
+use lib.ListN.{length}
 use Rattle.zorder.specs.Address.{rowCosts}
 use Rattle.zorder.specs.Laws.Address.{Costs}
 use Rattle.model.specs.Basics.{equal}
-use Rattle.model.specs.Moves.{Row}
 use Rattle.model.specs.Calls as calls
 use Rattle.model.specs.Calls.{accepted, refusedWith, rowsAnswer, changeRefusal, changeNotice, keepsMoves, onBoard}
 use Rattle.model.specs.Withdrawing.{costsOn, unchanged}
@@ -26,13 +25,11 @@ use Rattle.promises.specs.Laws.Answers.{counted-zero}
 use Rattle.promises.specs.declared.Verdict.{Verdict}
 use Rattle.promises.specs.declared.Outcome.{Outcome}
 use Rattle.promises.specs.declared.Outcome.the-variants.{Unsound}
-use Rattle.dominance.specs.declared.Move.{Move}
 use Rattle.memory.specs.Held.{SoundRows}
 use Rattle.memory.specs.Laws.Held.{held-room, held-readable}
 use Rattle.memory.specs.declared.head.Head.{Head}
 use Rattle.tree.specs.Withdraw.{PlaceOf}
 use Rattle.upkeep.specs.Change.{UpkeptRows, PlaceRows}
-use Rattle.upkeep.specs.declared.exchange.Exchange.{Exchange}
 use Rattle.upkeep.specs.declared.exchange.Upkeep.{Upkeep}
 use Rattle.rows.specs.Planned.{Foreseen, Tells}
 use Rattle.rows.specs.Laws.Planned.{foreseen-unsound, foreseen-refused, foreseen-judged, few-refuses, counted-all, counted-none}

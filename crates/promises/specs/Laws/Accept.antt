@@ -11,7 +11,7 @@ use Rattle.model.specs.Calls.{accepted, Change, enter, blockBad, onBoard, chang
 use Rattle.model.specs.Laws.Changes.{changes-accepted, never-eight, enter-passes}
 use Rattle.promises.specs.Layout.{sizeIn, dimensionIn, boardIn}
 use Rattle.promises.specs.Sound.{Sound}
-use Rattle.promises.specs.Answers.{answerOf, numberOf}
+use Rattle.promises.specs.Answers.{numberOf}
 use Rattle.promises.specs.Promise.{ChangeSaid}
 use Rattle.promises.specs.Run.{Bytes}
 use Rattle.promises.specs.Laws.Stands.{sound-board}

@@ -1,7 +1,7 @@
 -- The rows that a list tells are those of the moves found.
 use Prim.Native.Nat.{ℕ, _-_}
 use mathlib.Core.Bool.{Bool, and-true}
-use mathlib.Core.List.{List, [], map, map-map}
+use mathlib.Core.List.{List, map, map-map}
 use mathlib.Core.Path.{_≡_, refl, sym, ap, _∙_}
 use native.Mathlib.Omega.{arith}
 use lib.ListN.{length, length-map}

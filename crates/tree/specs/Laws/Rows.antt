@@ -2,18 +2,16 @@
 use Prim.Native.Nat.{ℕ, _<_}
 use mathlib.Core.List.{List}
 use mathlib.Core.Logic.{_≢_}
-use mathlib.Core.Path.{_≡_, sym, ap, ap₂, _∙_}
+use mathlib.Core.Path.{_≡_, ap, ap₂, _∙_}
 use native.Mathlib.Omega.{arith}
-use Rattle.model.specs.Moves.{Move}
-use Rattle.line.specs.Places.{moveAt}
-use Rattle.promises.specs.Layout.{numberIn, heightIn, costsIn, moveIn, placedIn, lineFrom}
+use Rattle.promises.specs.Layout.{numberIn, heightIn, costsIn, moveIn, placedIn}
 use Rattle.memory.specs.Room.{Room}
 use Rattle.memory.specs.Stores.{setNumber, setHeight}
 use Rattle.memory.specs.Frame.{RowsOnly}
 use Rattle.memory.specs.Laws.Frames.{frame-trans}
 use Rattle.memory.specs.Laws.Fields.{costs-over-rows}
 use Rattle.memory.specs.Laws.Stored.{setNumber-rows, setHeight-rows, length-setNumber, number-setNumber, number-setNumber-other, number-setHeight, height-setNumber, height-setHeight, height-setHeight-other}
-use Rattle.memory.specs.Laws.Lines.{moveAt-line, placed-ext}
+use Rattle.memory.specs.Laws.Lines.{placed-ext}
 use Rattle.tree.specs.Rows.{row}
 
 abbrev pub setRow : ℕ → ℕ → ℕ → ℕ → List ℕ → List ℕ

@@ -41,7 +41,7 @@ use Rattle.nodes.specs.Laws.Search.{Counting, counting-all, opened-nodes}
 use Rattle.nodes.specs.declared.nodes.Leaf.{Leaf}
 use Rattle.upkeep.specs.Change.{goesListed, hiddenByOthers, hiddenByComing, comesUp, entersAt, Passing, Entering}
 use Rattle.upkeep.specs.Laws.Places.{place-below, below-place, anyTo-places}
-use Rattle.upkeep.specs.Laws.Change.{line-places, others-hide, same-place, rest-without, goes-on-board, goes-flaged, goes-unflaged, enters-none}
+use Rattle.upkeep.specs.Laws.Change.{line-places, others-hide, same-place, rest-without, goes-on-board, goes-flagged, goes-unflagged, enters-none}
 use Rattle.upkeep.specs.Laws.Passing.{none-passes, passing-join, passing-skip}
 use Rattle.upkeep.specs.declared.exchange.Exchange.{Exchange}
 use Rattle.upkeep.specs.declared.entering.Entered.{Entered}
@@ -172,7 +172,7 @@ module _ (c d n : ℕ) (m : List ℕ) (s : SoundRows c d n m) (b : Bytes m) wher
         let l = held-dimension c d n m s in
         let fits = held-fit c d n m s b in
         let order = held-order c d n m s in
-        opens-counts g on-board (goes-flaged c n g m goes) z
+        opens-counts g on-board (goes-flagged c n g m goes) z
         ∙ brought-up-counts d c l before fits order (numberIn c m g) listed-then not-now (held-distinct c d n m s b) z
         (node-near d c l before fits order i under) (node-far d c l before fits order i under)
 
@@ -204,7 +204,7 @@ module _ (c d n : ℕ) (m : List ℕ) (s : SoundRows c d n m) (b : Bytes m) wher
   entering-all k {ws} {ws'} {i} r e all found counted =
       record {
         moves = subst (λ (j : ℕ). Passing c m (entersAt c d n k m) ws 0 j ws' (r .count)) all found;
-        opened = λ l t x. counting-all (r .opened) i counted (omega arith) ∙ opened-counts (k .goes) l (goes-flaged c n (k .goes) m e) t x;
+        opened = λ l t x. counting-all (r .opened) i counted (omega arith) ∙ opened-counts (k .goes) l (goes-flagged c n (k .goes) m e) t x;
       }
 
   -- No listed move goes.
@@ -212,5 +212,5 @@ module _ (c d n : ℕ) (m : List ℕ) (s : SoundRows c d n m) (b : Bytes m) wher
   entering-none k ws e =
       record {
         moves = none-passes c m (entersAt c d n k m) ws 0 n (λ i _ _. enters-none c d n k m i e);
-        opened = λ l. unlisted-counts (k .goes) l (goes-unflaged c n (k .goes) m e l);
+        opened = λ l. unlisted-counts (k .goes) l (goes-unflagged c n (k .goes) m e l);
       }

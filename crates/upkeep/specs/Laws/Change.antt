@@ -123,20 +123,20 @@ changed-hidden d k ms x =
     (λ _. enter-hidden d y rest x)
     (λ _. sym (or-false (hidden d rest x)))
 
--- A listed move goes: it is on the board, and flaged.
+-- A listed move goes: it is on the board, and flagged.
 module _ (c n g : ℕ) (m : List ℕ) (e : goesListed c n g m ≡ true) where
   pub goes-on-board : g < n
   unfolding goesListed
   goes-on-board = ltb-true g n (and-left (ltb g n) (isListed c m g) e)
 
-  pub goes-flaged : isListed c m g ≡ true
+  pub goes-flagged : isListed c m g ≡ true
   unfolding goesListed
-  goes-flaged = and-right (ltb g n) (isListed c m g) e
+  goes-flagged = and-right (ltb g n) (isListed c m g) e
 
--- No listed move goes: it is not flaged, and none enters.
-pub goes-unflaged : (c n g : ℕ) (m : List ℕ) → goesListed c n g m ≡ false → g < n → isListed c m g ≡ false
+-- No listed move goes: it is not flagged, and none enters.
+pub goes-unflagged : (c n g : ℕ) (m : List ℕ) → goesListed c n g m ≡ false → g < n → isListed c m g ≡ false
 unfolding goesListed
-goes-unflaged c n g m e l = and-drop-left (ltb g n) (isListed c m g) (lt-ltb g n l) e
+goes-unflagged c n g m e l = and-drop-left (ltb g n) (isListed c m g) (lt-ltb g n l) e
 
 pub enters-none : (c d n : ℕ) (k : Exchange) (m : List ℕ) (i : ℕ) → goesListed c n (k .goes) m ≡ false → entersAt c d n k m i ≡ false
 unfolding entersAt comesUp

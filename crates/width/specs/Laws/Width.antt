@@ -1,6 +1,6 @@
 -- Costs past the first d do not matter (Card 13): order, dominance, lists and notices of a board are those of the same board
 -- with other costs past d in its rows.
-use Prim.Native.Nat.{ℕ, zero, suc, _<_}
+use Prim.Native.Nat.{ℕ, _<_}
 use mathlib.Core.Bool.{Bool, false, not, _&&_, _||_}
 use mathlib.Core.List.{List, [], _∷_, map, map-map}
 use mathlib.Core.Path.{_≡_, refl, sym, ap, ap₂, _∙_}
@@ -17,7 +17,7 @@ use Rattle.model.specs.Lists.{hidden, skyline, dominators, band, dominated, ran
 use Rattle.model.specs.Hours.{blockOpen, openMoves}
 use Rattle.model.specs.Calls.{Board, listOf, queryRows, queryRefusal, queryAnswer, Answer, orElse, rowsAnswer}
 use Rattle.width.specs.Width.{Covered, list, bandQuery, rankQuery, onKQuery, chosenQuery, hoursQuery, queryOf, moveWith, rowWith, boardWith}
-use Rattle.model.specs.Laws.Basics.{each-mem, mem-each, each-map, each-append, parts-each, any-map, any-ext, select-map, count-map, map-take}
+use Rattle.model.specs.Laws.Basics.{each-mem, mem-each, parts-each, any-map, any-ext, select-map, count-map, map-take}
 use Rattle.model.specs.Laws.Range.{each-place}
 use Rattle.model.specs.Laws.Chosen.{chosen-below}
 use Rattle.model.specs.Laws.Sorting.{map-sort}

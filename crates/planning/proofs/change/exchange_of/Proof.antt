@@ -1,5 +1,4 @@
 -- `change::exchange_of` meets its contract. Assumes nothing.
-use mathlib.Core.Path.{_≡_}
 use borrow.Author.Needs.{needs}
 use Rattle.planning.proofs.change.exchange_of.Statement.{statement}
 use Rattle.planning.proofs.change.exchange_of.Tie as tie

@@ -1,5 +1,4 @@
 -- `notice::entered_of` meets its contract. Assumes nothing.
-use mathlib.Core.Path.{_≡_}
 use borrow.Author.Needs.{needs}
 use Rattle.search.specs.declared.search.Among.the-variants.{Hidden}
 use Rattle.planning.proofs.notice.entered_of.Statement.{statement}

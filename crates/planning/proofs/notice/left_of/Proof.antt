@@ -1,5 +1,4 @@
 -- `notice::left_of` meets its contract. Assumes nothing.
-use mathlib.Core.Path.{_≡_}
 use borrow.Author.Needs.{needs}
 use Rattle.search.specs.declared.search.Among.the-variants.{Listed}
 use Rattle.planning.proofs.notice.left_of.Statement.{statement}

@@ -1,6 +1,5 @@
 -- `plan::plan_found` meets its contract. Assumes nothing.
-use Prim.Native.Nat.{ℕ}
-use mathlib.Core.Path.{_≡_, sym, subst}
+use mathlib.Core.Path.{sym, subst}
 use borrow.Author.Needs.{needs}
 use Rattle.rows.specs.Planned.{PlansFound}
 use Rattle.rows.specs.Laws.Planned.{found-plans}

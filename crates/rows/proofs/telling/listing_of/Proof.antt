@@ -1,5 +1,4 @@
 -- `telling::listing_of` meets its contract. Assumes nothing.
-use mathlib.Core.Path.{_≡_}
 use borrow.Author.Needs.{needs}
 use Rattle.search.specs.declared.search.Among.the-variants.{All}
 use Rattle.rows.proofs.telling.listing_of.Statement.{statement}

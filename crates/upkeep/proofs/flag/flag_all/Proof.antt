@@ -4,13 +4,13 @@ use Prim.Native.Nat.{ℕ, _-_, _≤_}
 use mathlib.Core.Path.{_≡_, refl, subst}
 use native.Mathlib.Omega.{arith}
 use Rattle.search.specs.Laws.Search.{corners-none}
-use Rattle.upkeep.specs.Flag.{Flaged}
-use Rattle.upkeep.proofs.Flaging.{Flaging, flaged-none, flaging-more, stored-frame, readable-kept, ordered-kept}
+use Rattle.upkeep.specs.Flag.{Flagged}
+use Rattle.upkeep.proofs.Flagging.{Flagging, flagged-none, flagging-more, stored-frame, readable-kept, ordered-kept}
 use Rattle.upkeep.proofs.flag.flag_all.Statement.{statement}
 use Rattle.upkeep.proofs.flag.flag_all.Tie as tie
 
 abbrev Inv-loop : tie.InvT-loop
-Inv-loop m₀ h n corners₀ last₀ i₀ m corners last i = (i ≤ n) × Flaging h m₀ m i corners
+Inv-loop m₀ h n corners₀ last₀ i₀ m corners last i = (i ≤ n) × Flagging h m₀ m i corners
 
 abbrev μ-loop : tie.MeasureT-loop
 μ-loop m₀ h n corners₀ last₀ i₀ m corners last i = n - i
@@ -18,14 +18,14 @@ abbrev μ-loop : tie.MeasureT-loop
 loop-holds : tie.Need-loop-holds Inv-loop μ-loop
 loop-holds c =
     let a = c .before .args in
-    (omega arith, record { flaged = flaged-none (a .h .size) (a .h .dimension) (a .m .now); corners = corners-none _ refl })
+    (omega arith, record { flagged = flagged-none (a .h .size) (a .h .dimension) (a .m .now); corners = corners-none _ refl })
 
 hider-before-requires : tie.Need-hider-before-requires Inv-loop μ-loop
 hider-before-requires c κs =
     let start = c .before .before .before .before .before in
     let a = start .args in
     let own = c .before .before .before .loop in
-    let frame = own .inv .1 .flaged .frame in
+    let frame = own .inv .1 .flagged .frame in
     let rows = start .pre .0 .0 .rows in (
       (
         readable-kept (a .h .size) (a .h .count) (a .m .now) (own .m) frame rows (a .h .dimension) (start .pre .0 .0),
@@ -40,7 +40,7 @@ number-at-requires c κs =
     let start = c .before .before .before .before .before .before .before in
     let a = start .args in
     let own = c .before .before .before .before .before .loop in
-    let readable = readable-kept (a .h .size) (a .h .count) (a .m .now) (own .m) (own .inv .1 .flaged .frame) (start .pre .0 .0 .rows) (a .h .dimension) (start .pre .0 .0) in
+    let readable = readable-kept (a .h .size) (a .h .count) (a .m .now) (own .m) (own .inv .1 .flagged .frame) (start .pre .0 .0 .rows) (a .h .dimension) (start .pre .0 .0) in
     (readable .room, omega (arith, readable .rows))
 
 set-listed-requires : tie.Need-set-listed-requires Inv-loop μ-loop
@@ -48,7 +48,7 @@ set-listed-requires c κs =
     let start = c .before .before .before .before .before .before .before .before .before in
     let a = start .args in
     let own = c .before .before .before .before .before .before .before .loop in
-    let readable = readable-kept (a .h .size) (a .h .count) (a .m .now) (own .m) (own .inv .1 .flaged .frame) (start .pre .0 .0 .rows) (a .h .dimension) (start .pre .0 .0) in
+    let readable = readable-kept (a .h .size) (a .h .count) (a .m .now) (own .m) (own .inv .1 .flagged .frame) (start .pre .0 .0 .rows) (a .h .dimension) (start .pre .0 .0) in
     (readable .room, omega (arith, c .before .number-at .ensures, readable .numbers (own .i) (omega arith)))
 
 corner-with-requires : tie.Need-corner-with-requires Inv-loop μ-loop
@@ -70,18 +70,18 @@ loop-again c =
     let hider = c .before .before .before .before .before .before .before .before .before .before .hider-before in
     let more = c .before .before .before .before .before .before .before .before .before .before .before .before .before .loop-test .taken in (
       omega (arith, more),
-      flaging-more (a .h) (a .m .now) (own .m) (own .i) (own .corners) (start .pre .0 .0) (start .pre .1) more (own .inv .1) (number .result) (hider .result) _ (number .ensures) (hider .ensures) (c .before .before .before .before .before .before .set-listed .ensures) (c .before .corner-with .result) (c .before .corner-with .ensures),
+      flagging-more (a .h) (a .m .now) (own .m) (own .i) (own .corners) (start .pre .0 .0) (start .pre .1) more (own .inv .1) (number .result) (hider .result) _ (number .ensures) (hider .ensures) (c .before .before .before .before .before .before .set-listed .ensures) (c .before .corner-with .result) (c .before .corner-with .ensures),
     )
 
 same-length : tie.Need-same-length Inv-loop μ-loop
-same-length c = c .before .loop .inv .1 .flaged .frame .length
+same-length c = c .before .loop .inv .1 .flagged .frame .length
 
 returns : tie.Need-returns Inv-loop μ-loop
 returns c =
     let a = c .before .before .before .args in
     let own = c .before .loop in
     let all : own .i ≡ a .h .count = omega arith in
-    subst (λ (k : ℕ). Flaged (a .h .size) (a .h .dimension) k (a .m .now) (own .m)) all (own .inv .1 .flaged)
+    subst (λ (k : ℕ). Flagged (a .h .size) (a .h .dimension) k (a .m .now) (own .m)) all (own .inv .1 .flagged)
 
 pub flag-all-spec : {M : Type 1} → statement M
 flag-all-spec =

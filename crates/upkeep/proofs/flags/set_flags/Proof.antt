@@ -5,12 +5,12 @@ use mathlib.Core.Path.{_≡_, subst}
 use native.Mathlib.Omega.{arith}
 use Rattle.memory.specs.Laws.Frames.{room-over}
 use Rattle.memory.specs.Laws.Fields.{number-over-flags}
-use Rattle.upkeep.specs.Laws.Flags.{Flaging, flaging-none, flaging-more, flaging-all}
+use Rattle.upkeep.specs.Laws.Flags.{Flagging, flagging-none, flagging-more, flagging-all}
 use Rattle.upkeep.proofs.flags.set_flags.Statement.{statement}
 use Rattle.upkeep.proofs.flags.set_flags.Tie as tie
 
 abbrev Inv-loop : tie.InvT-loop
-Inv-loop m₀ h u n i₀ m i = (i ≤ n) × Flaging (h .size) n i (u .changed) m₀ m
+Inv-loop m₀ h u n i₀ m i = (i ≤ n) × Flagging (h .size) n i (u .changed) m₀ m
 
 abbrev μ-loop : tie.MeasureT-loop
 μ-loop m₀ h u n i₀ m i = n - i
@@ -18,7 +18,7 @@ abbrev μ-loop : tie.MeasureT-loop
 loop-holds : tie.Need-loop-holds Inv-loop μ-loop
 loop-holds c =
     let a = c .before .args in
-    (omega arith, flaging-none (a .h .size) (a .h .count) (a .t3 .changed) (a .m .now))
+    (omega arith, flagging-none (a .h .size) (a .h .count) (a .t3 .changed) (a .m .now))
 
 set-flag-requires : tie.Need-set-flag-requires Inv-loop μ-loop
 set-flag-requires c κs =
@@ -35,7 +35,7 @@ loop-again c =
     let own = c .before .before .before .before .before .before .before .loop in
     let set = c .before .before .set-flag in (
       omega arith,
-      flaging-more (a .h .size) (a .h .count) (a .t3 .changed) (a .m .now) (pre .0 .rows) (pre .0 .numbers) (pre .1) (own .i) (omega arith) (own .m) (set .last .0) (own .inv .1) (set .ensures),
+      flagging-more (a .h .size) (a .h .count) (a .t3 .changed) (a .m .now) (pre .0 .rows) (pre .0 .numbers) (pre .1) (own .i) (omega arith) (own .m) (set .last .0) (own .inv .1) (set .ensures),
     )
 
 same-length : tie.Need-same-length Inv-loop μ-loop
@@ -46,8 +46,8 @@ returns c =
     let a = c .before .before .before .args in
     let own = c .before .loop in
     let all : own .i ≡ a .h .count = omega arith in
-    flaging-all (a .h .size) (a .h .count) (a .t3 .changed) (a .m .now) (own .m)
-    (subst (λ (e : ℕ). Flaging (a .h .size) (a .h .count) e (a .t3 .changed) (a .m .now) (own .m)) all (own .inv .1))
+    flagging-all (a .h .size) (a .h .count) (a .t3 .changed) (a .m .now) (own .m)
+    (subst (λ (e : ℕ). Flagging (a .h .size) (a .h .count) e (a .t3 .changed) (a .m .now) (own .m)) all (own .inv .1))
 
 pub set-flags-spec : {M : Type 1} → statement M
 set-flags-spec =

@@ -4,14 +4,14 @@ use mathlib.Core.Logic.{⊎-elim}
 use mathlib.Core.Path.{sym, ap, subst, _∙_}
 use native.Mathlib.Omega.{arith}
 use Rattle.numbers.specs.Set.{With}
-use Rattle.memory.specs.Tests.{isFlaged, isListed}
+use Rattle.memory.specs.Tests.{isFlagged, isListed}
 use Rattle.upkeep.specs.Laws.Passing.{passing-few, passing-none, passing-takes, passing-passes}
 use Rattle.upkeep.specs.Laws.Found.{FindsTo, finds-all}
 use Rattle.upkeep.proofs.found.find_listed.Statement.{statement}
 use Rattle.upkeep.proofs.found.find_listed.Tie as tie
 
 abbrev Inv-loop : tie.InvT-loop
-Inv-loop m h n numbers₀ count₀ i₀ numbers count i = (i ≤ n) × FindsTo (h .size) m (isFlaged (h .size) m) numbers₀ i numbers count
+Inv-loop m h n numbers₀ count₀ i₀ numbers count i = (i ≤ n) × FindsTo (h .size) m (isFlagged (h .size) m) numbers₀ i numbers count
 
 abbrev μ-loop : tie.MeasureT-loop
 μ-loop m h n numbers₀ count₀ i₀ numbers count i = n - i
@@ -45,7 +45,7 @@ loop-again c =
     let a = c .before .before .before .before .before .before .before .args in
     let own = c .before .before .before .before .loop in
     let at = c .before .before .number-at in
-    let says = ap (isFlaged (a .h .size) (a .m .now)) (sym (at .ensures)) ∙ sym (c .before .is-listed .ensures) in (
+    let says = ap (isFlagged (a .h .size) (a .m .now)) (sym (at .ensures)) ∙ sym (c .before .is-listed .ensures) in (
       omega arith,
       ⊎-elim
           (λ w. passing-takes (a .h .size) (a .m .now) (isListed (a .h .size) (a .m .now)) (own .inv .1) (omega arith) (says ∙ w .0 .taken) (at .result) (at .ensures)
@@ -58,7 +58,7 @@ returns : tie.Need-returns Inv-loop μ-loop
 returns c =
     let a = c .before .before .before .before .args in
     let own = c .before .loop in
-    finds-all (a .h .size) (a .m .now) (isFlaged (a .h .size) (a .m .now)) (a .h .count) (own .i) _ (omega arith) (c .before .before .empty .ensures) (own .inv .1)
+    finds-all (a .h .size) (a .m .now) (isFlagged (a .h .size) (a .m .now)) (a .h .count) (own .i) _ (omega arith) (c .before .before .empty .ensures) (own .inv .1)
 
 pub find-listed-spec : {M : Type 1} → statement M
 find-listed-spec =

@@ -23,7 +23,7 @@ use Rattle.memory.specs.Laws.Fields.{number-over-flags, costs-over-flags}
 use Rattle.memory.specs.Laws.Stored.{setListed-flags, listed-setListed, flag-setListed-other}
 use Rattle.memory.specs.Laws.Lines.{move-ext}
 use Rattle.memory.specs.Laws.Turns.{flags-none, flags-more}
-use Rattle.upkeep.specs.Flag.{Once, Flaged}
+use Rattle.upkeep.specs.Flag.{Once, Flagged}
 
 allTo-ext : (p q : ℕ → Bool) (n : ℕ) → ((i : ℕ) → i < n → p i ≡ q i) → allTo p n ≡ allTo q n
 unfolding allTo
@@ -58,11 +58,11 @@ module _ (c d n : ℕ) (m m' : List ℕ) (moves : (i : ℕ) → i < n → moveIn
       (ap (hiddenBefore c d m' i) (moves i l) ∙ hidden-ext i (moveIn c d m i) (omega arith)))
 
 module _ (c d i : ℕ) (m₀ m : List ℕ) (room : Room c m) (within : i < c) (number : numberIn c m i < c)
-    (others : (j : ℕ) → j < i → numberIn c m j ≡ numberIn c m i → ⊥) (flaged : Flaged c d i m₀ m) where
-  -- A turn: the move at place i is flaged.
-  pub flaged-more : (k : ℕ) (hidden : Bool) → k ≡ numberIn c m i → hidden ≡ hiddenBefore c d m i (moveIn c d m i) → Flaged c d (i + 1) m₀ (setListed c k (not hidden) m)
+    (others : (j : ℕ) → j < i → numberIn c m j ≡ numberIn c m i → ⊥) (flagged : Flagged c d i m₀ m) where
+  -- A turn: the move at place i is flagged.
+  pub flagged-more : (k : ℕ) (hidden : Bool) → k ≡ numberIn c m i → hidden ≡ hiddenBefore c d m i (moveIn c d m i) → Flagged c d (i + 1) m₀ (setListed c k (not hidden) m)
   unfolding isListed moveIn
-  flaged-more k hidden e f = record { right = right; frame = frame-trans (flaged .frame) frame }
+  flagged-more k hidden e f = record { right = right; frame = frame-trans (flagged .frame) frame }
     where
       m' : List ℕ
       m' = setListed c k (not hidden) m
@@ -84,7 +84,7 @@ module _ (c d i : ℕ) (m₀ m : List ℕ) (room : Room c m) (within : i < c) (n
 
       right : flagsRight c d (i + 1) m' ≡ true
       right =
-          flags-more c d m' i (flags-ext c d i m m' before flags ∙ flaged .right) (not hidden) hidden
+          flags-more c d m' i (flags-ext c d i m m' before flags ∙ flagged .right) (not hidden) hidden
           (ap (λ (x : Move). eqb (flagIn c m' (x .number)) 1) (moves i (omega arith)) ∙ ap (λ (v : ℕ). eqb (flagIn c m' v) 1) (sym e) ∙ listed-setListed c k m room below (not hidden))
           (ap (hiddenBefore c d m' i) (moves i (omega arith)) ∙ hidden-ext c d i m m' before flags i (moveIn c d m i) (omega arith) ∙ sym f)
           (beq-opposite hidden)
@@ -106,7 +106,7 @@ module _ (c n : ℕ) (m₀ m : List ℕ) (f : FlagsOnly c m₀ m) (few : n ≤ c
   pub ordered-kept : (d : ℕ) → Ordered c d n m₀ → Ordered c d n m
   ordered-kept d h i j k l = ap₂ (moveBefore d) (move-kept d i (omega arith)) (move-kept d j l) ∙ h i j k l
 
--- The move of number k is flaged: the corners of listed moves at other places stay.
+-- The move of number k is flagged: the corners of listed moves at other places stay.
 pub corners-kept : (c i k : ℕ) (m : List ℕ) (b : Bool) (corners : List (List ℕ)) → i ≤ c → k < c → ((j : ℕ) → j < i → numberIn c m j ≡ k → ⊥)
     → Corners Listed c m i corners → Corners Listed c (setListed c k b m) i corners
 unfolding looksAt looks seenAt seen
@@ -128,31 +128,31 @@ corners-kept c i k m b corners few below others h = record {
     number j l = number-over-flags c frame j (omega arith)
 
 -- Between two turns: the flags before place i are right, and the corners are those of the listed moves before it.
-pub record Flaging (h : Head) (m₀ m : List ℕ) (i : ℕ) (lows : List (List ℕ)) : Type 0 where
-  pub flaged : Flaged (h .size) (h .dimension) i m₀ m
+pub record Flagging (h : Head) (m₀ m : List ℕ) (i : ℕ) (lows : List (List ℕ)) : Type 0 where
+  pub flagged : Flagged (h .size) (h .dimension) i m₀ m
   pub corners : ListedCorners h m i lows
 
 module _ (h : Head) (m₀ m : List ℕ) (i : ℕ) (corners : List (List ℕ)) (readable : Readable h m₀) (once : Once (h .size) (h .count) m₀)
-    (more : i < h .count) (w : Flaging h m₀ m i corners) where
+    (more : i < h .count) (w : Flagging h m₀ m i corners) where
   others : (j : ℕ) → j < i → numberIn (h .size) m j ≡ numberIn (h .size) m i → ⊥
   others j l e =
-      let g = once-kept (h .size) (h .count) m₀ m (w .flaged .frame) (readable .rows) once j i (omega arith) more e in
+      let g = once-kept (h .size) (h .count) m₀ m (w .flagged .frame) (readable .rows) once j i (omega arith) more e in
       omega arith
 
   module _ (k hider : ℕ) (m' : List ℕ) (number : k ≡ numberIn (h .size) m i) (hidden : hiddenAt (h .size) (h .dimension) m i ≡ ltb hider i)
       (stored : m' ≡ setListed (h .size) k (not (ltb hider i)) m) where
     below : numberIn (h .size) m i < h .size
-    below = numbers-kept (h .size) (h .count) m₀ m (w .flaged .frame) (readable .rows) (readable .numbers) i more
+    below = numbers-kept (h .size) (h .count) m₀ m (w .flagged .frame) (readable .rows) (readable .numbers) i more
 
     pub stored-frame : FlagsOnly (h .size) m₀ m'
     stored-frame =
-        frame-trans (w .flaged .frame) (subst (FlagsOnly (h .size) m) (sym stored) (setListed-flags (h .size) k m (omega (arith, below)) (not (ltb hider i))))
+        frame-trans (w .flagged .frame) (subst (FlagsOnly (h .size) m) (sym stored) (setListed-flags (h .size) k m (omega (arith, below)) (not (ltb hider i))))
 
-    pub flaging-more : (r : List ℕ) → CornerWith Listed (h .size) m' i (i + 1) (getD corners (i / 64) []) r → Flaging h m₀ m' (i + 1) (set corners (i / 64) r)
-    flaging-more r corner = record {
-      flaged =
-          subst (Flaged (h .size) (h .dimension) (i + 1) m₀) (sym stored)
-          (flaged-more (h .size) (h .dimension) i m₀ m (room-over (h .size) (w .flaged .frame) (readable .room)) (omega (arith, readable .rows)) below others (w .flaged) k (ltb hider i) number (sym hidden));
+    pub flagging-more : (r : List ℕ) → CornerWith Listed (h .size) m' i (i + 1) (getD corners (i / 64) []) r → Flagging h m₀ m' (i + 1) (set corners (i / 64) r)
+    flagging-more r corner = record {
+      flagged =
+          subst (Flagged (h .size) (h .dimension) (i + 1) m₀) (sym stored)
+          (flagged-more (h .size) (h .dimension) i m₀ m (room-over (h .size) (w .flagged .frame) (readable .room)) (omega (arith, readable .rows)) below others (w .flagged) k (ltb hider i) number (sym hidden));
       corners =
           corners-more i (i + 1) corners r (omega (arith, readable .rows, readable .room)) (omega arith)
           (subst (λ (l : List ℕ). ListedCorners h l i corners) (sym stored)
@@ -160,5 +160,5 @@ module _ (h : Head) (m₀ m : List ℕ) (i : ℕ) (corners : List (List ℕ)) (r
           corner;
     }
 
-pub flaged-none : (c d : ℕ) (m : List ℕ) → Flaged c d 0 m m
-flaged-none c d m = record { right = flags-none c d m; frame = frame-refl m }
+pub flagged-none : (c d : ℕ) (m : List ℕ) → Flagged c d 0 m m
+flagged-none c d m = record { right = flags-none c d m; frame = frame-refl m }
