@@ -1,5 +1,5 @@
 // The change itself, made on sound memory: no rows and no 8.
-ghost use Rattle.dominance.specs.Move.{asMove};
+ghost use Rattle.dominance.specs.Move.{as_move};
 ghost use Rattle.planning.specs.Change as spec;
 ghost use Rattle.planning.specs.Plan as plan;
 
@@ -12,7 +12,7 @@ use upkeep::{Upkeep, set_flags};
 
 fn make_enter(m: &mut [u8], h: Head, x: Move, u: Upkeep)
     requires { spec.ToEnter h.size h.dimension h.count x u m.old }
-    ensures { spec.EnterMade (asMove x) m.old m.new }
+    ensures { spec.EnterMade (as_move x) m.old m.new }
 {
     let n = h.count;
     let costs = x.costs;
@@ -35,7 +35,7 @@ fn make_withdraw(m: &mut [u8], h: Head, p: usize, u: Upkeep)
 
 fn make_recost(m: &mut [u8], h: Head, p: usize, x: Move, u: Upkeep)
     requires { spec.ToRecost h.size h.dimension h.count p x u m.old }
-    ensures { spec.RecostMade (asMove x) m.old m.new }
+    ensures { spec.RecostMade (as_move x) m.old m.new }
 {
     let n = h.count;
     let costs = x.costs;

@@ -17,7 +17,7 @@ use types.Logic.{Logic}
 use denote.RattleType.{RattleType}
 use denote.Laws.{Is, Tells, Makes}
 use denote.Exit.{unchanged}
-use denote.Plain.{UInt, uint_Lawful, uint_Makes, uint_Tells}
+use denote.Plain.{UInt, uint__lawful, uint__makes, uint__tells}
 use denote.Struct.Declared.{Declared, fields, shape, row}
 use denote.Struct.Struct.{Plains, layout}
 use denote.Struct.Laws as LL
@@ -33,8 +33,8 @@ use Rattle.calls.specs.contracts.answer.Move as B
 use Rattle.calls.proofs.answer.Move.TheLaws as B'
 
 -- Nothing becomes of it: its last value is the one passed.
-abbrev plainType : (D : Type 0) → Ty → Written → (D → List Val → Fml) → Coded D → RattleType
-plainType D τ written own coded =
+abbrev plain_type : (D : Type 0) → Ty → Written → (D → List Val → Fml) → Coded D → RattleType
+plain_type D τ written own coded =
     record { Denot = D; mir = τ ∷ []; written = written; reaches = []; own_val = own; exit = λ k. unchanged; coded = coded }
 
 pub record ByValue : Type 2 where
@@ -44,12 +44,12 @@ pub record ByValue : Type 2 where
   pub own : Denot → List Val → Fml
   pub coded : Coded Denot
   pub val : Denot → Val
-  pub tells : Tells (plainType Denot mir written own coded) (Is (plainType Denot mir written own coded)) (λ x. val x ∷ [])
-  pub typed : {M : Type 1} {𝓤 : Ura M} (𝓛 : Logic 𝓤) → (x : Denot) (v : Val) → Is (plainType Denot mir written own coded) x (v ∷ []) → Holds (has_ty mir v) × WT v
-  pub makes : {M : Type 1} {𝓤 : Ura M} (𝓛 : Logic 𝓤) → Makes 𝓛 (plainType Denot mir written own coded) (Is (plainType Denot mir written own coded))
+  pub tells : Tells (plain_type Denot mir written own coded) (Is (plain_type Denot mir written own coded)) (λ x. val x ∷ [])
+  pub typed : {M : Type 1} {𝓤 : Ura M} (𝓛 : Logic 𝓤) → (x : Denot) (v : Val) → Is (plain_type Denot mir written own coded) x (v ∷ []) → Holds (has_ty mir v) × WT v
+  pub makes : {M : Type 1} {𝓤 : Ura M} (𝓛 : Logic 𝓤) → Makes 𝓛 (plain_type Denot mir written own coded) (Is (plain_type Denot mir written own coded))
 
 abbrev pub type_of : ByValue → RattleType
-type_of P = plainType P.Denot P.mir P.written P.own P.coded
+type_of P = plain_type P.Denot P.mir P.written P.own P.coded
 
 abbrev integer : Width → ByValue
 integer w =
@@ -60,9 +60,9 @@ integer w =
       own_val = (UInt w).own_val;
       coded = (UInt w).coded;
       val = vint w;
-      tells = uint_Tells w;
-      typed = λ 𝓛 x v is. ((uint_Lawful 𝓛 w).typed x (v ∷ []) is).0;
-      makes = λ 𝓛. uint_Makes 𝓛 w;
+      tells = uint__tells w;
+      typed = λ 𝓛 x v is. ((uint__lawful 𝓛 w).typed x (v ∷ []) is).0;
+      makes = λ 𝓛. uint__makes 𝓛 w;
     }
 
 abbrev pub word : ByValue

@@ -3,13 +3,13 @@
 --     FillAsks, Fills  what `fill` asks and says, of which this is the contract
 --     calls_fill       the call: there is a last list of rows, of which is said what the contract says. The lifetimes' tokens are back
 -- Assumes `Logic`.
-use Rattle.calls.proofs.Steps.{List, [], ◌∷◌, ◌≡◌, ℕ, Holds, length, Ura, Name, Place, Operand, Body, named, w64, ty_unit, seq, call, Val, WT, has_ty, ent, id⊢, Lft, GName, Share, flft, Env, Calls, Loops, fact, FmC, Item, ‵, raw, ⋆, Post, runs, lands, Seq, ◌$◌, ◌∵◌, !, qed, use1, group, move, drop, join, fjoin, frame, done, Opds, Is, uint_Makes, Nothing-Lawful, u8, usize, SliceRefOf, SliceRefMutOf, slice_val, MutSlice, ShrSlice, finally, owned, nothing, Signature, plain, Clauses, Ended, closing, triple_of, Contract, Triple, calls_at, says, yes, returned-at, tokens}
+use Rattle.calls.proofs.Steps.{List, [], ◌∷◌, ◌≡◌, ℕ, Holds, length, Ura, Name, Place, Operand, Body, named, w64, ty_unit, seq, call, Val, WT, has_ty, ent, id⊢, Lft, GName, Share, flft, Env, Calls, Loops, fact, FmC, Item, ‵, raw, ⋆, Post, runs, lands, Seq, ◌$◌, ◌∵◌, !, qed, use1, group, move, drop, join, fjoin, frame, done, Opds, Is, uint__makes, Nothing-Lawful, u8, usize, SliceRefOf, SliceRefMutOf, slice_val, MutSlice, ShrSlice, finally, owned, nothing, Signature, plain, Clauses, Ended, closing, triple_of, Contract, Triple, calls_at, says, yes, returned-at, tokens}
 use Prim.Native.Nat.{◌+◌, ◌<◌, ◌≤◌}
 use mathlib.Core.List.{map}
 use types.Logic.{Logic}
 use denote.Builtin.{unit}
-use Rattle.rows.specs.Telling.{TellingAsked, filledRows}
-use Rattle.rows.specs.Rows.{rowNumbers}
+use Rattle.rows.specs.Telling.{TellingAsked, filled_rows}
+use Rattle.rows.specs.Rows.{row_numbers}
 use Rattle.rows.specs.declared.telling.Telling.{Telling}
 use Rattle.rows.specs.declared.row.Row.{Row}
 use Rattle.rows.proofs.Lent.{at_rows}
@@ -54,7 +54,7 @@ module _ (P : ByValue) (Asks : P.Denot → ℕ → List ℕ → List Row → Typ
     goes-fill : Asks x start m ys → Is (type_of P) x (v ∷ []) → Is usize start (u ∷ []) → ent 𝓤 (⋆ 𝓛 (‵ (flft κr qr) ∷ ‵ (flft κ q) ∷ Bytes ∷ Rows ∷ [])) (FillOf.pre to_fill)
     goes-fill asked x-is start_is =
         qed 𝓛 (‵ (flft κr qr) ∷ ‵ (flft κ q) ∷ Bytes ∷ Rows ∷ []) ∵ says ! asked $ nothing ! $ move ! (2 ∷ 0 ∷ []) $ join ! $ move ! (1 ∷ 0 ∷ []) $ join ! $ frame ! $
-        nothing ! $ owned ! usize (Is usize) (uint_Makes 𝓛 w64) start _ start_is $ fjoin ! $ owned ! (type_of P) (Is (type_of P)) (P.makes 𝓛) x _ x-is $ fjoin ! $
+        nothing ! $ owned ! usize (Is usize) (uint__makes 𝓛 w64) start _ start_is $ fjoin ! $ owned ! (type_of P) (Is (type_of P)) (P.makes 𝓛) x _ x-is $ fjoin ! $
         move ! (1 ∷ 0 ∷ []) $ fjoin ! $ move ! (1 ∷ 0 ∷ []) $ fjoin ! $ done !
 
     module _ {K : Type 0} {Γ : List (Item 𝓤)} {E : Env 𝓤 H} {C : Calls 𝓤 H} {Λ : Loops 𝓤 H} {g : Post 𝓤 H} {n : Name} {xs : List Operand} {d : Place} {rest : Body} where
@@ -72,4 +72,4 @@ abbrev pub FillAsks : Telling → ℕ → List ℕ → List Row → Type 0
 FillAsks t start m ys = (0 < t.count → TellingAsked t.told m) × (start + t.count ≤ length ys)
 
 abbrev pub Fills : Telling → ℕ → List ℕ → List Row → List Row → Type 0
-Fills t start m ys zs = map rowNumbers zs ≡ filledRows t.told t.numbers m start t.count (map rowNumbers ys)
+Fills t start m ys zs = map row_numbers zs ≡ filled_rows t.told t.numbers m start t.count (map row_numbers ys)

@@ -2,7 +2,7 @@
 --     PlanOf           its contract, by what it says
 --     calls-plan       the call: there is a plan, of which is said what the contract says. The lifetime's token is back
 -- Assumes `Logic`.
-use Rattle.calls.proofs.Steps.{List, [], ◌∷◌, refl, ℕ, ◌<◌, ◌^◌, length, Ura, Name, Place, Operand, Body, named, w64, seq, call, Val, vint, ent, emp, id⊢, Lft, GName, Share, ftrue, flft, Env, Calls, Loops, fact, FmC, Item, ‵, raw, ◌⊛◌, ⋆, Post, runs, lands, Seq, ◌$◌, ◌∵◌, !, qed, use1, group, move, drop, split, join, fjoin, done, Opds, Is, uint_Makes, u8, usize, SliceRefOf, slice_val, ShrSlice, owned, nothing, Signature, plain, Clauses, Ended, closing, triple_of, Contract, Triple, calls_at, yes, returned}
+use Rattle.calls.proofs.Steps.{List, [], ◌∷◌, refl, ℕ, ◌<◌, ◌^◌, length, Ura, Name, Place, Operand, Body, named, w64, seq, call, Val, vint, ent, emp, id⊢, Lft, GName, Share, ftrue, flft, Env, Calls, Loops, fact, FmC, Item, ‵, raw, ◌⊛◌, ⋆, Post, runs, lands, Seq, ◌$◌, ◌∵◌, !, qed, use1, group, move, drop, split, join, fjoin, done, Opds, Is, uint__makes, u8, usize, SliceRefOf, slice_val, ShrSlice, owned, nothing, Signature, plain, Clauses, Ended, closing, triple_of, Contract, Triple, calls_at, yes, returned}
 use Rattle.calls.proofs.ByValue.{ByValue, type_of}
 use Rattle.calls.proofs.Shared.{at-list}
 use types.Logic.{Logic}
@@ -37,7 +37,7 @@ module _ (P R : ByValue) (Says : P.Denot → List ℕ → ℕ → R.Denot → Ty
 
     goes-plan : Is (type_of P) x (P.val x ∷ []) → rows < 2 ^ 64 → ent 𝓤 (⋆ 𝓛 lent) (PlanOf.pre to-plan)
     goes-plan x-is fits =
-        qed 𝓛 lent ∵ nothing ! $ nothing ! $ owned ! usize (Is usize) (uint_Makes 𝓛 w64) rows _ (refl, fits) $ fjoin ! $ owned ! (type_of P) (Is (type_of P)) (P.makes 𝓛) x _ x-is $ fjoin ! $
+        qed 𝓛 lent ∵ nothing ! $ nothing ! $ owned ! usize (Is usize) (uint__makes 𝓛 w64) rows _ (refl, fits) $ fjoin ! $ owned ! (type_of P) (Is (type_of P)) (P.makes 𝓛) x _ x-is $ fjoin ! $
         move ! (3 ∷ 0 ∷ []) $ fjoin ! $ nothing ! $ move ! (3 ∷ 0 ∷ []) $ join ! $ join ! $ done !
 
     module _ {K : Type 0} {Γ : List (Item 𝓤)} {E : Env 𝓤 H} {C : Calls 𝓤 H} {Λ : Loops 𝓤 H} {g : Post 𝓤 H} {n : Name} {xs : List Operand} {d : Place} {rest : Body} where

@@ -30,11 +30,11 @@ pub use types.Run.{Opds, look, init, store, forget, stop, hop, fld, from, load, 
 pub use sound.WpLaws.{FmC, fm_of, WpFn-mono}
 pub use denote.RattleType.{RattleType, owns}
 pub use denote.Laws.{Is}
-pub use denote.Plain.{uint_Makes, uint_vals, uint_Tells, Nothing-Lawful}
+pub use denote.Plain.{uint__makes, uint_vals, uint__tells, Nothing-Lawful}
 pub use denote.Builtin.{u8, u16, usize, SliceRefOf, SliceRefMutOf}
 pub use denote.Memory.{pointee}
 pub use denote.Ref.{Bor, MutBor}
-pub use denote.Slice.{slice_ty, slice_val, shr_slice_vals, mut_slice_vals, mut_slice_Tells, shr_slice_Tells, shr_slice_copy, MutSlice, ShrSlice, Room, finally}
+pub use denote.Slice.{slice_ty, slice_val, shr_slice_vals, mut_slice_vals, mut_slice__tells, shr_slice__tells, shr_slice_copy, MutSlice, ShrSlice, Room, finally}
 pub use denote.Steps.{owned, nothing}
 pub use denote.Signature.{Signature, plain}
 pub use denote.Triple.Clauses.{Clauses, Ended, closing}
@@ -43,9 +43,9 @@ pub use denote.Triple.Spec.{Meets, triple_of}
 pub use denote.Triple.Statement.{Contract, Triple}
 pub use denote.Triple.Call.{calls_at}
 pub use denote.Triple.Table.{entered, cited}
-pub use denote.Triple.Walked.{says, needs, Stays, stay_none, stay_none_slice, gave_slice, walk_of, Goes-none, Goes-none_slice, Goes-gave_slice, ends_at, walked, walk_Meets}
+pub use denote.Triple.Walked.{says, needs, Stays, stay_none, stay_none_slice, gave_slice, walk_of, Goes-none, Goes-none_slice, Goes-gave_slice, ends_at, walked, walk__meets}
 pub use denote.Exit.{yes}
-pub use Rattle.rows.proofs.Walk.{envOf, free_all, returned, returned-at}
+pub use Rattle.rows.proofs.Walk.{env_of, free_all, returned, returned-at}
 
 module _ {M : Type 1} {𝓤 : Ura M} {𝓛 : Logic 𝓤} {K : Type 0} {Γ : List (Item 𝓤)} where
   open 𝓛 use {H, A}

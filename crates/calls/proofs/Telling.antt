@@ -7,7 +7,7 @@
 use types.Logic.{Logic}
 use denote.Slice.{shr_slice_vals, mut_slice_vals}
 use denote.Ref.{MutBor}
-use Rattle.calls.proofs.Steps.{List, [], ◌∷◌, ◌≡◌, refl, ℕ, length, Ura, Name, Place, Operand, Body, named, seq, call, Val, SProp, ent, id⊢, Lft, GName, Share, ftrue, flft, Env, Calls, Loops, Fun, fact, FmC, Item, ‵, raw, ◌⊛◌, ⋆, Post, runs, lands, Seq, ◌$◌, ◌∵◌, !, qed, use1, group, move, drop, join, fjoin, suffices, frame, done, Opds, owns, Is, u8, SliceRefOf, SliceRefMutOf, RefT, slice_val, slice-vals, mut_slice_Tells, shr_slice_Tells, MutSlice, ShrSlice, Room, finally, owned, nothing, Signature, plain, Clauses, Ended, closing, Meets, triple_of, Contract, Triple, calls_at, says, needs, Stays, stay_none, stay_none_slice, gave_slice, walk_of, Goes-none, Goes-none_slice, Goes-gave_slice, ends_at, walked, walk_Meets, yes, returned-at, tokens}
+use Rattle.calls.proofs.Steps.{List, [], ◌∷◌, ◌≡◌, refl, ℕ, length, Ura, Name, Place, Operand, Body, named, seq, call, Val, SProp, ent, id⊢, Lft, GName, Share, ftrue, flft, Env, Calls, Loops, Fun, fact, FmC, Item, ‵, raw, ◌⊛◌, ⋆, Post, runs, lands, Seq, ◌$◌, ◌∵◌, !, qed, use1, group, move, drop, join, fjoin, suffices, frame, done, Opds, owns, Is, u8, SliceRefOf, SliceRefMutOf, RefT, slice_val, slice-vals, mut_slice__tells, shr_slice__tells, MutSlice, ShrSlice, Room, finally, owned, nothing, Signature, plain, Clauses, Ended, closing, Meets, triple_of, Contract, Triple, calls_at, says, needs, Stays, stay_none, stay_none_slice, gave_slice, walk_of, Goes-none, Goes-none_slice, Goes-gave_slice, ends_at, walked, walk__meets, yes, returned-at, tokens}
 use contract.Monad.{Mono}
 use Rattle.rows.specs.declared.row.Row.{Row}
 use Rattle.rows.proofs.Lent.{at_rows}
@@ -104,7 +104,7 @@ module _ (P : ByValue) (Asks : P.Denot → List ℕ → List Row → Type 0) (Sa
       → ((κ κr : Lft) (q qr : Share) (b o br or : ℕ) (γ γr : GName) (m : List ℕ) (ys : List Row) (x : P.Denot) → TellWalk κ κr q qr b o br or γ γr m ys x run)
       → Meets 𝓛 (signature_of P) run (closing 𝓛 (ended_of P) clauses)
   tell-meets run mono walk =
-      walk_Meets 𝓛 (ended_of P) (stayed P) (Goes-gave_slice 𝓛 2 0 tt (plain (λ _. T.the_row)), (Goes-none_slice 𝓛 2 (1 ∷ []) tt (plain (λ _. u8)) yes, (Goes-none 𝓛 2 (λ _. type_of P) yes (λ κs x f. refl), tt))) clauses run mono
-      (walked 𝓛 (ended_of P) (stayed P) clauses run (λ κs. (mut_slice_vals, (shr_slice_vals, ((λ x. P.val x ∷ []), tt)))) (λ κs. (mut_slice_Tells (named 0) κs.0 T.the_row, (shr_slice_Tells (named 1) κs.1.0 u8, (P.tells, tt))))
+      walk__meets 𝓛 (ended_of P) (stayed P) (Goes-gave_slice 𝓛 2 0 tt (plain (λ _. T.the_row)), (Goes-none_slice 𝓛 2 (1 ∷ []) tt (plain (λ _. u8)) yes, (Goes-none 𝓛 2 (λ _. type_of P) yes (λ κs x f. refl), tt))) clauses run mono
+      (walked 𝓛 (ended_of P) (stayed P) clauses run (λ κs. (mut_slice_vals, (shr_slice_vals, ((λ x. P.val x ∷ []), tt)))) (λ κs. (mut_slice__tells (named 0) κs.0 T.the_row, (shr_slice__tells (named 1) κs.1.0 u8, (P.tells, tt))))
       (λ κs qs bounds a g are. needs 𝓤 (Asks a.1.1.0 a.1.0.now a.0.now) _ (λ asked.
       walk κs.1.0 κs.0 qs.1.0 qs.0 a.1.0.ref_ptr.0 a.1.0.ref_ptr.1 a.0.ref_ptr.0 a.0.ref_ptr.1 a.1.0.ghost_name a.0.ghost_name a.1.0.now a.0.now a.1.1.0 are.1.1.0 are.1.0.0.1 are.0.0.1 asked)))

@@ -6,7 +6,7 @@ use Rattle.promises.specs.Answers.{number_of, counted, result_row}
 use Rattle.promises.specs.Promise.{LoadPromise, ChangePromise, PreviewPromise, QueryPromise}
 use Rattle.promises.specs.declared.CallResult as said
 use Rattle.promises.specs.declared.Verdict.{Verdict}
-use Rattle.rows.specs.Rows.{rowNumbers}
+use Rattle.rows.specs.Rows.{row_numbers}
 use Rattle.rows.specs.declared.row.Row.{Row}
 use Rattle.calls.specs.declared.answer.Answer.{Answer}
 use Rattle.calls.specs.declared.answer.Move.{Move}
@@ -24,7 +24,7 @@ Answered v need opened = Handed v (counted (number_of v) need) (counted (number_
 
 -- Lent rows as the definitions speak of them.
 unfoldable pub rows_of : List Row → List model.Row
-rows_of rows = map result_row (map rowNumbers rows)
+rows_of rows = map result_row (map row_numbers rows)
 
 -- The changes of the definitions, from the move that a call is given.
 abbrev pub entering : Move → calls.Change

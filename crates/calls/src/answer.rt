@@ -6,7 +6,7 @@ use zorder::COSTS;
 
 // A move that enters or gets new costs.
 #[repr(C)]
-#[derive(Drop)]
+#[derive(Clone, Copy)]
 pub struct Move {
     pub number: u16,
     pub block: u16,
@@ -16,7 +16,7 @@ pub struct Move {
 // Document 01's number of the refusal and its detail; the rows told; of list and withdraw the nodes
 // opened, else 0.
 #[repr(C)]
-#[derive(Drop)]
+#[derive(Clone, Copy)]
 pub struct Answer {
     pub refusal: usize,
     pub detail: usize,

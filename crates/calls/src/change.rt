@@ -1,6 +1,6 @@
 // The changes planned, from what the exported calls are given.
 ghost use Rattle.planning.specs.Plan.{Planned};
-ghost use Rattle.calls.specs.Asked.{askedEnter, askedWithdraw, askedRecost};
+ghost use Rattle.calls.specs.Asked.{asked_enter, asked_withdraw, asked_recost};
 
 use crate::answer::Move;
 use planning::{Change, ChangePlan, Kind, plan_change};
@@ -8,7 +8,7 @@ use zorder::COSTS;
 
 // Plans the entry of a move.
 pub fn plan_enter(memory: &[u8], given: Move, lent: usize) -> ChangePlan
-    ensures { Planned (askedEnter given) memory.now lent result }
+    ensures { Planned (asked_enter given) memory.now lent result }
 {
     let costs = given.costs;
     let x = Change {
@@ -22,7 +22,7 @@ pub fn plan_enter(memory: &[u8], given: Move, lent: usize) -> ChangePlan
 
 // Plans the withdrawal of the move of a number.
 pub fn plan_withdraw(memory: &[u8], number: u16, lent: usize) -> ChangePlan
-    ensures { Planned (askedWithdraw number) memory.now lent result }
+    ensures { Planned (asked_withdraw number) memory.now lent result }
 {
     let x = Change {
         kind: Kind::Withdraw,
@@ -35,7 +35,7 @@ pub fn plan_withdraw(memory: &[u8], number: u16, lent: usize) -> ChangePlan
 
 // Plans new costs and a block for a move.
 pub fn plan_recost(memory: &[u8], given: Move, lent: usize) -> ChangePlan
-    ensures { Planned (askedRecost given) memory.now lent result }
+    ensures { Planned (asked_recost given) memory.now lent result }
 {
     let costs = given.costs;
     let x = Change {

@@ -1,5 +1,7 @@
 // What the exported calls are made of: what they take and hand back, the changes planned, and plans
 // told in the lent rows.
+#![tactic(auto)]
+
 mod answer;
 mod change;
 mod list;

@@ -9,7 +9,7 @@ use rows::ROW;
 // A call: e enter, w withdraw, c re-cost, with the block and the row that is to stand; Q list, B
 // band, R rank, K on k, S chosen, Y hours, and L a load to be refused, with an argument. Then the
 // rows lent.
-#[derive(Drop)]
+#[derive(Clone, Copy)]
 pub struct Call {
     pub letter: u8,
     pub number: u16,

@@ -3,6 +3,8 @@
 // change also against its preview, and a holder who follows the notices and passes previews by.
 // Prints what was compared, and each call where the two disagree. The word `long` makes a longer
 // run.
+#![tactic(auto)]
+
 use rows::ROW;
 
 mod ask;

@@ -9,7 +9,7 @@ use zorder::COSTS;
 
 // What opens a node: of these rows only the going one may beat its near corner, and that one is
 // nowhere greater than its far corner, so that it beats or equals it. For a list none goes.
-#[derive(Drop)]
+#[derive(Clone, Copy)]
 pub struct Opening {
     pub against: Part,
     pub goes: Row,

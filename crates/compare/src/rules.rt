@@ -9,7 +9,7 @@ pub const ALL: usize = (1 << COSTS) - 1;
 // How one row stands to another: it beats it on a set of costs, bit i for cost i; on some k of the
 // first d costs; it keeps it out of the list; it keeps it out of the list over open blocks at a
 // minute; it is beaten; it is the same.
-#[derive(Drop)]
+#[derive(Clone, Copy)]
 pub enum Test {
     Beats(usize),
     BeatsOn(u32, usize),
@@ -72,7 +72,7 @@ fn stands(test: Test, p: Row, q: Row) -> bool {
 }
 
 // The first rows of an area.
-#[derive(Drop)]
+#[derive(Clone, Copy)]
 pub struct Part {
     pub area: usize,
     pub count: usize,
@@ -94,7 +94,7 @@ pub fn count(t: &Table, part: Part, test: Test, r: Row, most: usize) -> usize {
 
 // The rows to which `most` or fewer of `against` stand so, with a mark, put after the first `at` of
 // an area.
-#[derive(Drop)]
+#[derive(Clone, Copy)]
 pub struct Pick {
     pub against: Part,
     pub test: Test,

@@ -11,7 +11,7 @@ use crate::tally::{Tally, add, count, count_preview};
 use crate::{change, dice};
 
 // A board in its run, and what was counted so far.
-#[derive(Drop)]
+#[derive(Clone, Copy)]
 struct Progress {
     board: Plain,
     counts: Tally,

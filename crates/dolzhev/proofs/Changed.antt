@@ -6,7 +6,7 @@
 use types.Logic.{Logic}
 use denote.Slice.{mut_slice_vals}
 use denote.Ref.{Bor}
-use Rattle.calls.proofs.Steps.{List, [], ◌∷◌, ◌≡◌, refl, ℕ, length, Ura, full_share, Name, Fn, Ty, named, erased, imm, mut, w8, w64, ty_int, ty_ref, ty_unit, deref, field, place, copy, local, value_local, assign, rv_opd, addr_of, aggregate, call, seq, return, Val, SProp, ent, emp, id⊢, via, fst∗, Lft, Share, GName, ftrue, flft, WpFn, Tables, fact, Item, ‵, raw, ◌⊛◌, ⋆, ◌$◌, ◌∵◌, !, qed, by, move, keep, drop, group, use1, split, join, fsplit, fjoin, suffices, frame, done, agg, whole, sub, look_in, look, init, forget, stop, hop, fld, from, load, addr, of_opd, and_then, no_more, assigns, land, returns, enter, alloc1, alloc0, params1, pass1, pass0, fm_of, WpFn-mono, owns, Is, Nothing-Lawful, u8, SliceRefMutOf, pointee, RefT, slice_ty, slice_val, slice-vals, mut_slice_Tells, shr_slice_copy, MutSlice, ShrSlice, Room, finally, owned, nothing, Signature, plain, Clauses, Ended, closing, on_entry, Meets, triple_of, Contract, Triple, calls_at, says, Stays, stay_none, gave_slice, walk_of, Goes-none, Goes-gave_slice, ends_at, walked, walk_Meets, yes, envOf, free_all, returned-at, gets}
+use Rattle.calls.proofs.Steps.{List, [], ◌∷◌, ◌≡◌, refl, ℕ, length, Ura, full_share, Name, Fn, Ty, named, erased, imm, mut, w8, w64, ty_int, ty_ref, ty_unit, deref, field, place, copy, local, value_local, assign, rv_opd, addr_of, aggregate, call, seq, return, Val, SProp, ent, emp, id⊢, via, fst∗, Lft, Share, GName, ftrue, flft, WpFn, Tables, fact, Item, ‵, raw, ◌⊛◌, ⋆, ◌$◌, ◌∵◌, !, qed, by, move, keep, drop, group, use1, split, join, fsplit, fjoin, suffices, frame, done, agg, whole, sub, look_in, look, init, forget, stop, hop, fld, from, load, addr, of_opd, and_then, no_more, assigns, land, returns, enter, alloc1, alloc0, params1, pass1, pass0, fm_of, WpFn-mono, owns, Is, Nothing-Lawful, u8, SliceRefMutOf, pointee, RefT, slice_ty, slice_val, slice-vals, mut_slice__tells, shr_slice_copy, MutSlice, ShrSlice, Room, finally, owned, nothing, Signature, plain, Clauses, Ended, closing, on_entry, Meets, triple_of, Contract, Triple, calls_at, says, Stays, stay_none, gave_slice, walk_of, Goes-none, Goes-gave_slice, ends_at, walked, walk__meets, yes, env_of, free_all, returned-at, gets}
 use denote.Builtin.{unit}
 use Rattle.model.specs.Calls as calls
 use Rattle.rows.specs.declared.row.Row.{Row}
@@ -70,12 +70,12 @@ ended_of P = record { signature = signature_of P; kept = (yes, (yes, (yes, tt)))
 abbrev stayed : (P : ByValue) → Stays (ended_of P).signature.params (ended_of P).kept
 stayed P = (gave_slice (0 ∷ []) tt (plain (λ _. u8)), (stay_none (λ _. type_of P) yes, (gave_slice (1 ∷ []) tt (plain (λ _. T.the_row)), tt)))
 
-abbrev clausesOf : (P : ByValue) → (P.Denot → List ℕ → List Row → Answer → List ℕ → List Row → Type 0) → {M : Type 1} (𝓤 : Ura M) → Clauses 𝓤 (ended_of P)
-clausesOf P Keeps 𝓤 κs a = record { ghost = Unit {0}; requires = λ _. emp 𝓤; ensures = λ _ r e. fact 𝓤 (Keeps a.1.0 a.0.now a.1.1.0.now r e.0.now e.1.1.0.now) }
+abbrev clauses_of : (P : ByValue) → (P.Denot → List ℕ → List Row → Answer → List ℕ → List Row → Type 0) → {M : Type 1} (𝓤 : Ura M) → Clauses 𝓤 (ended_of P)
+clauses_of P Keeps 𝓤 κs a = record { ghost = Unit {0}; requires = λ _. emp 𝓤; ensures = λ _ r e. fact 𝓤 (Keeps a.1.0 a.0.now a.1.1.0.now r e.0.now e.1.1.0.now) }
 
 -- the MIR meets the contract that says Keeps
 abbrev Met : (P R : ByValue) → (P.Denot → List ℕ → List Row → Answer → List ℕ → List Row → Type 0) → {M : Type 1} {𝓤 : Ura M} (𝓛 : Logic 𝓤) (𝓣 : Tables 𝓤 𝓛.H) → Name → Name → Name → Type 1
-Met P R Keeps {𝓤 = 𝓤} 𝓛 𝓣 plans tells carries = Meets 𝓛 (signature_of P) (WpFn 𝓤 𝓛.H 𝓣.C 𝓣.Λ (function P R plans tells carries)) (closing 𝓛 (ended_of P) (clausesOf P Keeps 𝓤))
+Met P R Keeps {𝓤 = 𝓤} 𝓛 𝓣 plans tells carries = Meets 𝓛 (signature_of P) (WpFn 𝓤 𝓛.H 𝓣.C 𝓣.Λ (function P R plans tells carries)) (closing 𝓛 (ended_of P) (clauses_of P Keeps 𝓤))
 
 abbrev carry-ended : ByValue → Ended
 carry-ended R = record { signature = record { lifetimes = 1; outlives = []; params = SliceRefMutOf (0 ∷ []) tt (plain (λ κs. u8)) (λ κs. tt) ∷ plain (λ κs. type_of R) ∷ []; result = plain (λ κs. unit) }; kept = (yes, (yes, tt)) }
@@ -112,13 +112,13 @@ module _ (P R : ByValue) (Plans : P.Denot → List ℕ → ℕ → R.Denot → T
     vals = (s ∷ [], (P.val x ∷ [], (sr ∷ [], tt)))
 
     abbrev Post : Val → SProp 𝓤
-    Post = (walk_of 𝓛 (ended_of P) (stayed P) (clausesOf P Keeps 𝓤)).post (((κ, (κr, tt)), (q, (qr, tt)), tt, a, vals), tt)
+    Post = (walk_of 𝓛 (ended_of P) (stayed P) (clauses_of P Keeps 𝓤)).post (((κ, (κr, tt)), (q, (qr, tt)), tt, a, vals), tt)
 
     ends : (r : Answer) (w : Val) (ms : List ℕ) (zs : List Row) → Keeps x m ys r ms zs → length ms ≡ length m → length zs ≡ length ys → Is (type_of answer) r (w ∷ [])
         → ent 𝓤 (⋆ 𝓛 (‵ (flft κ q) ∷ ‵ (flft κr qr) ∷ ‵ (finally u8 γ ms) ∷ ‵ (finally T.the_row γr zs) ∷ [])) (Post w)
     ends r w ms zs e l lr is =
         qed 𝓛 (‵ (flft κ q) ∷ ‵ (flft κr qr) ∷ ‵ (finally u8 γ ms) ∷ ‵ (finally T.the_row γr zs) ∷ []) ∵
-        suffices ! _ (ends_at 𝓛 (ended_of P) (stayed P) (clausesOf P Keeps 𝓤) (((κ, (κr, tt)), (q, (qr, tt)), tt, a, vals), tt) w r (ms, (tt, (zs, tt))) (l, (tt, (lr, tt)))) $ says ! e $
+        suffices ! _ (ends_at 𝓛 (ended_of P) (stayed P) (clauses_of P Keeps 𝓤) (((κ, (κr, tt)), (q, (qr, tt)), tt, a, vals), tt) w r (ms, (tt, (zs, tt))) (l, (tt, (lr, tt)))) $ says ! e $
         nothing ! $ move ! (2 ∷ 0 ∷ []) $ join ! $ move ! (1 ∷ 0 ∷ []) $ join ! $ frame ! $
         nothing ! $ move ! (2 ∷ 0 ∷ []) $ fjoin ! $ owned ! (type_of P) (Is (type_of P)) (P.makes 𝓛) x _ x-is $ fjoin ! $ move ! (1 ∷ 0 ∷ []) $ fjoin ! $
         owned ! (type_of answer) (Is (type_of answer)) (answer.makes 𝓛) r _ is $ move ! (1 ∷ 0 ∷ []) $ done !
@@ -178,16 +178,16 @@ module _ (P R : ByValue) (Plans : P.Denot → List ℕ → ℕ → R.Denot → T
         assigns ! (of_opd ! (gets ! 24 refl)) (from ! (stop !)) (init ! 34 refl (answer.typed 𝓛 r _ is₁)) $
         returns ! (look ! 34 refl) $ forget ! 4 refl $ forget ! 6 refl $ forget ! 8 refl $ forget ! 10 refl $ forget ! 12 refl $ forget ! 14 refl $ forget ! 16 refl $ forget ! 18 refl $ forget ! 20 refl $ forget ! 22 refl $ forget ! 24 refl $ forget ! 26 refl $ forget ! 28 refl $ forget ! 30 refl $ forget ! 32 refl $ forget ! 34 refl $
         move ! (34 ∷ 35 ∷ 32 ∷ 33 ∷ 30 ∷ 31 ∷ 28 ∷ 29 ∷ 26 ∷ 27 ∷ 24 ∷ 25 ∷ 22 ∷ 23 ∷ 20 ∷ 21 ∷ 18 ∷ 19 ∷ 16 ∷ 17 ∷ 14 ∷ 15 ∷ 12 ∷ 13 ∷ 10 ∷ 11 ∷ 8 ∷ 9 ∷ 6 ∷ 7 ∷ 4 ∷ 5 ∷ []) $
-        free_all ! (envOf 𝓤 H (function P R plans tells carries).locals (l₀ ∷ l₁ ∷ l₂ ∷ l₃ ∷ l₄ ∷ l₅ ∷ l₆ ∷ l₇ ∷ l₈ ∷ l₉ ∷ l₁₀ ∷ l₁₁ ∷ l₁₂ ∷ l₁₃ ∷ l₁₄ ∷ l₁₅ ∷ [])) $
+        free_all ! (env_of 𝓤 H (function P R plans tells carries).locals (l₀ ∷ l₁ ∷ l₂ ∷ l₃ ∷ l₄ ∷ l₅ ∷ l₆ ∷ l₇ ∷ l₈ ∷ l₉ ∷ l₁₀ ∷ l₁₁ ∷ l₁₂ ∷ l₁₃ ∷ l₁₄ ∷ l₁₅ ∷ [])) $
         move ! (1 ∷ []) $ use1 𝓛 (‵ (flft κ q) ⊛ ‵ ftrue) (id⊢ 𝓤 _) $ split ! $ keep ! (0 ∷ 3 ∷ 2 ∷ 4 ∷ []) $
         by ! (ends r w₁ ws.0 zs (keeps x p m ws.0 ys zs r e e₁ e₂) l lr is₁)))))))))))))))))))))))
 
   changed-meets : Met P R Keeps 𝓛 𝓣 plans tells carries
   changed-meets =
-      walk_Meets 𝓛 (ended_of P) (stayed P) (Goes-gave_slice 𝓛 2 0 tt (plain (λ _. u8)), (Goes-none 𝓛 2 (λ _. type_of P) yes (λ κs x f. refl), (Goes-gave_slice 𝓛 2 1 tt (plain (λ _. T.the_row)), tt))) (clausesOf P Keeps 𝓤)
+      walk__meets 𝓛 (ended_of P) (stayed P) (Goes-gave_slice 𝓛 2 0 tt (plain (λ _. u8)), (Goes-none 𝓛 2 (λ _. type_of P) yes (λ κs x f. refl), (Goes-gave_slice 𝓛 2 1 tt (plain (λ _. T.the_row)), tt))) (clauses_of P Keeps 𝓤)
       (WpFn 𝓤 H 𝓣.C 𝓣.Λ (function P R plans tells carries)) (WpFn-mono 𝓤 H 𝓛.laws 𝓣 (function P R plans tells carries))
-      (walked 𝓛 (ended_of P) (stayed P) (clausesOf P Keeps 𝓤) (WpFn 𝓤 H 𝓣.C 𝓣.Λ (function P R plans tells carries))
-      (λ κs. (mut_slice_vals, ((λ x. P.val x ∷ []), (mut_slice_vals, tt)))) (λ κs. (mut_slice_Tells (named 0) κs.0 u8, (P.tells, (mut_slice_Tells (named 1) κs.1.0 T.the_row, tt))))
+      (walked 𝓛 (ended_of P) (stayed P) (clauses_of P Keeps 𝓤) (WpFn 𝓤 H 𝓣.C 𝓣.Λ (function P R plans tells carries))
+      (λ κs. (mut_slice_vals, ((λ x. P.val x ∷ []), (mut_slice_vals, tt)))) (λ κs. (mut_slice__tells (named 0) κs.0 u8, (P.tells, (mut_slice__tells (named 1) κs.1.0 T.the_row, tt))))
       (λ κs qs bounds a g are. via 𝓤 _ (fst∗ 𝓤 _ (emp 𝓤))
       (walk κs.0 κs.1.0 qs.0 qs.1.0 a.0.ref_ptr.0 a.0.ref_ptr.1 a.1.1.0.ref_ptr.0 a.1.1.0.ref_ptr.1 a.0.ghost_name a.1.1.0.ghost_name a.0.now a.1.0 a.1.1.0.now are.1.0 are.0.0.1 are.1.1.0.0.1)))
 

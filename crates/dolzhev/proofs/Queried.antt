@@ -6,7 +6,7 @@
 use types.Logic.{Logic}
 use denote.Slice.{shr_slice_vals, mut_slice_vals}
 use denote.Ref.{Bor}
-use Rattle.calls.proofs.Steps.{List, [], ◌∷◌, ◌≡◌, refl, ℕ, length, Ura, Name, Fn, Ty, named, erased, imm, mut, w8, w64, ty_int, ty_ref, deref, field, place, copy, local, value_local, assign, rv_opd, addr_of, aggregate, call, seq, return, Val, SProp, ent, emp, via, fst∗, Lft, Share, GName, ftrue, flft, WpFn, Tables, fact, Item, ‵, ◌⊛◌, ⋆, ◌$◌, ◌∵◌, !, qed, by, move, drop, use1, split, join, fsplit, fjoin, suffices, frame, done, agg, whole, sub, look_in, look, init, forget, stop, hop, fld, from, load, addr, of_opd, and_then, no_more, assigns, land, returns, enter, alloc1, alloc0, params1, pass1, pass0, fm_of, WpFn-mono, owns, Is, u8, SliceRefOf, SliceRefMutOf, pointee, RefT, slice_ty, slice_val, slice-vals, mut_slice_Tells, shr_slice_Tells, shr_slice_copy, MutSlice, ShrSlice, Room, finally, owned, nothing, Signature, plain, Clauses, Ended, closing, on_entry, Meets, Triple, says, Stays, stay_none, stay_none_slice, gave_slice, walk_of, Goes-none, Goes-none_slice, Goes-gave_slice, ends_at, walked, walk_Meets, yes, envOf, free_all, gets}
+use Rattle.calls.proofs.Steps.{List, [], ◌∷◌, ◌≡◌, refl, ℕ, length, Ura, Name, Fn, Ty, named, erased, imm, mut, w8, w64, ty_int, ty_ref, deref, field, place, copy, local, value_local, assign, rv_opd, addr_of, aggregate, call, seq, return, Val, SProp, ent, emp, via, fst∗, Lft, Share, GName, ftrue, flft, WpFn, Tables, fact, Item, ‵, ◌⊛◌, ⋆, ◌$◌, ◌∵◌, !, qed, by, move, drop, use1, split, join, fsplit, fjoin, suffices, frame, done, agg, whole, sub, look_in, look, init, forget, stop, hop, fld, from, load, addr, of_opd, and_then, no_more, assigns, land, returns, enter, alloc1, alloc0, params1, pass1, pass0, fm_of, WpFn-mono, owns, Is, u8, SliceRefOf, SliceRefMutOf, pointee, RefT, slice_ty, slice_val, slice-vals, mut_slice__tells, shr_slice__tells, shr_slice_copy, MutSlice, ShrSlice, Room, finally, owned, nothing, Signature, plain, Clauses, Ended, closing, on_entry, Meets, Triple, says, Stays, stay_none, stay_none_slice, gave_slice, walk_of, Goes-none, Goes-none_slice, Goes-gave_slice, ends_at, walked, walk__meets, yes, env_of, free_all, gets}
 use Rattle.rows.specs.declared.row.Row.{Row}
 use Rattle.rows.proofs.Lent.{at_rows}
 use Rattle.rows.specs.contracts.row.Row as T
@@ -61,12 +61,12 @@ ended_of P = record { signature = signature_of P; kept = (yes, (yes, (yes, tt)))
 abbrev stayed : (P : ByValue) → Stays (ended_of P).signature.params (ended_of P).kept
 stayed P = (stay_none_slice (0 ∷ []) tt (plain (λ _. u8)) yes, (stay_none (λ _. type_of P) yes, (gave_slice (1 ∷ []) tt (plain (λ _. T.the_row)), tt)))
 
-abbrev clausesOf : (P : ByValue) → (P.Denot → List ℕ → List Row → Answer → List Row → Type 0) → {M : Type 1} (𝓤 : Ura M) → Clauses 𝓤 (ended_of P)
-clausesOf P Keeps 𝓤 κs a = record { ghost = Unit {0}; requires = λ _. emp 𝓤; ensures = λ _ r e. fact 𝓤 (Keeps a.1.0 a.0.now a.1.1.0.now r e.1.1.0.now) }
+abbrev clauses_of : (P : ByValue) → (P.Denot → List ℕ → List Row → Answer → List Row → Type 0) → {M : Type 1} (𝓤 : Ura M) → Clauses 𝓤 (ended_of P)
+clauses_of P Keeps 𝓤 κs a = record { ghost = Unit {0}; requires = λ _. emp 𝓤; ensures = λ _ r e. fact 𝓤 (Keeps a.1.0 a.0.now a.1.1.0.now r e.1.1.0.now) }
 
 -- the MIR meets the contract that says Keeps
 abbrev pub Met : (P R : ByValue) → (P.Denot → List ℕ → List Row → Answer → List Row → Type 0) → {M : Type 1} {𝓤 : Ura M} (𝓛 : Logic 𝓤) (𝓣 : Tables 𝓤 𝓛.H) → Name → Name → Type 1
-Met P R Keeps {𝓤 = 𝓤} 𝓛 𝓣 plans tells = Meets 𝓛 (signature_of P) (WpFn 𝓤 𝓛.H 𝓣.C 𝓣.Λ (function P R plans tells)) (closing 𝓛 (ended_of P) (clausesOf P Keeps 𝓤))
+Met P R Keeps {𝓤 = 𝓤} 𝓛 𝓣 plans tells = Meets 𝓛 (signature_of P) (WpFn 𝓤 𝓛.H 𝓣.C 𝓣.Λ (function P R plans tells)) (closing 𝓛 (ended_of P) (clauses_of P Keeps 𝓤))
 
 module _ (P R : ByValue) (Plans : P.Denot → List ℕ → ℕ → R.Denot → Type 0) (Asks : R.Denot → List ℕ → List Row → Type 0) (Tells : R.Denot → List ℕ → List Row → Answer → List Row → Type 0) (Keeps : P.Denot → List ℕ → List Row → Answer → List Row → Type 0)
     (asks : (x : P.Denot) (p : R.Denot) (m : List ℕ) (ys : List Row) → Plans x m (length ys) p → Asks p m ys)
@@ -75,7 +75,7 @@ module _ (P R : ByValue) (Plans : P.Denot → List ℕ → ℕ → R.Denot → T
   open 𝓛 use {H}
 
   abbrev clauses : Clauses 𝓤 (ended_of P)
-  clauses = clausesOf P Keeps 𝓤
+  clauses = clauses_of P Keeps 𝓤
 
   module _ (κ κr : Lft) (q qr : Share) (b o br or : ℕ) (γ γr : GName) (m : List ℕ) (x : P.Denot) (ys : List Row) (x-is : Is (type_of P) x (P.val x ∷ [])) where
     abbrev s : Val
@@ -127,15 +127,15 @@ module _ (P R : ByValue) (Plans : P.Denot → List ℕ → ℕ → R.Denot → T
         -- [the tokens; the rows' last list; what the memory owns; _7; …]
         land ! (from ! (stop !)) (init ! 18 refl (answer.typed 𝓛 r _ is₁)) $
         returns ! (look ! 18 refl) $ forget ! 4 refl $ forget ! 6 refl $ forget ! 8 refl $ forget ! 10 refl $ forget ! 12 refl $ forget ! 14 refl $ forget ! 16 refl $ forget ! 18 refl $
-        move ! (18 ∷ 19 ∷ 16 ∷ 17 ∷ 14 ∷ 15 ∷ 12 ∷ 13 ∷ 10 ∷ 11 ∷ 8 ∷ 9 ∷ 6 ∷ 7 ∷ 4 ∷ 5 ∷ []) $ free_all ! (envOf 𝓤 H (function P R plans tells).locals (l₀ ∷ l₁ ∷ l₂ ∷ l₃ ∷ l₄ ∷ l₅ ∷ l₆ ∷ l₇ ∷ [])) $
+        move ! (18 ∷ 19 ∷ 16 ∷ 17 ∷ 14 ∷ 15 ∷ 12 ∷ 13 ∷ 10 ∷ 11 ∷ 8 ∷ 9 ∷ 6 ∷ 7 ∷ 4 ∷ 5 ∷ []) $ free_all ! (env_of 𝓤 H (function P R plans tells).locals (l₀ ∷ l₁ ∷ l₂ ∷ l₃ ∷ l₄ ∷ l₅ ∷ l₆ ∷ l₇ ∷ [])) $
         by ! (ends r w₁ zs (keeps x p m ys zs r e e₁) l is₁)))))))))))
 
   queried-meets : Met P R Keeps 𝓛 𝓣 plans tells
   queried-meets =
-      walk_Meets 𝓛 (ended_of P) (stayed P) (Goes-none_slice 𝓛 2 (0 ∷ []) tt (plain (λ _. u8)) yes, (Goes-none 𝓛 2 (λ _. type_of P) yes (λ κs x f. refl), (Goes-gave_slice 𝓛 2 1 tt (plain (λ _. T.the_row)), tt))) clauses
+      walk__meets 𝓛 (ended_of P) (stayed P) (Goes-none_slice 𝓛 2 (0 ∷ []) tt (plain (λ _. u8)) yes, (Goes-none 𝓛 2 (λ _. type_of P) yes (λ κs x f. refl), (Goes-gave_slice 𝓛 2 1 tt (plain (λ _. T.the_row)), tt))) clauses
       (WpFn 𝓤 H 𝓣.C 𝓣.Λ (function P R plans tells)) (WpFn-mono 𝓤 H 𝓛.laws 𝓣 (function P R plans tells))
       (walked 𝓛 (ended_of P) (stayed P) clauses (WpFn 𝓤 H 𝓣.C 𝓣.Λ (function P R plans tells))
-      (λ κs. (shr_slice_vals, ((λ x. P.val x ∷ []), (mut_slice_vals, tt)))) (λ κs. (shr_slice_Tells (named 0) κs.0 u8, (P.tells, (mut_slice_Tells (named 1) κs.1.0 T.the_row, tt))))
+      (λ κs. (shr_slice_vals, ((λ x. P.val x ∷ []), (mut_slice_vals, tt)))) (λ κs. (shr_slice__tells (named 0) κs.0 u8, (P.tells, (mut_slice__tells (named 1) κs.1.0 T.the_row, tt))))
       (λ κs qs bounds a g are. via 𝓤 _ (fst∗ 𝓤 _ (emp 𝓤))
       (walk κs.0 κs.1.0 qs.0 qs.1.0 a.0.ref_ptr.0 a.0.ref_ptr.1 a.1.1.0.ref_ptr.0 a.1.1.0.ref_ptr.1 a.0.ghost_name a.1.1.0.ghost_name a.0.now a.1.0 a.1.1.0.now are.1.0 are.0.0.1 are.1.1.0.0.1)))
 

@@ -1,7 +1,7 @@
 // The lists: planned, then told. The memory is lent for reading only.
 ghost use Rattle.std.specs.Prelude.{map};
-ghost use Rattle.model.specs.Calls.{list, bandQuery, onKQuery, chosenQuery, hoursQuery};
-ghost use Rattle.promises.specs.Answers.{blockHours};
+ghost use Rattle.model.specs.Calls.{list, band_query, on_k_query, chosen_query, hours_query};
+ghost use Rattle.promises.specs.Answers.{block_hours};
 ghost use Rattle.calls.specs.Exported.{rows_of, QueryExported};
 
 use calls::{Answer, tell_list};
@@ -23,7 +23,7 @@ pub extern "C" fn dolzhev_list(memory: &[u8], rows: &mut [Row]) -> Answer
 // Tells a band (Definition 3): the moves that b others or fewer dominate.
 #[unsafe(no_mangle)]
 pub extern "C" fn dolzhev_band(memory: &[u8], b: usize, rows: &mut [Row]) -> Answer
-    ensures { QueryExported (bandQuery b) memory.now (rows_of rows.old)
+    ensures { QueryExported (band_query b) memory.now (rows_of rows.old)
         result (rows_of rows.new) }
 {
     let p = plan_band(memory, b, rows.len());
@@ -33,7 +33,7 @@ pub extern "C" fn dolzhev_band(memory: &[u8], b: usize, rows: &mut [Row]) -> Ans
 // Tells the moves that none dominates on k of the costs (Definition 6).
 #[unsafe(no_mangle)]
 pub extern "C" fn dolzhev_on_k(memory: &[u8], k: usize, rows: &mut [Row]) -> Answer
-    ensures { QueryExported (onKQuery k) memory.now (rows_of rows.old) result
+    ensures { QueryExported (on_k_query k) memory.now (rows_of rows.old) result
         (rows_of rows.new) }
 {
     let p = plan_on_k(memory, k, rows.len());
@@ -44,7 +44,7 @@ pub extern "C" fn dolzhev_on_k(memory: &[u8], k: usize, rows: &mut [Row]) -> Ans
 // for cost i.
 #[unsafe(no_mangle)]
 pub extern "C" fn dolzhev_chosen(memory: &[u8], set: usize, rows: &mut [Row]) -> Answer
-    ensures { QueryExported (chosenQuery set) memory.now
+    ensures { QueryExported (chosen_query set) memory.now
         (rows_of rows.old) result (rows_of rows.new) }
 {
     let p = plan_chosen(memory, set, rows.len());
@@ -61,7 +61,7 @@ pub extern "C" fn dolzhev_hours(
     hours: &[[u16; HOURS]],
     rows: &mut [Row],
 ) -> Answer
-    ensures { QueryExported (hoursQuery minute (map blockHours hours.now))
+    ensures { QueryExported (hours_query minute (map block_hours hours.now))
         memory.now (rows_of rows.old) result (rows_of rows.new) }
 {
     let p = plan_hours(memory, minute, hours, rows.len());

@@ -1,6 +1,6 @@
 // Load: the memory is overwritten with a board of the given rows.
 ghost use Rattle.std.specs.Prelude.{map};
-ghost use Rattle.promises.specs.Answers.{inputRow};
+ghost use Rattle.promises.specs.Answers.{input_row};
 ghost use Rattle.calls.specs.Exported.{LoadExported};
 
 use calls::{Answer, handed};
@@ -14,7 +14,7 @@ pub extern "C" fn dolzhev_load(
     d: usize,
     rows: &[[u16; INPUT]],
 ) -> Answer
-    ensures { LoadExported c d (map inputRow rows.now) memory.old result
+    ensures { LoadExported c d (map input_row rows.now) memory.old result
         memory.new }
 {
     let verdict = load(memory, c, d, rows);

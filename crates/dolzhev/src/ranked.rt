@@ -1,7 +1,7 @@
 // Rank (Definition 4): the rows are put in order where they are lent. The memory is lent for
 // reading only.
 ghost use Rattle.std.specs.Prelude.{map};
-ghost use Rattle.model.specs.Calls.{rankQuery};
+ghost use Rattle.model.specs.Calls.{rank_query};
 ghost use Rattle.promises.specs.Answers.{result_row};
 ghost use Rattle.calls.specs.Exported.{QueryExported};
 
@@ -13,7 +13,7 @@ use rows::ROW;
 // arrays of the row's layout, as load's are.
 #[unsafe(no_mangle)]
 pub extern "C" fn dolzhev_rank(memory: &[u8], t: usize, rows: &mut [[u16; ROW]]) -> Answer
-    ensures { QueryExported (rankQuery t) memory.now
+    ensures { QueryExported (rank_query t) memory.now
         (map result_row rows.old) result (map result_row rows.new) }
 {
     let r = rank(memory, t, rows);

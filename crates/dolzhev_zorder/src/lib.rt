@@ -1,5 +1,7 @@
 // Addresses and regions for C and Rust: the calls of `zorder` with plain structs. They refuse as
 // those do.
+#![tactic(auto)]
+
 ghost use Rattle.std.specs.Prelude.{◌≡◌};
 ghost use Rattle.zorder.specs.Promise.{number_of};
 ghost use Rattle.dolzhev_zorder.specs.Exported.{AddressExported, CostsExported};
@@ -8,7 +10,7 @@ ghost use Rattle.dolzhev_zorder.specs.Exported.{RegionExported};
 use zorder::{AddressWords, COSTS, Verdict};
 
 #[repr(C)]
-#[derive(Drop)]
+#[derive(Clone, Copy)]
 pub struct Costs {
     pub costs: [u16; COSTS],
 }
@@ -16,7 +18,7 @@ pub struct Costs {
 // Each answer: document 01's number of the refusal and its detail, then what is told, zero where
 // refused.
 #[repr(C)]
-#[derive(Drop)]
+#[derive(Clone, Copy)]
 pub struct AddressAnswer {
     pub refusal: usize,
     pub detail: usize,
@@ -24,7 +26,7 @@ pub struct AddressAnswer {
 }
 
 #[repr(C)]
-#[derive(Drop)]
+#[derive(Clone, Copy)]
 pub struct CostsAnswer {
     pub refusal: usize,
     pub detail: usize,
@@ -32,7 +34,7 @@ pub struct CostsAnswer {
 }
 
 #[repr(C)]
-#[derive(Drop)]
+#[derive(Clone, Copy)]
 pub struct RegionAnswer {
     pub refusal: usize,
     pub detail: usize,

@@ -2,5 +2,5 @@
 use Rattle.model.specs.Moves as model
 use Rattle.dominance.specs.declared.Move.{Move}
 
-abbrev pub asMove : Move → model.Move
-asMove m = record { number = m.number; costs = m.costs }
+abbrev pub as_move : Move → model.Move
+as_move m = record { number = m.number; costs = m.costs }

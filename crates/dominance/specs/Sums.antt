@@ -3,7 +3,7 @@ use Rattle.std.specs.Prelude.{ℕ, ◌+◌, cond, List, [], ◌∷◌}
 use Rattle.model.specs.Dominance.{less}
 
 -- At how many places the first list has the lesser cost.
-unfoldable pub countLess : List ℕ → List ℕ → ℕ
-countLess [] qs = 0
-countLess (p ∷ ps) [] = 0
-countLess (p ∷ ps) (q ∷ qs) = cond (less p q) 1 0 + countLess ps qs
+unfoldable pub count_less : List ℕ → List ℕ → ℕ
+count_less [] qs = 0
+count_less (p ∷ ps) [] = 0
+count_less (p ∷ ps) (q ∷ qs) = cond (less p q) 1 0 + count_less ps qs

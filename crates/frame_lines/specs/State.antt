@@ -8,6 +8,6 @@ pub data State : Type 0 where
   holds : Board → Tree → State
 
 -- How many costs its rows have.
-unfoldable pub dimensionOf : State → ℕ
-dimensionOf unloaded = 0
-dimensionOf (holds b t) = b.dimension
+unfoldable pub dimension_of : State → ℕ
+dimension_of unloaded = 0
+dimension_of (holds b t) = b.dimension

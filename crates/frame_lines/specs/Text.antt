@@ -2,21 +2,21 @@
 use Rattle.std.specs.Prelude.{ℕ, ◌/◌, ◌%◌, length, take}
 use mathlib.Core.List.{List, [], ◌∷◌, ◌++◌, flat_map}
 use Rattle.model.specs.Moves.{Row}
-use Rattle.frame_lines.specs.Digits.{digitOf}
+use Rattle.frame_lines.specs.Digits.{digit_of}
 
 -- The lowest byte of a number, and its lowest two, "highest byte first".
-unfoldable pub byteText : ℕ → List ℕ
-byteText n = digitOf (n / 16 % 16) ∷ digitOf (n % 16) ∷ []
+unfoldable pub byte_text : ℕ → List ℕ
+byte_text n = digit_of (n / 16 % 16) ∷ digit_of (n % 16) ∷ []
 
-unfoldable pub wordText : ℕ → List ℕ
-wordText n = byteText (n / 256) ++ byteText n
+unfoldable pub word_text : ℕ → List ℕ
+word_text n = byte_text (n / 256) ++ byte_text n
 
 -- "rows: mark (00 listed, 01 left, 02 entered), number, d costs"
-unfoldable pub rowText : ℕ → Row → List ℕ
-rowText d r = byteText r.mark ++ flat_map wordText (r.number ∷ take d r.costs)
+unfoldable pub row_text : ℕ → Row → List ℕ
+row_text d r = byte_text r.mark ++ flat_map word_text (r.number ∷ take d r.costs)
 
-unfoldable pub rowsText : ℕ → List Row → List ℕ
-rowsText d rows = flat_map (rowText d) rows
+unfoldable pub rows_text : ℕ → List Row → List ℕ
+rows_text d rows = flat_map (row_text d) rows
 
 -- What an answer says: a refusal and its detail; rows; rows, and the nodes opened.
 pub data Reply : Type 0 where
@@ -26,14 +26,14 @@ pub data Reply : Type 0 where
 
 -- "An answer line is the refusal (one byte), then a two-byte detail if refused, else a two-byte row count, for 50 the
 -- two-byte count of nodes opened, then rows."
-unfoldable pub saidText : ℕ → Reply → List ℕ
-saidText d (refused number detail) = byteText number ++ wordText detail
-saidText d (notice rows) = byteText 0 ++ wordText (length rows) ++ rowsText d rows
-saidText d (listed opened rows) = byteText 0 ++ wordText (length rows) ++ wordText opened ++ rowsText d rows
+unfoldable pub said_text : ℕ → Reply → List ℕ
+said_text d (refused number detail) = byte_text number ++ word_text detail
+said_text d (notice rows) = byte_text 0 ++ word_text (length rows) ++ rows_text d rows
+said_text d (listed opened rows) = byte_text 0 ++ word_text (length rows) ++ word_text opened ++ rows_text d rows
 
 -- A line feed.
-abbrev pub lineEnd : ℕ
-lineEnd = 10
+abbrev pub line_end : ℕ
+line_end = 10
 
-unfoldable pub answerText : ℕ → Reply → List ℕ
-answerText d s = saidText d s ++ lineEnd ∷ []
+unfoldable pub answer_text : ℕ → Reply → List ℕ
+answer_text d s = said_text d s ++ line_end ∷ []

@@ -1,13 +1,13 @@
 // Upper-case hexadecimal digits, read and written.
 ghost use Rattle.std.specs.Prelude.{◌≡◌, ◌<◌};
-ghost use Rattle.frame_lines.specs.Digits.{isDigit, value_of, digitOf};
+ghost use Rattle.frame_lines.specs.Digits.{is_digit, value_of, digit_of};
 
 // A letter less what it counts: 'A' counts ten.
 const LETTER: u8 = b'A' - 10;
 
 // Says whether a byte is a digit.
 pub fn is_digit(b: u8) -> bool
-    ensures { result ≡ isDigit b }
+    ensures { result ≡ is_digit b }
 {
     if b < b'0' {
         return false;
@@ -43,7 +43,7 @@ pub fn value(b: u8) -> u8
 // Gives the digit that counts n.
 pub fn digit(n: u16) -> u8
     requires { n < 16 }
-    ensures { result ≡ digitOf n }
+    ensures { result ≡ digit_of n }
 {
     if n < 10 {
         b'0' + n as u8

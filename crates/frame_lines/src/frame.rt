@@ -1,13 +1,13 @@
 // Which line is which frame.
 ghost use Rattle.std.specs.Prelude.{◌≡◌, ◌+◌, ◌*◌, ◌<◌, ◌≤◌};
 ghost use Rattle.frame_lines.specs.Reading as spec;
-ghost use Rattle.zorder.specs.Address.{rowCosts};
+ghost use Rattle.zorder.specs.Address.{row_costs};
 
 use crate::digits::value;
 use crate::reading::{DIGITS, Line};
 use zorder::COSTS;
 
-#[derive(Drop)]
+#[derive(Clone, Copy)]
 pub enum FrameKind {
     Load,
     Enter,
@@ -21,7 +21,7 @@ pub enum FrameKind {
 
 // The kind, and what that kind of frame carries: the number of costs that a load asks for, the
 // number of a move, its costs.
-#[derive(Drop)]
+#[derive(Clone, Copy)]
 pub struct Frame {
     pub kind: FrameKind,
     pub dimension: usize,
@@ -31,32 +31,32 @@ pub struct Frame {
 
 // The byte that two digits spell, at a place counted in bytes.
 fn byte_at(digits: [u8; DIGITS], i: usize) -> u8
-    requires { i < 3 + 2 * rowCosts }
-    ensures { result ≡ spec.byteAt digits i }
+    requires { i < 3 + 2 * row_costs }
+    ensures { result ≡ spec.byte_at digits i }
 {
     value(digits[2 * i]) * 16 + value(digits[2 * i + 1])
 }
 
 // The number of two bytes at a place, the higher first.
 fn word_at(digits: [u8; DIGITS], i: usize) -> u16
-    requires { i < 2 + 2 * rowCosts }
-    ensures { result ≡ spec.wordSpelled digits i }
+    requires { i < 2 + 2 * row_costs }
+    ensures { result ≡ spec.word_spelled digits i }
 {
     (byte_at(digits, i) as u16) * 256 + (byte_at(digits, i + 1) as u16)
 }
 
 // Cost j of d, after the first byte and the number; zero past d.
 fn cost_at(digits: [u8; DIGITS], d: usize, j: usize) -> u16
-    requires { d ≤ rowCosts }
-    ensures { result ≡ spec.costAt digits d j }
+    requires { d ≤ row_costs }
+    ensures { result ≡ spec.cost_at digits d j }
 {
     if j < d { word_at(digits, 3 + 2 * j) } else { 0 }
 }
 
 // All d costs, as a row holds them.
 fn costs_at(digits: [u8; DIGITS], d: usize) -> [u16; COSTS]
-    requires { d ≤ rowCosts }
-    ensures { result ≡ spec.costsAt digits d }
+    requires { d ≤ row_costs }
+    ensures { result ≡ spec.costs_at digits d }
 {
     let mut costs = [0u16; COSTS];
     let mut j = 0;
@@ -69,7 +69,7 @@ fn costs_at(digits: [u8; DIGITS], d: usize) -> [u16; COSTS]
 
 // The kind, if the frame has as many digits as it asks for.
 fn sized(count: usize, n: usize, kind: FrameKind) -> FrameKind
-    ensures { result ≡ spec.sizedKind count n kind }
+    ensures { result ≡ spec.sized_kind count n kind }
 {
     if count == n { kind } else { FrameKind::Wrong }
 }
@@ -77,8 +77,8 @@ fn sized(count: usize, n: usize, kind: FrameKind) -> FrameKind
 // The kind of a frame for a board of d costs, which has two digits of its first byte, four of a
 // number and four of each cost.
 fn kind_on(d: usize, code: u8, count: usize) -> FrameKind
-    requires { d ≤ rowCosts }
-    ensures { result ≡ spec.kindOn d code count }
+    requires { d ≤ row_costs }
+    ensures { result ≡ spec.kind_on d code count }
 {
     let all = 6 + 4 * d;
     match code {
@@ -92,7 +92,7 @@ fn kind_on(d: usize, code: u8, count: usize) -> FrameKind
 // The kind of a frame of whole bytes, by its first byte and how many digits it has; d is 0 before
 // the first accepted load.
 fn kind_of(d: usize, code: u8, count: usize) -> FrameKind
-    requires { d ≤ rowCosts }
+    requires { d ≤ row_costs }
     ensures { result ≡ spec.kind_of d code count }
 {
     match code {
@@ -108,8 +108,8 @@ fn kind_of(d: usize, code: u8, count: usize) -> FrameKind
 
 // The kind of a line: half a byte, or a byte that is no digit, is wrong form.
 fn line_kind(d: usize, line: Line) -> FrameKind
-    requires { d ≤ rowCosts }
-    ensures { result ≡ spec.lineKind d line }
+    requires { d ≤ row_costs }
+    ensures { result ≡ spec.line_kind d line }
 {
     let digits = line.first;
     if line.odd {
@@ -123,7 +123,7 @@ fn line_kind(d: usize, line: Line) -> FrameKind
 
 // Gives the frame of a line on a board of d costs; d is 0 before the first accepted load.
 pub fn frame_of(d: usize, line: Line) -> Frame
-    requires { d ≤ rowCosts }
+    requires { d ≤ row_costs }
     ensures { spec.Framed d line result }
 {
     let digits = line.first;

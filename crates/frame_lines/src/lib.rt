@@ -1,5 +1,7 @@
 // The lines of an input (document 01, "Frames"): where a line ends, which line is which frame, and
 // numbers and refusals as the digits of an answer. Nothing here calls the board.
+#![tactic(auto)]
+
 mod digits;
 mod frame;
 mod reading;

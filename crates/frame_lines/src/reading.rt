@@ -10,7 +10,7 @@ use zorder::COSTS;
 // cost.
 pub const DIGITS: usize = 6 + 4 * COSTS;
 
-#[derive(Drop)]
+#[derive(Clone, Copy)]
 pub struct Line {
     // Its first bytes, as many as the longest frame has; zeros past its end.
     pub first: [u8; DIGITS],
@@ -23,7 +23,7 @@ pub struct Line {
 }
 
 // A line with `taken` bytes more, and whether it ends after them.
-#[derive(Drop)]
+#[derive(Clone, Copy)]
 pub struct Read {
     pub line: Line,
     pub taken: usize,
@@ -43,7 +43,7 @@ fn placed(first: [u8; DIGITS], n: usize, b: u8) -> [u8; DIGITS]
 
 // The count with one byte more.
 fn counted(n: usize) -> usize
-    ensures { result ≡ min (n + 1) (spec.mostDigits + 1) }
+    ensures { result ≡ min (n + 1) (spec.most_digits + 1) }
 {
     if n < DIGITS + 1 { n + 1 } else { DIGITS + 1 }
 }

@@ -1,15 +1,15 @@
 // Numbers and refusals as digits, highest first, put into a lent buffer at a place; each function
 // gives the place past what it put.
 ghost use Rattle.std.specs.Prelude.{◌≡◌, ◌+◌, ◌%◌, ◌≤◌, length};
-ghost use Rattle.frame_lines.specs.Text.{byteText, wordText, refused, answerText};
-ghost use Rattle.frame_lines.specs.Put.{TextPut, headText};
+ghost use Rattle.frame_lines.specs.Text.{byte_text, word_text, refused, answer_text};
+ghost use Rattle.frame_lines.specs.Put.{TextPut, head_text};
 
 use crate::digits::digit;
 
 // Puts the lowest byte of n.
 pub fn put_byte(out: &mut [u8], at: usize, n: u16) -> usize
     requires { at + 2 ≤ length out.old }
-    ensures { TextPut (byteText n) out.old at out.new result }
+    ensures { TextPut (byte_text n) out.old at out.new result }
 {
     out[at] = digit(n / 16 % 16);
     out[at + 1] = digit(n % 16);
@@ -19,7 +19,7 @@ pub fn put_byte(out: &mut [u8], at: usize, n: u16) -> usize
 // Puts both bytes of n.
 pub fn put_word(out: &mut [u8], at: usize, n: u16) -> usize
     requires { at + 4 ≤ length out.old }
-    ensures { TextPut (wordText n) out.old at out.new result }
+    ensures { TextPut (word_text n) out.old at out.new result }
 {
     let next = put_byte(out, at, n / 256);
     put_byte(out, next, n)
@@ -36,7 +36,7 @@ pub fn two_bytes(n: usize) -> u16
 // bytes of a detail or of how many rows follow.
 pub fn put_head(out: &mut [u8], number: u8, n: usize) -> usize
     requires { 6 ≤ length out.old }
-    ensures { TextPut (headText number n) out.old 0 out.new result }
+    ensures { TextPut (head_text number n) out.old 0 out.new result }
 {
     let next = put_byte(out, 0, number as u16);
     put_word(out, next, two_bytes(n))
@@ -45,7 +45,7 @@ pub fn put_head(out: &mut [u8], number: u8, n: usize) -> usize
 // Puts a whole answer: a refusal, its detail and the line end.
 pub fn put_refusal(out: &mut [u8], number: u8, detail: usize) -> usize
     requires { 7 ≤ length out.old }
-    ensures { TextPut (answerText 0 (refused number detail))
+    ensures { TextPut (answer_text 0 (refused number detail))
         out.old 0 out.new result }
 {
     let end = put_head(out, number, detail);

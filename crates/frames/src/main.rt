@@ -1,12 +1,14 @@
 // Answers the frames of standard input, one a line, on standard output (document 01, "Frames").
 // Only reading and writing are here: which bytes are a line, and what is answered, is
 // `framing::feed`.
+#![tactic(auto)]
+
 ghost use Rattle.framing.specs.Serving.{HoldsState, Lent};
 
 use framing::{BYTES, Point, TEXT, feed, finish, start};
 
 // What one read leaves; `more` is false at the end of the input.
-#[derive(Drop)]
+#[derive(Clone, Copy)]
 struct Turn {
     point: Point,
     more: bool,

@@ -2,24 +2,24 @@
 use Rattle.std.specs.Prelude.{ℕ, zero, suc, ◌/◌, ◌%◌, ◌≡◌, refl}
 use mathlib.Core.List.{List, [], ◌∷◌, ◌++◌, flat_map}
 use Rattle.model.specs.Computing.{computing}
-use Rattle.model.specs.Changing.{changeTree}
-use Rattle.frame_lines.specs.Digits.{isDigit, value_of, digitOf, joined, bytes_of, numbersOf}
-use Rattle.frame_lines.specs.State.{dimensionOf}
-use Rattle.frame_lines.specs.Frames.{sized, frameNumber, frameCosts, callFrame, boardFrame, callCodes, frameIn, wholeBytes, frame_of}
-use Rattle.frame_lines.specs.Text.{byteText, wordText, rowText, rowsText, saidText, lineEnd, answerText}
+use Rattle.model.specs.Changing.{change_tree}
+use Rattle.frame_lines.specs.Digits.{is_digit, value_of, digit_of, joined, bytes_of, numbers_of}
+use Rattle.frame_lines.specs.State.{dimension_of}
+use Rattle.frame_lines.specs.Frames.{sized, frame_number, frame_costs, call_frame, board_frame, call_codes, frame_in, whole_bytes, frame_of}
+use Rattle.frame_lines.specs.Text.{byte_text, word_text, row_text, rows_text, said_text, line_end, answer_text}
 use Rattle.frame_lines.specs.Lines.{lines_from}
-use Rattle.framing.specs.Session.{saidBy, heldBy, loadSays, said, held, answerTo, after, answersTo, printed, output}
+use Rattle.framing.specs.Session.{said_by, held_by, load_says, said, held, answer_to, after, answers_to, printed, output}
 
 -- The line that spells n in k digits.
 pub spelled : ℕ → ℕ → List ℕ
 spelled zero n = []
-spelled (suc k) n = spelled k (n / 16) ++ digitOf (n % 16) ∷ []
+spelled (suc k) n = spelled k (n / 16) ++ digit_of (n % 16) ∷ []
 
 pub ended : List (List ℕ) → List ℕ
-ended lines = flat_map (λ l. l ++ lineEnd ∷ []) lines
+ended lines = flat_map (λ l. l ++ line_end ∷ []) lines
 
 computes : Unit {0}
-unfolding computing changeTree isDigit value_of digitOf joined bytes_of numbersOf sized frameNumber frameCosts callFrame boardFrame callCodes frameIn wholeBytes frame_of byteText wordText rowText rowsText saidText answerText dimensionOf saidBy heldBy loadSays said held answerTo after answersTo lines_from printed output spelled ended
+unfolding computing change_tree is_digit value_of digit_of joined bytes_of numbers_of sized frame_number frame_costs call_frame board_frame call_codes frame_in whole_bytes frame_of byte_text word_text row_text rows_text said_text answer_text dimension_of said_by held_by load_says said held answer_to after answers_to lines_from printed output spelled ended
 computes = tt
 
 -- The last line without its line end.
@@ -56,7 +56,7 @@ unfolding computes
 before-a-load = refl
 
 -- A carriage return is a byte of its line.
-pub carriage-return : output (spelled 2 0x50 ++ 13 ∷ lineEnd ∷ []) ≡ ended (spelled 6 0x090000 ∷ [])
+pub carriage-return : output (spelled 2 0x50 ++ 13 ∷ line_end ∷ []) ≡ ended (spelled 6 0x090000 ∷ [])
 unfolding computes
 carriage-return = refl
 

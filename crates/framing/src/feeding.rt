@@ -6,14 +6,14 @@ use crate::serving::answer;
 use frame_lines::{Line, read_on};
 
 // What was read of a line, and the board's number of costs, 0 before the first accepted load.
-#[derive(Drop)]
+#[derive(Clone, Copy)]
 pub struct Point {
     pub line: Line,
     pub dimension: usize,
 }
 
 // The point after `taken` bytes of the input; the answer that they called for has `answered` bytes.
-#[derive(Drop)]
+#[derive(Clone, Copy)]
 pub struct Fed {
     pub point: Point,
     pub taken: usize,

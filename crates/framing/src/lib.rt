@@ -1,5 +1,7 @@
 // Frames (document 01, "Frames") answered: what the board's call says of a line's frame, which
 // bytes that is, and the input as it comes.
+#![tactic(auto)]
+
 mod feeding;
 mod said;
 mod serving;

@@ -1,7 +1,7 @@
 // What a call says, as an answer line put at the start of a lent buffer; each function gives how
 // many bytes it put.
 ghost use Rattle.std.specs.Prelude.{◌≤◌, length};
-ghost use Rattle.frame_lines.specs.Text.{answerText};
+ghost use Rattle.frame_lines.specs.Text.{answer_text};
 ghost use Rattle.frame_lines.specs.Put.{TextPut};
 ghost use Rattle.framing.specs.Writing as spec;
 
@@ -14,7 +14,7 @@ use rows::Plan;
 // Puts what a load says: it tells no row, and accepted it says 0 and 0.
 pub fn put_loaded(out: &mut [u8], verdict: Verdict) -> usize
     requires { 7 ≤ length out.old }
-    ensures { TextPut (answerText 0 (spec.loadSaid verdict))
+    ensures { TextPut (answer_text 0 (spec.load_said verdict))
         out.old 0 out.new result }
 {
     put_refusal(out, number_of(verdict), verdict.detail)
@@ -23,7 +23,7 @@ pub fn put_loaded(out: &mut [u8], verdict: Verdict) -> usize
 // Puts what a list says, with the nodes opened and its rows.
 pub fn put_list(out: &mut [u8], m: &[u8], d: usize, p: Plan) -> usize
     requires { spec.ListRoom d p m.now out.old }
-    ensures { TextPut (answerText d (spec.listSaid p m.now))
+    ensures { TextPut (answer_text d (spec.list_said p m.now))
         out.old 0 out.new result }
 {
     let verdict = p.verdict;
@@ -42,7 +42,7 @@ pub fn put_list(out: &mut [u8], m: &[u8], d: usize, p: Plan) -> usize
 // Puts what a change says, with its notice.
 pub fn put_change(out: &mut [u8], m: &[u8], d: usize, p: ChangePlan) -> usize
     requires { spec.ChangeRoom d p m.now out.old }
-    ensures { TextPut (answerText d (spec.changeSaid p m.now))
+    ensures { TextPut (answer_text d (spec.change_said p m.now))
         out.old 0 out.new result }
 {
     let verdict = p.verdict;

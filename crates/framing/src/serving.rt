@@ -1,7 +1,7 @@
 // The answer to one line: the only functions that call the board.
 ghost use Rattle.std.specs.Prelude.{◌≡◌};
 ghost use Rattle.frame_lines.specs.Frames as frames;
-ghost use Rattle.framing.specs.Serving.{HoldsState, Lent, CallAsked, Answers, askedBy};
+ghost use Rattle.framing.specs.Serving.{HoldsState, Lent, CallAsked, Answers, asked_by};
 ghost use Rattle.framing.specs.Serving.{Served, ChangeServed};
 
 use crate::said::{put_change, put_list, put_loaded};
@@ -15,7 +15,7 @@ use promises::number_of;
 
 // The answer has `answered` bytes, and the board `dimension` costs from now on: 0 before the first
 // accepted load.
-#[derive(Drop)]
+#[derive(Clone, Copy)]
 pub struct Response {
     pub answered: usize,
     pub dimension: usize,
@@ -66,7 +66,7 @@ fn listed(m: &[u8], d: usize, out: &mut [u8]) -> usize
 
 // What a frame of a change asks, in block 0.
 fn asked(kind: planning::Kind, f: Frame) -> Change
-    ensures { result ≡ askedBy kind f }
+    ensures { result ≡ asked_by kind f }
 {
     let costs = f.costs;
     Change {

@@ -1,8 +1,8 @@
 // The blocks by their entries: the lowest that is refused, and those that are open. A block past
 // the last entry is shut; entries past the 64th are not read.
 ghost use Rattle.std.specs.Prelude.{map, ◌≡◌, length, take};
-ghost use Rattle.model.specs.Hours.{blockCount};
-ghost use Rattle.promises.specs.Answers.{blockHours};
+ghost use Rattle.model.specs.Hours.{block_count};
+ghost use Rattle.promises.specs.Answers.{block_hours};
 ghost use Rattle.hours.specs.Open.{FirstBad, OpenBlocks};
 
 use crate::windows::{hours_bad, open_at};
@@ -10,7 +10,7 @@ use crate::{BLOCKS, HOURS};
 
 // How many entries are read.
 fn entries_read(hours: &[[u16; HOURS]]) -> usize
-    ensures { result ≡ length (take blockCount hours.now) }
+    ensures { result ≡ length (take block_count hours.now) }
 {
     let n = hours.len();
     if n < BLOCKS { n } else { BLOCKS }
@@ -18,7 +18,7 @@ fn entries_read(hours: &[[u16; HOURS]]) -> usize
 
 // Gives the lowest block whose hours are refused; 64 if there is none.
 pub(crate) fn first_bad(hours: &[[u16; HOURS]]) -> usize
-    ensures { FirstBad (map blockHours hours.now) result }
+    ensures { FirstBad (map block_hours hours.now) result }
 {
     let n = entries_read(hours);
     let mut k = 0;
@@ -33,7 +33,7 @@ pub(crate) fn first_bad(hours: &[[u16; HOURS]]) -> usize
 
 // Gives the blocks open at a minute.
 pub(crate) fn open_blocks(minute: u16, hours: &[[u16; HOURS]]) -> u64
-    ensures { OpenBlocks minute (map blockHours hours.now) result }
+    ensures { OpenBlocks minute (map block_hours hours.now) result }
 {
     let n = entries_read(hours);
     let mut blocks = 0u64;

@@ -1,5 +1,7 @@
 // Yard block hours (Card 8): the list over the moves in open blocks, planned without writing. It
 // has no `requires`: it refuses.
+#![tactic(auto)]
+
 mod blocks;
 mod plan;
 mod shown;

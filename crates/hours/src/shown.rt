@@ -2,11 +2,11 @@
 // before it only. An earlier move that is nowhere greater hides: of equal costs the lower number
 // stands first.
 ghost use Rattle.std.specs.Prelude.{◌≡◌, ◌<◌, eqb};
-ghost use Rattle.memory.specs.Held.{SoundAt, moveHeld};
+ghost use Rattle.memory.specs.Held.{SoundAt, move_held};
 ghost use Rattle.search.specs.Search.{Corners};
 ghost use Rattle.search.specs.declared.search.Among.TheVariants.{InBlocks};
 ghost use Rattle.upkeep.specs.Found.{FindsMoves};
-ghost use Rattle.hours.specs.Open.{shownIn};
+ghost use Rattle.hours.specs.Open.{shown_in};
 
 use memory::{Head, is_listed, number_at};
 use numbers::empty;
@@ -27,7 +27,7 @@ fn hider_of(
 ) -> usize
     requires sound_at { SoundAt h m.now × (i < h.count) }
     requires corners { Corners (InBlocks blocks) h.size m.now h.count corners.now }
-    ensures { eqb result i ≡ shownIn h blocks m.now (moveHeld h m.now i) }
+    ensures { eqb result i ≡ shown_in h blocks m.now (move_held h m.now i) }
 {
     let number = number_at(m, h.size, i);
     if !in_blocks(m, h.size, number, blocks) {
@@ -48,7 +48,7 @@ fn hider_of(
 // Finds the moves in open blocks that none of them hides. What hid one move often hides the next.
 pub(crate) fn find_shown(m: &[u8], h: Head, blocks: u64) -> Found
     requires { SoundAt h m.now }
-    ensures { FindsMoves h (shownIn h blocks m.now) m.now result }
+    ensures { FindsMoves h (shown_in h blocks m.now) m.now result }
 {
     let n = h.count;
     let corners = corners_of(m, h, Among::InBlocks(blocks));

@@ -1,9 +1,9 @@
 // The windows of one block: whether they are refused, whether one is open.
 ghost use Rattle.std.specs.Prelude.{◌≡◌, ◌≤◌, ◌<◌};
 ghost use Rattle.model.specs.Basics.{any};
-ghost use Rattle.model.specs.Hours.{windowsOf, minuteBad, windowBad, hoursBad, openIn};
+ghost use Rattle.model.specs.Hours.{windows_of, minute_bad, window_bad, hours_bad, open_in};
 ghost use Rattle.promises.specs.Layout.{tab};
-ghost use Rattle.promises.specs.Answers.{windowAt, blockHours};
+ghost use Rattle.promises.specs.Answers.{window_at, block_hours};
 
 use crate::HOURS;
 
@@ -12,14 +12,14 @@ const WINDOWS: u16 = 4;
 
 // Says whether the week has no such minute.
 pub(crate) fn minute_bad(t: usize) -> bool
-    ensures { result ≡ minuteBad t }
+    ensures { result ≡ minute_bad t }
 {
     10079 < t
 }
 
 // How many slots hold a window.
 fn windows_in(entry: [u16; HOURS]) -> usize
-    ensures { (windowsOf (blockHours entry) ≡ tab (windowAt entry) result) × (result ≤ 4) }
+    ensures { (windows_of (block_hours entry) ≡ tab (window_at entry) result) × (result ≤ 4) }
 {
     let n = entry[0];
     if n < WINDOWS {
@@ -32,7 +32,7 @@ fn windows_in(entry: [u16; HOURS]) -> usize
 // Says whether a window starts where it ends, or reaches past the week.
 fn window_bad(entry: [u16; HOURS], i: usize) -> bool
     requires { i < 4 }
-    ensures { result ≡ windowBad (windowAt entry i) }
+    ensures { result ≡ window_bad (window_at entry i) }
 {
     let start = entry[1 + 2 * i];
     let end = entry[2 + 2 * i];
@@ -43,7 +43,7 @@ fn window_bad(entry: [u16; HOURS], i: usize) -> bool
 // over the week's end.
 fn open_in(entry: [u16; HOURS], i: usize, minute: u16) -> bool
     requires { i < 4 }
-    ensures { result ≡ openIn minute (windowAt entry i) }
+    ensures { result ≡ open_in minute (window_at entry i) }
 {
     let start = entry[1 + 2 * i];
     let end = entry[2 + 2 * i];
@@ -55,7 +55,7 @@ fn open_in(entry: [u16; HOURS], i: usize, minute: u16) -> bool
 
 // Says whether there are more windows than four, or a bad one.
 pub(crate) fn hours_bad(entry: [u16; HOURS]) -> bool
-    ensures { result ≡ hoursBad (blockHours entry) }
+    ensures { result ≡ hours_bad (block_hours entry) }
 {
     if WINDOWS < entry[0] {
         return true;
@@ -73,7 +73,7 @@ pub(crate) fn hours_bad(entry: [u16; HOURS]) -> bool
 
 // Says whether a window is open at this minute.
 pub(crate) fn open_at(entry: [u16; HOURS], minute: u16) -> bool
-    ensures { result ≡ any (openIn minute) (windowsOf (blockHours entry)) }
+    ensures { result ≡ any (open_in minute) (windows_of (block_hours entry)) }
 {
     let n = windows_in(entry);
     let mut i = 0;

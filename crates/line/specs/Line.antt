@@ -2,7 +2,7 @@
 -- node. Level 1 is the leaves. (The heights are those of a deterministic skip list.)
 use Rattle.std.specs.Prelude.{ℕ, zero, suc}
 use mathlib.Core.List.{List, [], ◌∷◌, ◌++◌, map, flat_map}
-use Rattle.model.specs.Moves.{Move, noMove}
+use Rattle.model.specs.Moves.{Move, no_move}
 use Rattle.model.specs.Tree.{Entry, Tree, empty, rooted}
 
 pub record Placed : Type 0 where
@@ -11,7 +11,7 @@ pub record Placed : Type 0 where
 
 -- Stands where a line has ended.
 abbrev pub none : Placed
-none = record { move = noMove; height = 0 }
+none = record { move = no_move; height = 0 }
 
 -- The line of what stands h levels above the moves, its first move of height k: the other entries of a node begin at their
 -- own level.
@@ -24,8 +24,8 @@ unfoldable pub line_of : Tree → List Placed
 line_of empty = []
 line_of (rooted h es) = line_at (suc h) (suc h) es
 
-unfoldable pub movesIn : List Placed → List Move
-movesIn rs = map (λ r. r.move) rs
+unfoldable pub moves_in : List Placed → List Move
+moves_in rs = map (λ r. r.move) rs
 
-unfoldable pub heightsIn : List Placed → List ℕ
-heightsIn rs = map (λ r. r.height) rs
+unfoldable pub heights_in : List Placed → List ℕ
+heights_in rs = map (λ r. r.height) rs

@@ -1,4 +1,6 @@
 // List: the list, read off the flags, and the nodes opened. It is planned without writing.
+#![tactic(auto)]
+
 ghost use Rattle.model.specs.Calls.{list};
 ghost use Rattle.rows.specs.Planned.{QueryPlanned};
 

@@ -1,6 +1,6 @@
 // The blocks of accepted rows.
 ghost use Rattle.std.specs.Prelude.{map};
-ghost use Rattle.promises.specs.Answers.{inputRow};
+ghost use Rattle.promises.specs.Answers.{input_row};
 ghost use Rattle.memory.specs.Room.{Room};
 ghost use Rattle.loading.specs.Blocks.{Storable, BlocksGiven};
 
@@ -10,8 +10,8 @@ use memory::set_block;
 
 // Gives the blocks from the last row on, as the definition gives them.
 pub fn give_blocks(m: &mut [u8], c: usize, rows: &[[u16; INPUT]])
-    requires { Room c m.old × Storable c (map inputRow rows.now) }
-    ensures { BlocksGiven c (map inputRow rows.now) m.old
+    requires { Room c m.old × Storable c (map input_row rows.now) }
+    ensures { BlocksGiven c (map input_row rows.now) m.old
         m.new }
 {
     let mut left = rows.len();

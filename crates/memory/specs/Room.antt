@@ -1,8 +1,8 @@
 -- What the functions over the lent memory ask of it.
 use Rattle.std.specs.Prelude.{ℕ, ◌+◌, ◌*◌, ◌≤◌, ◌<◌, true, List, ◌≡◌, length}
-use Rattle.zorder.specs.Address.{rowCosts}
-use Rattle.model.specs.Moves.{moveBefore}
-use Rattle.promises.specs.Layout.{number_in, moveIn}
+use Rattle.zorder.specs.Address.{row_costs}
+use Rattle.model.specs.Moves.{move_before}
+use Rattle.promises.specs.Layout.{number_in, move_in}
 use Rattle.memory.specs.declared.head.Head.{Head}
 
 -- The memory is long enough for a board of size c, and c is small enough for offsets not to wrap.
@@ -18,14 +18,14 @@ pub record ReadableRows (c d n : ℕ) (m : List ℕ) : Type 0 where
   pub room : Room c m
   pub rows : n ≤ c
   pub numbers : Numbers c n m
-  pub dimension : d ≤ rowCosts
+  pub dimension : d ≤ row_costs
 
 abbrev pub Readable : Head → List ℕ → Type 0
 Readable h = ReadableRows h.size h.dimension h.count
 
 -- The first n moves stand in Z-order.
 abbrev pub Ordered : ℕ → ℕ → ℕ → List ℕ → Type 0
-Ordered c d n m = (i j : ℕ) → i < j → j < n → moveBefore d (moveIn c d m i) (moveIn c d m j) ≡ true
+Ordered c d n m = (i j : ℕ) → i < j → j < n → move_before d (move_in c d m i) (move_in c d m j) ≡ true
 
 abbrev pub InOrder : Head → List ℕ → Type 0
 InOrder h = Ordered h.size h.dimension h.count

@@ -1,32 +1,32 @@
 -- What each store makes of the memory.
 use Rattle.std.specs.Prelude.{ℕ, suc, Bool, cond, List, [], ◌∷◌, set}
-use Rattle.promises.specs.Layout.{setWord, formatNumber, sizePlace, dimensionPlace, formatPlace, countPlace, numberPlace, heightPlace, flagPlace, blockPlace, costPlace, workPlace}
+use Rattle.promises.specs.Layout.{set_word, format_number, size_place, dimension_place, format_place, count_place, number_place, height_place, flag_place, block_place, cost_place, work_place}
 
-unfoldable pub setHead : ℕ → ℕ → ℕ → List ℕ → List ℕ
-setHead c d n m = setWord countPlace n (set (set (setWord sizePlace c m) dimensionPlace d) formatPlace formatNumber)
+unfoldable pub set_head : ℕ → ℕ → ℕ → List ℕ → List ℕ
+set_head c d n m = set_word count_place n (set (set (set_word size_place c m) dimension_place d) format_place format_number)
 
-unfoldable pub setCount : ℕ → List ℕ → List ℕ
-setCount n m = setWord countPlace n m
+unfoldable pub set_count : ℕ → List ℕ → List ℕ
+set_count n m = set_word count_place n m
 
-unfoldable pub setNumber : ℕ → ℕ → ℕ → List ℕ → List ℕ
-setNumber c i v m = setWord (numberPlace i) v m
+unfoldable pub set_number : ℕ → ℕ → ℕ → List ℕ → List ℕ
+set_number c i v m = set_word (number_place i) v m
 
-unfoldable pub setHeight : ℕ → ℕ → ℕ → List ℕ → List ℕ
-setHeight c i h m = set m (heightPlace c i) h
+unfoldable pub set_height : ℕ → ℕ → ℕ → List ℕ → List ℕ
+set_height c i h m = set m (height_place c i) h
 
-unfoldable pub setListed : ℕ → ℕ → Bool → List ℕ → List ℕ
-setListed c n listed m = set m (flagPlace c n) (cond listed 1 0)
+unfoldable pub set_listed : ℕ → ℕ → Bool → List ℕ → List ℕ
+set_listed c n listed m = set m (flag_place c n) (cond listed 1 0)
 
-unfoldable pub setBlock : ℕ → ℕ → ℕ → List ℕ → List ℕ
-setBlock c n block m = set m (blockPlace c n) block
+unfoldable pub set_block : ℕ → ℕ → ℕ → List ℕ → List ℕ
+set_block c n block m = set m (block_place c n) block
 
 -- The costs of a row from cost j on.
-unfoldable pub setCostsFrom : ℕ → ℕ → ℕ → List ℕ → List ℕ → List ℕ
-setCostsFrom c n j [] m = m
-setCostsFrom c n j (v ∷ vs) m = setCostsFrom c n (suc j) vs (setWord (costPlace c n j) v m)
+unfoldable pub set_costs_from : ℕ → ℕ → ℕ → List ℕ → List ℕ → List ℕ
+set_costs_from c n j [] m = m
+set_costs_from c n j (v ∷ vs) m = set_costs_from c n (suc j) vs (set_word (cost_place c n j) v m)
 
-unfoldable pub setCosts : ℕ → ℕ → List ℕ → List ℕ → List ℕ
-setCosts c n costs m = setCostsFrom c n 0 costs m
+unfoldable pub set_costs : ℕ → ℕ → List ℕ → List ℕ → List ℕ
+set_costs c n costs m = set_costs_from c n 0 costs m
 
-unfoldable pub setWork : ℕ → ℕ → ℕ → List ℕ → List ℕ
-setWork c i v m = setWord (workPlace c i) v m
+unfoldable pub set_work : ℕ → ℕ → ℕ → List ℕ → List ℕ
+set_work c i v m = set_word (work_place c i) v m

@@ -5,7 +5,7 @@ ghost use Rattle.memory.specs.Held.{HeadOf};
 use crate::fields::{count, dimension, size};
 
 // C, d and the number of moves of a board.
-#[derive(Drop)]
+#[derive(Clone, Copy)]
 pub struct Head {
     pub size: usize,
     pub dimension: usize,

@@ -1,4 +1,6 @@
 // The lent memory: its fields read and written. Above this crate nothing names a byte.
+#![tactic(auto)]
+
 mod bytes;
 mod fields;
 mod head;

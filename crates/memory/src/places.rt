@@ -14,7 +14,7 @@ pub(crate) const COUNT_PLACE: usize = 4;
 // Gives where the number of the move at place i stands.
 pub(crate) fn number_place(i: usize) -> usize
     requires { i < 4096 }
-    ensures { result ≡ layout.numberPlace i }
+    ensures { result ≡ layout.number_place i }
 {
     16 + 2 * i
 }
@@ -22,7 +22,7 @@ pub(crate) fn number_place(i: usize) -> usize
 // Gives where the height at place i stands.
 pub(crate) fn height_place(c: usize, i: usize) -> usize
     requires { (i < c) × (c ≤ 4096) }
-    ensures { result ≡ layout.heightPlace c i }
+    ensures { result ≡ layout.height_place c i }
 {
     16 + 2 * c + i
 }
@@ -30,7 +30,7 @@ pub(crate) fn height_place(c: usize, i: usize) -> usize
 // Gives where the flag of a number's move stands.
 pub(crate) fn flag_place(c: usize, number: u16) -> usize
     requires { (number < c) × (c ≤ 4096) }
-    ensures { result ≡ layout.flagPlace c number }
+    ensures { result ≡ layout.flag_place c number }
 {
     16 + 3 * c + (number as usize)
 }
@@ -38,7 +38,7 @@ pub(crate) fn flag_place(c: usize, number: u16) -> usize
 // Gives where the block of a number's move stands.
 pub(crate) fn block_place(c: usize, number: u16) -> usize
     requires { (number < c) × (c ≤ 4096) }
-    ensures { result ≡ layout.blockPlace c number }
+    ensures { result ≡ layout.block_place c number }
 {
     16 + 4 * c + (number as usize)
 }
@@ -46,7 +46,7 @@ pub(crate) fn block_place(c: usize, number: u16) -> usize
 // Gives where the first cost of a number's move stands; the others follow it, two bytes each.
 pub(crate) fn costs_place(c: usize, number: u16) -> usize
     requires { (number < c) × (c ≤ 4096) }
-    ensures { result ≡ layout.costPlace c number 0 }
+    ensures { result ≡ layout.cost_place c number 0 }
 {
     16 + 5 * c + 16 * (number as usize)
 }
@@ -54,7 +54,7 @@ pub(crate) fn costs_place(c: usize, number: u16) -> usize
 // Gives where number i of the work area stands.
 pub(crate) fn work_place(c: usize, i: usize) -> usize
     requires { (i < c) × (c ≤ 4096) }
-    ensures { result ≡ layout.workPlace c i }
+    ensures { result ≡ layout.work_place c i }
 {
     16 + 21 * c + 2 * i
 }

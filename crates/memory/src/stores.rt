@@ -14,7 +14,7 @@ use zorder::COSTS;
 // Writes C, d, the format and the number of moves.
 pub fn set_head(m: &mut [u8], c: usize, d: usize, n: usize)
     requires { (16 ≤ length m.old) × (c < 65536) × (d < 256) × (n < 65536) }
-    ensures { m.new ≡ stores.setHead c d n m.old }
+    ensures { m.new ≡ stores.set_head c d n m.old }
 {
     set_word(m, SIZE_PLACE, c as u16);
     m[DIMENSION_PLACE] = d as u8;
@@ -25,7 +25,7 @@ pub fn set_head(m: &mut [u8], c: usize, d: usize, n: usize)
 // Writes the number of moves.
 pub fn set_count(m: &mut [u8], n: usize)
     requires { (16 ≤ length m.old) × (n < 65536) }
-    ensures { m.new ≡ stores.setCount n m.old }
+    ensures { m.new ≡ stores.set_count n m.old }
 {
     set_word(m, COUNT_PLACE, n as u16);
 }
@@ -33,7 +33,7 @@ pub fn set_count(m: &mut [u8], n: usize)
 // Writes the number of the move at place i.
 pub fn set_number(m: &mut [u8], c: usize, i: usize, number: u16)
     requires { Room c m.old × (i < c) }
-    ensures { m.new ≡ stores.setNumber c i number m.old }
+    ensures { m.new ≡ stores.set_number c i number m.old }
 {
     set_word(m, number_place(i), number);
 }
@@ -41,7 +41,7 @@ pub fn set_number(m: &mut [u8], c: usize, i: usize, number: u16)
 // Writes the highest level of the nodes that start at place i.
 pub fn set_height(m: &mut [u8], c: usize, i: usize, height: u8)
     requires { Room c m.old × (i < c) }
-    ensures { m.new ≡ stores.setHeight c i height m.old }
+    ensures { m.new ≡ stores.set_height c i height m.old }
 {
     m[height_place(c, i)] = height;
 }
@@ -49,7 +49,7 @@ pub fn set_height(m: &mut [u8], c: usize, i: usize, height: u8)
 // Flags the move of a number as listed or hidden.
 pub fn set_listed(m: &mut [u8], c: usize, number: u16, listed: bool)
     requires { Room c m.old × (number < c) }
-    ensures { m.new ≡ stores.setListed c number listed m.old }
+    ensures { m.new ≡ stores.set_listed c number listed m.old }
 {
     m[flag_place(c, number)] = if listed { 1 } else { 0 };
 }
@@ -57,7 +57,7 @@ pub fn set_listed(m: &mut [u8], c: usize, number: u16, listed: bool)
 // Writes the block of a number's move.
 pub fn set_block(m: &mut [u8], c: usize, number: u16, block: u16)
     requires { Room c m.old × (number < c) × (block < 256) }
-    ensures { m.new ≡ stores.setBlock c number block m.old }
+    ensures { m.new ≡ stores.set_block c number block m.old }
 {
     m[block_place(c, number)] = block as u8;
 }
@@ -65,7 +65,7 @@ pub fn set_block(m: &mut [u8], c: usize, number: u16, block: u16)
 // Writes the costs of a number's move, all words of the row.
 pub fn set_costs(m: &mut [u8], c: usize, number: u16, costs: [u16; COSTS])
     requires { Room c m.old × (number < c) }
-    ensures { m.new ≡ stores.setCosts c number costs m.old }
+    ensures { m.new ≡ stores.set_costs c number costs m.old }
 {
     let at = costs_place(c, number);
     let mut j = 0;
@@ -78,7 +78,7 @@ pub fn set_costs(m: &mut [u8], c: usize, number: u16, costs: [u16; COSTS])
 // Writes number i of the work area.
 pub fn set_work(m: &mut [u8], c: usize, i: usize, number: u16)
     requires { Room c m.old × (i < c) }
-    ensures { m.new ≡ stores.setWork c i number m.old }
+    ensures { m.new ≡ stores.set_work c i number m.old }
 {
     set_word(m, work_place(c, i), number);
 }

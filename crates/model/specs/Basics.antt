@@ -8,14 +8,14 @@ module _ {A : Type 0} where
   Each P [] = Unit {0}
   Each P (x ∷ xs) = P x × Each P xs
 
-  abbrev pub consIf : Bool → A → List A → List A
-  consIf true x xs = x ∷ xs
-  consIf false x xs = xs
+  abbrev pub cons_if : Bool → A → List A → List A
+  cons_if true x xs = x ∷ xs
+  cons_if false x xs = xs
 
   -- The entries that pass a test, in their order.
   unfoldable pub select : (A → Bool) → List A → List A
   select p [] = []
-  select p (x ∷ xs) = consIf (p x) x (select p xs)
+  select p (x ∷ xs) = cons_if (p x) x (select p xs)
 
   unfoldable pub any : (A → Bool) → List A → Bool
   any p [] = false
@@ -30,13 +30,13 @@ module _ {A : Type 0} where
   count p xs = length (select p xs)
 
   -- An entry put before the first that it comes before, and a list put in order so.
-  unfoldable pub insertBy : (A → A → Bool) → A → List A → List A
-  insertBy lt x [] = x ∷ []
-  insertBy lt x (y ∷ ys) = cond (lt x y) (x ∷ y ∷ ys) (y ∷ insertBy lt x ys)
+  unfoldable pub insert_by : (A → A → Bool) → A → List A → List A
+  insert_by lt x [] = x ∷ []
+  insert_by lt x (y ∷ ys) = cond (lt x y) (x ∷ y ∷ ys) (y ∷ insert_by lt x ys)
 
-  unfoldable pub sortBy : (A → A → Bool) → List A → List A
-  sortBy lt [] = []
-  sortBy lt (x ∷ xs) = insertBy lt x (sortBy lt xs)
+  unfoldable pub sort_by : (A → A → Bool) → List A → List A
+  sort_by lt [] = []
+  sort_by lt (x ∷ xs) = insert_by lt x (sort_by lt xs)
 
   -- Each entry comes before the next.
   unfoldable pub rising : (A → A → Bool) → List A → Bool
@@ -60,9 +60,9 @@ module _ {A : Type 0} where
   parts (suc k) (x ∷ xs) = map (λ ys. x ∷ ys) (parts k xs) ++ parts (suc k) xs
 
 -- n, n+1, .., k numbers in all.
-unfoldable pub numbersFrom : ℕ → ℕ → List ℕ
-numbersFrom n zero = []
-numbersFrom n (suc k) = n ∷ numbersFrom (suc n) k
+unfoldable pub numbers_from : ℕ → ℕ → List ℕ
+numbers_from n zero = []
+numbers_from n (suc k) = n ∷ numbers_from (suc n) k
 
 unfoldable pub within : ℕ → ℕ → ℕ → Bool
 within lo hi n = lib.Dec.leb lo n && lib.Dec.leb n hi

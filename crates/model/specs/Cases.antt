@@ -4,15 +4,15 @@ use Rattle.std.specs.Prelude.{ℕ, ◌≡◌, refl}
 use mathlib.Core.List.{List, [], ◌∷◌, ◌++◌, map, flat_map}
 use Rattle.zorder.specs.Address.{address, padded}
 use Rattle.zorder.specs.Words.{words_of}
-use Rattle.zorder.specs.Between.{nearOf, farOf}
-use Rattle.model.specs.Moves.{Move, Row, inZOrder}
-use Rattle.model.specs.Lists.{skyline, band, rank, onK, chosen}
+use Rattle.zorder.specs.Between.{near_of, far_of}
+use Rattle.model.specs.Moves.{Move, Row, in_z_order}
+use Rattle.model.specs.Lists.{skyline, band, rank, on_k, chosen}
 use Rattle.model.specs.Tree.{Tree, rooted}
-use Rattle.model.specs.Loading.{loadTree}
-use Rattle.model.specs.Changing.{changeTree}
-use Rattle.model.specs.Opening.{changeOpens}
+use Rattle.model.specs.Loading.{load_tree}
+use Rattle.model.specs.Changing.{change_tree}
+use Rattle.model.specs.Opening.{change_opens}
 use Rattle.model.specs.Computing.{computing}
-use Rattle.model.specs.Calls.{Board, Change, withdraw, changed, changeNotice}
+use Rattle.model.specs.Calls.{Board, Change, withdraw, changed, change_notice}
 
 -- Two costs as a row holds them.
 unfoldable pub pair : ℕ → ℕ → List ℕ
@@ -25,11 +25,11 @@ unfoldable pub moves : List Move
 moves = move 0 1 6 ∷ move 1 3 7 ∷ move 2 2 2 ∷ move 3 5 1 ∷ move 4 6 2 ∷ move 5 2 2 ∷ []
 
 unfoldable pub worked : Board
-worked = record { size = 16; dimension = 2; moves = inZOrder 2 moves; blocks = λ n. 0 }
+worked = record { size = 16; dimension = 2; moves = in_z_order 2 moves; blocks = λ n. 0 }
 
 -- A region by its corners, each as its first two costs.
 unfoldable pub corners : List ℕ → List ℕ → List ℕ
-corners p q = lib.ListN.take 2 (nearOf 2 p q) ++ lib.ListN.take 2 (farOf 2 p q)
+corners p q = lib.ListN.take 2 (near_of 2 p q) ++ lib.ListN.take 2 (far_of 2 p q)
 
 unfoldable pub numbers : List Move → List ℕ
 numbers ms = map (λ m. m.number) ms
@@ -41,17 +41,17 @@ marks rs = flat_map (λ r. r.mark ∷ r.number ∷ []) rs
 -- The notices of changes made one after another.
 unfoldable pub notices : Board → List Change → List (List ℕ)
 notices b [] = []
-notices b (c ∷ cs) = marks (changeNotice b c) ∷ notices (changed b c) cs
+notices b (c ∷ cs) = marks (change_notice b c) ∷ notices (changed b c) cs
 
 -- The nodes that changes open, one after another.
 unfoldable pub opened : Tree → List Change → List ℕ
 opened t [] = []
-opened t (c ∷ cs) = changeOpens 2 c t ∷ opened (changeTree 2 c t) cs
+opened t (c ∷ cs) = change_opens 2 c t ∷ opened (change_tree 2 c t) cs
 
 -- Two leaves. Move 0 hides all others, of which 10 dominates the later leaf's near corner: it opens all three nodes when it
 -- goes. Then 13 opens the root and its leaf, which are no nodes after it. 6, hidden, opens none.
-unfoldable pub twoLeaves : Tree
-twoLeaves =
+unfoldable pub two_leaves : Tree
+two_leaves =
     rooted 1
     ((move 0 11 6 ∷ move 6 13 7 ∷ move 10 14 6 ∷ move 11 14 6 ∷ move 13 12 10 ∷ [])
     ∷ (move 3 16 17 ∷ move 15 16 19 ∷ move 7 20 19 ∷ [])
@@ -67,11 +67,11 @@ results =
     ∷ numbers (band 2 2 worked.moves)
     ∷ numbers (band 2 3 worked.moves)
     ∷ marks (rank 2 3 worked.moves)
-    ∷ numbers (onK 2 1 worked.moves)
+    ∷ numbers (on_k 2 1 worked.moves)
     ∷ numbers (chosen (0 ∷ []) worked.moves)
-    ∷ opened (loadTree 2 moves) (withdraw 2 ∷ withdraw 5 ∷ withdraw 3 ∷ withdraw 0 ∷ withdraw 1 ∷ withdraw 4 ∷ [])
-    ∷ opened (loadTree 2 moves) (withdraw 4 ∷ [])
-    ∷ opened twoLeaves (withdraw 6 ∷ withdraw 0 ∷ withdraw 13 ∷ [])
+    ∷ opened (load_tree 2 moves) (withdraw 2 ∷ withdraw 5 ∷ withdraw 3 ∷ withdraw 0 ∷ withdraw 1 ∷ withdraw 4 ∷ [])
+    ∷ opened (load_tree 2 moves) (withdraw 4 ∷ [])
+    ∷ opened two_leaves (withdraw 6 ∷ withdraw 0 ∷ withdraw 13 ∷ [])
     ∷ notices worked (withdraw 2 ∷ withdraw 5 ∷ withdraw 3 ∷ [])
 
 unfoldable pub expected : List (List ℕ)
@@ -95,5 +95,5 @@ expected =
     ∷ []
 
 pub cases : results ≡ expected
-unfolding computing results expected moves pair move worked corners numbers marks notices opened twoLeaves
+unfolding computing results expected moves pair move worked corners numbers marks notices opened two_leaves
 cases = refl

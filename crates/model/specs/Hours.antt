@@ -12,34 +12,34 @@ pub record Hours : Type 0 where
   pub count : ℕ
   pub windows : List Window
 
-abbrev pub blockCount : ℕ
-blockCount = 64
+abbrev pub block_count : ℕ
+block_count = 64
 
-unfoldable pub windowsOf : Hours → List Window
-windowsOf h = take h.count h.windows
+unfoldable pub windows_of : Hours → List Window
+windows_of h = take h.count h.windows
 
 -- "a minute of the week, 0 to 10,079"
-unfoldable pub minuteBad : ℕ → Bool
-minuteBad t = not (within 0 10079 t)
+unfoldable pub minute_bad : ℕ → Bool
+minute_bad t = not (within 0 10079 t)
 
 -- "a fifth window, a start equal to its end, or either above 10,079"
-unfoldable pub windowBad : Window → Bool
-windowBad w = minuteBad w.start || minuteBad w.end || eqb w.start w.end
+unfoldable pub window_bad : Window → Bool
+window_bad w = minute_bad w.start || minute_bad w.end || eqb w.start w.end
 
-unfoldable pub hoursBad : Hours → Bool
-hoursBad h = ltb 4 h.count || any windowBad (windowsOf h)
+unfoldable pub hours_bad : Hours → Bool
+hours_bad h = ltb 4 h.count || any window_bad (windows_of h)
 
 -- "start included, end not; an end below the start runs over the week's end"
-unfoldable pub openIn : ℕ → Window → Bool
-openIn t w = cond (ltb w.end w.start) (leb w.start t || ltb t w.end) (leb w.start t && ltb t w.end)
+unfoldable pub open_in : ℕ → Window → Bool
+open_in t w = cond (ltb w.end w.start) (leb w.start t || ltb t w.end) (leb w.start t && ltb t w.end)
 
 -- "A block without windows is shut", and so is one past the lent entries.
-abbrev pub noHours : Hours
-noHours = record { count = 0; windows = [] }
+abbrev pub no_hours : Hours
+no_hours = record { count = 0; windows = [] }
 
-unfoldable pub blockOpen : ℕ → List Hours → ℕ → Bool
-blockOpen t hours block = any (openIn t) (windowsOf (get_or hours block noHours))
+unfoldable pub block_open : ℕ → List Hours → ℕ → Bool
+block_open t hours block = any (open_in t) (windows_of (get_or hours block no_hours))
 
 -- "the moves in open blocks"
-unfoldable pub openMoves : ℕ → List Hours → (ℕ → ℕ) → List Move → List Move
-openMoves t hours blocks ms = select (λ m. blockOpen t hours (blocks m.number)) ms
+unfoldable pub open_moves : ℕ → List Hours → (ℕ → ℕ) → List Move → List Move
+open_moves t hours blocks ms = select (λ m. block_open t hours (blocks m.number)) ms

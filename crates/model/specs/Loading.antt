@@ -1,6 +1,6 @@
 -- Loading: "the sorted moves are cut into groups of 8".
 use Rattle.std.specs.Prelude.{ℕ, zero, suc, ◌-◌, true, false, cond, List, [], ◌∷◌, ◌++◌, ltb, leb, length, take, drop}
-use Rattle.model.specs.Moves.{Move, inZOrder}
+use Rattle.model.specs.Moves.{Move, in_z_order}
 use Rattle.model.specs.Tree.{Entry, Tree, empty, rooted}
 
 module _ {A : Type 0} where
@@ -34,5 +34,5 @@ unfoldable pub built : List Move → Tree
 built [] = empty
 built (m ∷ ms) = levels (length ms) 0 (m ∷ ms)
 
-unfoldable pub loadTree : ℕ → List Move → Tree
-loadTree d ms = built (inZOrder d ms)
+unfoldable pub load_tree : ℕ → List Move → Tree
+load_tree d ms = built (in_z_order d ms)

@@ -1,4 +1,6 @@
 // The nodes of the tree by the places of their moves, and the search through them.
+#![tactic(auto)]
+
 mod nodes;
 mod places;
 

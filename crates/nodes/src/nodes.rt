@@ -3,7 +3,7 @@
 // move goes, at place `goes`, it is not among these moves, and a node is opened only if the going
 // move is nowhere greater than its far corner. For a list none goes: the place is past the last.
 ghost use Rattle.std.specs.Prelude.{not, ◌≡◌, ◌≤◌, ◌<◌};
-ghost use Rattle.zorder.specs.Between.{farOf};
+ghost use Rattle.zorder.specs.Between.{far_of};
 ghost use Rattle.memory.specs.Room.{Room, Readable};
 ghost use Rattle.search.specs.Search.{ListedCorners};
 ghost use Rattle.nodes.specs.Search as search;
@@ -26,7 +26,7 @@ fn corner_dominated(
 ) -> bool
     requires readable { Readable h m.now × (i ≤ h.count) }
     requires listed_corners { ListedCorners h m.now i corners.now }
-    ensures { result ≡ search.cornerDominated h.size h.dimension goes i
+    ensures { result ≡ search.corner_dominated h.size h.dimension goes i
         m.now near }
 {
     let q = bounds_of(h.dimension, near);
@@ -45,8 +45,8 @@ fn corner_dominated(
 // this first and this last move.
 fn exceeds_far(m: &[u8], h: Head, goes: usize, first: [u16; COSTS], last: [u16; COSTS]) -> bool
     requires { Readable h m.now }
-    ensures { result ≡ not (search.goesWithin h.size h.dimension goes h.count
-        m.now (farOf h.dimension first last)) }
+    ensures { result ≡ not (search.goes_within h.size h.dimension goes h.count
+        m.now (far_of h.dimension first last)) }
 {
     if h.count <= goes {
         return false;
@@ -60,7 +60,7 @@ fn exceeds_far(m: &[u8], h: Head, goes: usize, first: [u16; COSTS], last: [u16; 
 fn opens(m: &[u8], h: Head, goes: usize, corners: &[[u16; COSTS]; RUNS], i: usize, e: usize) -> bool
     requires readable { Readable h m.now × (i < e) × (e ≤ h.count) }
     requires listed_corners { ListedCorners h m.now i corners.now }
-    ensures { result ≡ search.opensPlaces h.size h.dimension goes h.count
+    ensures { result ≡ search.opens_places h.size h.dimension goes h.count
         m.now i e }
 {
     let first = costs_of(m, h.size, h.dimension, number_at(m, h.size, i));
@@ -81,7 +81,7 @@ fn level_at(m: &[u8], c: usize, n: usize, i: usize) -> u8
 
 // An opened leaf, by the places from its first up to its end, and how many nodes were opened on the
 // way to it, itself among them. Past the last place there is none.
-#[derive(Drop)]
+#[derive(Clone, Copy)]
 pub struct Leaf {
     pub start: usize,
     pub end: usize,

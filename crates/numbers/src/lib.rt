@@ -1,4 +1,6 @@
 // A set of numbers below 4,096: 64 words of 64 bits.
+#![tactic(auto)]
+
 ghost use Rattle.std.specs.Prelude.{false, ◌≡◌, ℕ, ◌<◌};
 ghost use Rattle.numbers.specs.Set.{in_set, With};
 

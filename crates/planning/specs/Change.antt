@@ -3,22 +3,22 @@ use Rattle.std.specs.Prelude.{ℕ, ◌+◌, ◌<◌, ◌≤◌, true, false, con
 use Rattle.model.specs.Moves as model
 use Rattle.model.specs.Moves.{Row}
 use Rattle.model.specs.Lists.{skyline}
-use Rattle.model.specs.Notice.{noticeOf}
+use Rattle.model.specs.Notice.{notice_of}
 use Rattle.model.specs.Tree.{Tree}
 use Rattle.model.specs.Calls as calls
-use Rattle.model.specs.Calls.{changedMoves}
-use Rattle.model.specs.Changing.{changeTree}
-use Rattle.line.specs.Line.{movesIn}
-use Rattle.promises.specs.Layout.{sizeIn, dimensionIn, number_in, costsIn, lineFrom, lineIn}
+use Rattle.model.specs.Calls.{changed_moves}
+use Rattle.model.specs.Changing.{change_tree}
+use Rattle.line.specs.Line.{moves_in}
+use Rattle.promises.specs.Layout.{size_in, dimension_in, number_in, costs_in, line_from, line_in}
 use Rattle.promises.specs.Sound.{Stands}
 use Rattle.memory.specs.Frame.{MovesOnly}
 use Rattle.dominance.specs.declared.Move.{Move}
-use Rattle.upkeep.specs.Change.{AskedRows, UpkeptRows, movesAfter}
+use Rattle.upkeep.specs.Change.{AskedRows, UpkeptRows, moves_after}
 use Rattle.upkeep.specs.declared.exchange.Exchange.{Exchange}
 use Rattle.upkeep.specs.declared.exchange.Upkeep.{Upkeep}
 
-unfoldable pub neededRows : Upkeep → ℕ
-neededRows u = u.left + u.entered + cond u.listed 1 0
+unfoldable pub needed_rows : Upkeep → ℕ
+needed_rows u = u.left + u.entered + cond u.listed 1 0
 
 -- The counts are of moves on a board.
 pub record Counted (u : Upkeep) : Type 0 where
@@ -27,19 +27,19 @@ pub record Counted (u : Upkeep) : Type 0 where
 
 -- A move that comes for one that goes has other costs.
 pub record Other (c d n : ℕ) (k : Exchange) (m : List ℕ) : Type 0 where
-  pub costs : k.comes ≡ true → k.goes < n → costsIn c d m (number_in c m k.goes) ≡ k.coming.costs → ⊥
+  pub costs : k.comes ≡ true → k.goes < n → costs_in c d m (number_in c m k.goes) ≡ k.coming.costs → ⊥
 
 -- The notice of the change, by the lists before and after it.
-unfoldable pub noticeBy : ℕ → ℕ → ℕ → Exchange → List ℕ → List Row
-noticeBy c d n k m =
-    let ms = movesIn (lineFrom c d n m) in
-    noticeOf (skyline d ms) (skyline d (movesAfter d k ms))
+unfoldable pub notice_by : ℕ → ℕ → ℕ → Exchange → List ℕ → List Row
+notice_by c d n k m =
+    let ms = moves_in (line_from c d n m) in
+    notice_of (skyline d ms) (skyline d (moves_after d k ms))
 
 -- What each change leaves of sound memory, blocks apart: the call's moves and tree, and every block as before.
 pub record Moved (x : calls.Change) (m m' : List ℕ) (t : Tree) : Type 0 where
-  pub stands : Stands m' (changeTree (dimensionIn m) x t)
-  pub moves : movesIn (lineIn m') ≡ changedMoves (dimensionIn m) x (movesIn (lineIn m))
-  pub only : MovesOnly (sizeIn m) m m'
+  pub stands : Stands m' (change_tree (dimension_in m) x t)
+  pub moves : moves_in (line_in m') ≡ changed_moves (dimension_in m) x (moves_in (line_in m))
+  pub only : MovesOnly (size_in m) m m'
 
 pub record Made (x : calls.Change) (m m' : List ℕ) : Type 0 where
   pub kept : (t : Tree) → Stands m t → Moved x m m' t
@@ -73,5 +73,5 @@ pub record ToRecost (c d n p : ℕ) (x : Move) (u : Upkeep) (m : List ℕ) : Typ
   pub asked : AskedRows c d n (record { goes = p; comes = true; coming = x }) m
   pub place : p < n
   pub number : number_in c m p ≡ x.number
-  pub other : costsIn c d m (number_in c m p) ≡ x.costs → ⊥
+  pub other : costs_in c d m (number_in c m p) ≡ x.costs → ⊥
   pub upkept : UpkeptRows c d n (record { goes = p; comes = true; coming = x }) m u

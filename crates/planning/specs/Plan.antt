@@ -2,25 +2,25 @@
 use Rattle.std.specs.Prelude.{ℕ, ◌+◌, ◌-◌, ◌<◌, ◌≤◌, Bool, true, false, ◌&&◌, ◌≡◌, List, ◌++◌, ltb, length}
 use Rattle.model.specs.Basics.{equal}
 use Rattle.model.specs.Moves.{Row, left, entered}
-use Rattle.model.specs.Calls.{refusedWith, changeRefusal, changeNotice, keepsMoves}
-use Rattle.model.specs.Opening.{changeOpens}
-use Rattle.promises.specs.Layout.{sizeIn, dimensionIn, number_in, costsIn, boardIn}
+use Rattle.model.specs.Calls.{refused_with, change_refusal, change_notice, keeps_moves}
+use Rattle.model.specs.Opening.{change_opens}
+use Rattle.promises.specs.Layout.{size_in, dimension_in, number_in, costs_in, board_in}
 use Rattle.promises.specs.Sound.{Sound}
-use Rattle.promises.specs.Answers.{number_of, counted, refusedBy}
+use Rattle.promises.specs.Answers.{number_of, counted, refused_by}
 use Rattle.promises.specs.declared.Outcome.{Outcome}
 use Rattle.memory.specs.Room.{Room}
-use Rattle.memory.specs.Stores.{setBlock}
+use Rattle.memory.specs.Stores.{set_block}
 use Rattle.search.specs.declared.search.Among.TheVariants.{Listed, Hidden}
 use Rattle.memory.specs.declared.head.Head.{Head}
 use Rattle.upkeep.specs.Change.{AskedRows}
 use Rattle.upkeep.specs.declared.exchange.Upkeep.{Upkeep}
 use Rattle.upkeep.specs.declared.exchange.Exchange.{Exchange}
-use Rattle.rows.specs.Telling.{nobody, filledRows}
+use Rattle.rows.specs.Telling.{nobody, filled_rows}
 use Rattle.rows.specs.Planned.{Foreseen, Tells}
 use Rattle.rows.specs.declared.telling.Coming.{Coming}
 use Rattle.rows.specs.declared.telling.View.{View}
 use Rattle.rows.specs.declared.telling.Telling.{Telling}
-use Rattle.planning.specs.Kind.{call_of, comes, comingOf}
+use Rattle.planning.specs.Kind.{call_of, comes, coming_of}
 use Rattle.planning.specs.Change.{Made, ToEnter, ToWithdraw, ToRecost}
 use Rattle.planning.specs.declared.change.Change.{Change}
 use Rattle.planning.specs.declared.change.Kind.{Kind}
@@ -32,7 +32,7 @@ use Rattle.planning.specs.declared.plan.ChangePlan.{ChangePlan}
 -- Whether a move comes for one that goes, with its costs.
 unfoldable pub alike : ℕ → ℕ → ℕ → Exchange → List ℕ → Bool
 alike c d n k m =
-    k.comes && (ltb k.goes n && equal k.coming.costs (costsIn c d m (number_in c m k.goes)))
+    k.comes && (ltb k.goes n && equal k.coming.costs (costs_in c d m (number_in c m k.goes)))
 
 -- A move that comes has space, or comes for the one of its number; where none comes one goes.
 pub record ReadyRows (c d n : ℕ) (k : Exchange) (m : List ℕ) : Type 0 where
@@ -45,9 +45,9 @@ pub record ReadyRows (c d n : ℕ) (k : Exchange) (m : List ℕ) : Type 0 where
 
 -- What each kind asks of the memory before its moves are made.
 unfoldable pub PreparedFor : Kind → Head → Change → ℕ → Upkeep → List ℕ → Type 0
-PreparedFor Enter h x goes u m = ToEnter h.size h.dimension h.count (comingOf x) u m
+PreparedFor Enter h x goes u m = ToEnter h.size h.dimension h.count (coming_of x) u m
 PreparedFor Withdraw h x goes u m = ToWithdraw h.size h.dimension h.count goes u m × (number_in h.size m goes ≡ x.number)
-PreparedFor Recost h x goes u m = ToRecost h.size h.dimension h.count goes (comingOf x) u m
+PreparedFor Recost h x goes u m = ToRecost h.size h.dimension h.count goes (coming_of x) u m
 
 abbrev pub MovesReady : ChangePlan → List ℕ → Type 0
 MovesReady p m = p.makes ≡ true → PreparedFor p.change.kind p.head p.change p.goes p.upkeep m
@@ -73,22 +73,22 @@ pub record CarriedOut (p : ChangePlan) (m m' : List ℕ) : Type 0 where
   pub between : List ℕ
   pub refused : 0 < number_of p.verdict → m' ≡ m
   pub moves : number_of p.verdict ≡ 0 → MovesMade p m between
-  pub given : number_of p.verdict ≡ 0 → comes p.change.kind ≡ true → m' ≡ setBlock p.head.size p.change.number p.change.block between
+  pub given : number_of p.verdict ≡ 0 → comes p.change.kind ≡ true → m' ≡ set_block p.head.size p.change.number p.change.block between
   pub kept : number_of p.verdict ≡ 0 → comes p.change.kind ≡ false → m' ≡ between
 
 -- ---- what a plan tells
 
 -- The listed moves whose flag changes leave; the hidden ones enter, and the coming one.
-abbrev pub leavingBy : Head → View
-leavingBy h = record { head = h; mark = left; among = Listed; coming = nobody }
+abbrev pub leaving_by : Head → View
+leaving_by h = record { head = h; mark = left; among = Listed; coming = nobody }
 
-abbrev pub enteringBy : Head → Coming → View
-enteringBy h x = record { head = h; mark = entered; among = Hidden; coming = x }
+abbrev pub entering_by : Head → Coming → View
+entering_by h x = record { head = h; mark = entered; among = Hidden; coming = x }
 
 abbrev pub left_of : ChangePlan → Telling
 left_of p =
     record {
-      told = leavingBy p.head;
+      told = leaving_by p.head;
       numbers = p.upkeep.changed;
       count = counted (number_of p.verdict) p.upkeep.left;
     }
@@ -96,16 +96,16 @@ left_of p =
 abbrev pub entered_of : ChangePlan → Telling
 entered_of p =
     record {
-      told = enteringBy p.head (record { told = p.upkeep.listed; place = p.place; entrant = comingOf p.change });
+      told = entering_by p.head (record { told = p.upkeep.listed; place = p.place; entrant = coming_of p.change });
       numbers = p.upkeep.changed;
       count = counted (number_of p.verdict) (p.need - p.upkeep.left);
     }
 
 -- The rows afterwards: first those that leave were put, then those that enter.
-abbrev pub rowsFilled : ChangePlan → List ℕ → List (List ℕ) → List (List ℕ)
-rowsFilled p m rows =
-    filledRows (entered_of p).told (entered_of p).numbers m (left_of p).count (entered_of p).count
-    (filledRows (left_of p).told (left_of p).numbers m 0 (left_of p).count rows)
+abbrev pub rows_filled : ChangePlan → List ℕ → List (List ℕ) → List (List ℕ)
+rows_filled p m rows =
+    filled_rows (entered_of p).told (entered_of p).numbers m (left_of p).count (entered_of p).count
+    (filled_rows (left_of p).told (left_of p).numbers m 0 (left_of p).count rows)
 
 -- ---- the plan of a change
 
@@ -113,23 +113,23 @@ rowsFilled p m rows =
 -- none is where that is what the change does.
 pub record Planned (x : Change) (m : List ℕ) (lent : ℕ) (p : ChangePlan) : Type 0 where
   pub foreseen :
-      Foreseen (refusedWith (changeRefusal (boardIn m) (call_of x))) (changeNotice (boardIn m) (call_of x)) (changeOpens (dimensionIn m) (call_of x)) m lent p.verdict p.need p.opened
+      Foreseen (refused_with (change_refusal (board_in m) (call_of x))) (change_notice (board_in m) (call_of x)) (change_opens (dimension_in m) (call_of x)) m lent p.verdict p.need p.opened
   pub lefts : List Row
   pub entereds : List Row
-  pub notice : number_of p.verdict ≡ 0 → lefts ++ entereds ≡ changeNotice (boardIn m) (call_of x)
+  pub notice : number_of p.verdict ≡ 0 → lefts ++ entereds ≡ change_notice (board_in m) (call_of x)
   pub leaves : Tells p.verdict lefts m (left_of p)
   pub enters : Tells p.verdict entereds m (entered_of p)
   pub within : p.upkeep.left ≤ p.need
   pub enough : (left_of p).count + (entered_of p).count ≤ lent
   pub able : Able p m
   pub change : p.change ≡ x
-  pub size : number_of p.verdict ≡ 0 → p.head.size ≡ sizeIn m
+  pub size : number_of p.verdict ≡ 0 → p.head.size ≡ size_in m
   pub idle : number_of p.verdict ≡ 0 → p.makes ≡ false → Made (call_of x) m m
-  pub nothing : Sound m → keepsMoves (boardIn m) (call_of x) ≡ true → number_of p.verdict ≡ 0 → p.makes ≡ false
+  pub nothing : Sound m → keeps_moves (board_in m) (call_of x) ≡ true → number_of p.verdict ≡ 0 → p.makes ≡ false
 
 -- No move changes, and no row is told.
 pub record KeepsMoves (h : Head) (x : Change) (outcome : Outcome) (p : ChangePlan) : Type 0 where
-  pub verdict : p.verdict ≡ refusedBy outcome 0
+  pub verdict : p.verdict ≡ refused_by outcome 0
   pub need : p.need ≡ 0
   pub opened : p.opened ≡ 0
   pub makes : p.makes ≡ false

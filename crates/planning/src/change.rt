@@ -7,7 +7,7 @@ use upkeep::Exchange;
 use zorder::COSTS;
 
 // Which change is asked for.
-#[derive(Drop)]
+#[derive(Clone, Copy)]
 pub enum Kind {
     Enter,
     Withdraw,
@@ -15,7 +15,7 @@ pub enum Kind {
 }
 
 // What a change is asked: a withdrawal does not look at block and costs.
-#[derive(Drop)]
+#[derive(Clone, Copy)]
 pub struct Change {
     pub kind: Kind,
     pub number: u16,
@@ -36,7 +36,7 @@ pub fn comes(kind: Kind) -> bool
 
 // Says whether the number has to be new to the board.
 pub(crate) fn is_new(kind: Kind) -> bool
-    ensures { result ≡ spec.isNew kind }
+    ensures { result ≡ spec.is_new kind }
 {
     match kind {
         Kind::Enter => true,
@@ -47,7 +47,7 @@ pub(crate) fn is_new(kind: Kind) -> bool
 
 // Gives the move that comes.
 pub fn coming_of(x: Change) -> Move
-    ensures { result ≡ spec.comingOf x }
+    ensures { result ≡ spec.coming_of x }
 {
     let costs = x.costs;
     Move {
@@ -58,7 +58,7 @@ pub fn coming_of(x: Change) -> Move
 
 // Gives the exchange of moves that a change makes: its number's place is the one that goes.
 pub(crate) fn exchange_of(x: Change, goes: usize) -> Exchange
-    ensures { result ≡ spec.exchangeOf x goes }
+    ensures { result ≡ spec.exchange_of x goes }
 {
     let kind = x.kind;
     Exchange {

@@ -42,7 +42,7 @@ fn same(p: [u16; COSTS], q: [u16; COSTS]) -> bool
 // Gives the rows that the notice of a change needs.
 pub fn needed(u: Upkeep) -> usize
     requires { Counted u }
-    ensures { result ≡ Rattle.planning.specs.Change.neededRows u }
+    ensures { result ≡ Rattle.planning.specs.Change.needed_rows u }
 {
     if u.listed {
         return u.left + u.entered + 1;

@@ -1,6 +1,6 @@
 // What turns a change down, in the stated order, but for 3 and 8.
 ghost use Rattle.std.specs.Prelude.{◌≤◌};
-ghost use Rattle.zorder.specs.Address.{rowCosts};
+ghost use Rattle.zorder.specs.Address.{row_costs};
 ghost use Rattle.planning.specs.Kind.{JudgesBy};
 
 use crate::change::{Change, comes, is_new};
@@ -10,7 +10,7 @@ use zorder::zero_past;
 
 // `on` says whether the number is on the board. The detail is zero in every case.
 pub fn judge(h: Head, x: Change, on: bool) -> Outcome
-    requires { h.dimension ≤ rowCosts }
+    requires { h.dimension ≤ row_costs }
     ensures { JudgesBy h x on result }
 {
     let kind = x.kind;

@@ -1,4 +1,6 @@
 // Enter, withdraw and re-cost planned: what a change will say, tell and do, found without writing.
+#![tactic(auto)]
+
 mod change;
 mod foresee;
 mod judge;

@@ -15,7 +15,7 @@ use upkeep::{Upkeep, upkeep_of};
 // alone tells zero of a refused call. `makes` says that moves change: then the move at place `goes`
 // goes, if there is one, and one that comes gets `place`. An accepted change that makes none gives
 // its block all the same.
-#[derive(Drop)]
+#[derive(Clone, Copy)]
 pub struct ChangePlan {
     pub verdict: Verdict,
     pub need: usize,

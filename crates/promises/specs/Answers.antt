@@ -7,46 +7,46 @@ use Rattle.promises.specs.declared.Verdict.{Verdict}
 use Rattle.promises.specs.declared.Outcome.{Outcome}
 use Rattle.promises.specs.declared.Outcome.TheVariants.{Accepted, ShortMemory, OutOfRange, Unsound, NumberTooLarge, NumberTwice, NumberAbsent, BadArgument, FewRows, BlockTooLarge, BadHours}
 
-unfoldable pub outcomeNumber : Outcome → ℕ
-outcomeNumber Accepted = 0
-outcomeNumber ShortMemory = 1
-outcomeNumber OutOfRange = 2
-outcomeNumber Unsound = 3
-outcomeNumber NumberTooLarge = 4
-outcomeNumber NumberTwice = 5
-outcomeNumber NumberAbsent = 6
-outcomeNumber BadArgument = 7
-outcomeNumber FewRows = 8
-outcomeNumber BlockTooLarge = 11
-outcomeNumber BadHours = 12
+unfoldable pub outcome_number : Outcome → ℕ
+outcome_number Accepted = 0
+outcome_number ShortMemory = 1
+outcome_number OutOfRange = 2
+outcome_number Unsound = 3
+outcome_number NumberTooLarge = 4
+outcome_number NumberTwice = 5
+outcome_number NumberAbsent = 6
+outcome_number BadArgument = 7
+outcome_number FewRows = 8
+outcome_number BlockTooLarge = 11
+outcome_number BadHours = 12
 
 abbrev pub number_of : Verdict → ℕ
-number_of v = outcomeNumber v.outcome
+number_of v = outcome_number v.outcome
 
 abbrev pub answer_of : Verdict → calls.Answer
 answer_of v = record { number = number_of v; detail = v.detail }
 
 -- The verdicts by their outcome and detail.
-abbrev pub acceptedVerdict : Verdict
-acceptedVerdict = record { outcome = Accepted; detail = 0 }
+abbrev pub accepted_verdict : Verdict
+accepted_verdict = record { outcome = Accepted; detail = 0 }
 
-abbrev pub refusedBy : Outcome → ℕ → Verdict
-refusedBy o detail = record { outcome = o; detail = detail }
+abbrev pub refused_by : Outcome → ℕ → Verdict
+refused_by o detail = record { outcome = o; detail = detail }
 
 -- A row in memory as numbers: for load the number, the block and the costs, for a result a mark, the number and the costs.
-unfoldable pub inputRow : List ℕ → InputRow
-inputRow ns = record { number = get_or ns 0 0; block = get_or ns 1 0; costs = drop 2 ns }
+unfoldable pub input_row : List ℕ → InputRow
+input_row ns = record { number = get_or ns 0 0; block = get_or ns 1 0; costs = drop 2 ns }
 
 unfoldable pub result_row : List ℕ → Row
 result_row ns = record { mark = get_or ns 0 0; number = get_or ns 1 0; costs = drop 2 ns }
 
 -- A block's hours as numbers: the count, then start and end of each of four windows.
-unfoldable pub windowAt : List ℕ → ℕ → Window
-windowAt ns i = record { start = get_or ns (1 + 2 * i) 0; end = get_or ns (2 + 2 * i) 0 }
+unfoldable pub window_at : List ℕ → ℕ → Window
+window_at ns i = record { start = get_or ns (1 + 2 * i) 0; end = get_or ns (2 + 2 * i) 0 }
 
-unfoldable pub blockHours : List ℕ → Hours
-blockHours ns =
-    record { count = get_or ns 0 0; windows = windowAt ns 0 ∷ windowAt ns 1 ∷ windowAt ns 2 ∷ windowAt ns 3 ∷ [] }
+unfoldable pub block_hours : List ℕ → Hours
+block_hours ns =
+    record { count = get_or ns 0 0; windows = window_at ns 0 ∷ window_at ns 1 ∷ window_at ns 2 ∷ window_at ns 3 ∷ [] }
 
 -- What a call that answers with this number tells: "A refused call's counts .. are zero."
 unfoldable pub counted : ℕ → ℕ → ℕ
@@ -54,6 +54,6 @@ counted zero n = n
 counted (suc k) n = 0
 
 -- The lent rows afterwards: those told first, then those that were there; refused, all as they were.
-unfoldable pub rowsAfter : ℕ → List Row → List Row → List Row
-rowsAfter zero new old = new ++ drop (length new) old
-rowsAfter (suc k) new old = old
+unfoldable pub rows_after : ℕ → List Row → List Row → List Row
+rows_after zero new old = new ++ drop (length new) old
+rows_after (suc k) new old = old

@@ -4,82 +4,82 @@ use Rattle.std.specs.Prelude.{ℕ, zero, suc, ◌+◌, ◌*◌, ◌/◌, ◌%◌
 use Rattle.zorder.specs.Address.{padded}
 use Rattle.model.specs.Basics.{select}
 use Rattle.model.specs.Moves.{Move}
-use Rattle.model.specs.Calls.{Board, blocksOn}
-use Rattle.line.specs.Line.{Placed, movesIn}
+use Rattle.model.specs.Calls.{Board, blocks_on}
+use Rattle.line.specs.Line.{Placed, moves_in}
 
 unfoldable pub word_at : ℕ → List ℕ → ℕ
 word_at o m = get_or m o 0 + 256 * get_or m (o + 1) 0
 
-unfoldable pub setWord : ℕ → ℕ → List ℕ → List ℕ
-setWord o v m = set (set m o (v % 256)) (o + 1) (v / 256)
+unfoldable pub set_word : ℕ → ℕ → List ℕ → List ℕ
+set_word o v m = set (set m o (v % 256)) (o + 1) (v / 256)
 
 -- Where each field stands.
-abbrev pub sizePlace : ℕ
-sizePlace = 0
+abbrev pub size_place : ℕ
+size_place = 0
 
-abbrev pub dimensionPlace : ℕ
-dimensionPlace = 2
+abbrev pub dimension_place : ℕ
+dimension_place = 2
 
-abbrev pub formatPlace : ℕ
-formatPlace = 3
+abbrev pub format_place : ℕ
+format_place = 3
 
-abbrev pub countPlace : ℕ
-countPlace = 4
+abbrev pub count_place : ℕ
+count_place = 4
 
-abbrev pub numberPlace : ℕ → ℕ
-numberPlace i = 16 + 2 * i
+abbrev pub number_place : ℕ → ℕ
+number_place i = 16 + 2 * i
 
-abbrev pub heightPlace : ℕ → ℕ → ℕ
-heightPlace c i = 16 + 2 * c + i
+abbrev pub height_place : ℕ → ℕ → ℕ
+height_place c i = 16 + 2 * c + i
 
-abbrev pub flagPlace : ℕ → ℕ → ℕ
-flagPlace c n = 16 + 3 * c + n
+abbrev pub flag_place : ℕ → ℕ → ℕ
+flag_place c n = 16 + 3 * c + n
 
-abbrev pub blockPlace : ℕ → ℕ → ℕ
-blockPlace c n = 16 + 4 * c + n
+abbrev pub block_place : ℕ → ℕ → ℕ
+block_place c n = 16 + 4 * c + n
 
-abbrev pub costPlace : ℕ → ℕ → ℕ → ℕ
-costPlace c n j = 16 + 5 * c + 16 * n + 2 * j
+abbrev pub cost_place : ℕ → ℕ → ℕ → ℕ
+cost_place c n j = 16 + 5 * c + 16 * n + 2 * j
 
-abbrev pub workPlace : ℕ → ℕ → ℕ
-workPlace c i = 16 + 21 * c + 2 * i
+abbrev pub work_place : ℕ → ℕ → ℕ
+work_place c i = 16 + 21 * c + 2 * i
 
 -- The head: C, d, the format and how many moves are on the board.
-unfoldable pub sizeIn : List ℕ → ℕ
-sizeIn m = word_at sizePlace m
+unfoldable pub size_in : List ℕ → ℕ
+size_in m = word_at size_place m
 
-unfoldable pub dimensionIn : List ℕ → ℕ
-dimensionIn m = get_or m dimensionPlace 0
+unfoldable pub dimension_in : List ℕ → ℕ
+dimension_in m = get_or m dimension_place 0
 
 unfoldable pub format_in : List ℕ → ℕ
-format_in m = get_or m formatPlace 0
+format_in m = get_or m format_place 0
 
 -- The number of this layout. A layout that reads the same bytes otherwise takes another.
-abbrev pub formatNumber : ℕ
-formatNumber = 1
+abbrev pub format_number : ℕ
+format_number = 1
 
-unfoldable pub countIn : List ℕ → ℕ
-countIn m = word_at countPlace m
+unfoldable pub count_in : List ℕ → ℕ
+count_in m = word_at count_place m
 
 -- By place in Z-order: the number of the move, and its height. By number: the flag that says whether it is listed, its block and its costs.
 unfoldable pub number_in : ℕ → List ℕ → ℕ → ℕ
-number_in c m i = word_at (numberPlace i) m
+number_in c m i = word_at (number_place i) m
 
-unfoldable pub heightIn : ℕ → List ℕ → ℕ → ℕ
-heightIn c m i = get_or m (heightPlace c i) 0
+unfoldable pub height_in : ℕ → List ℕ → ℕ → ℕ
+height_in c m i = get_or m (height_place c i) 0
 
-unfoldable pub flagIn : ℕ → List ℕ → ℕ → ℕ
-flagIn c m n = get_or m (flagPlace c n) 0
+unfoldable pub flag_in : ℕ → List ℕ → ℕ → ℕ
+flag_in c m n = get_or m (flag_place c n) 0
 
-unfoldable pub blockIn : ℕ → List ℕ → ℕ → ℕ
-blockIn c m n = get_or m (blockPlace c n) 0
+unfoldable pub block_in : ℕ → List ℕ → ℕ → ℕ
+block_in c m n = get_or m (block_place c n) 0
 
-unfoldable pub costIn : ℕ → List ℕ → ℕ → ℕ → ℕ
-costIn c m n j = word_at (costPlace c n j) m
+unfoldable pub cost_in : ℕ → List ℕ → ℕ → ℕ → ℕ
+cost_in c m n j = word_at (cost_place c n j) m
 
 -- A place of the work area, which holds numbers of moves while nodes are removed.
-unfoldable pub workIn : ℕ → List ℕ → ℕ → ℕ
-workIn c m i = word_at (workPlace c i) m
+unfoldable pub work_in : ℕ → List ℕ → ℕ → ℕ
+work_in c m i = word_at (work_place c i) m
 
 module _ {A : Type 0} where
   -- f 0, f 1, .., k entries in all.
@@ -88,37 +88,37 @@ module _ {A : Type 0} where
   tab f (suc k) = tab f k ++ f k ∷ []
 
 -- The heights of the first n rows.
-unfoldable pub heightsFrom : ℕ → ℕ → List ℕ → List ℕ
-heightsFrom c n m = tab (heightIn c m) n
+unfoldable pub heights_from : ℕ → ℕ → List ℕ → List ℕ
+heights_from c n m = tab (height_in c m) n
 
-unfoldable pub costsIn : ℕ → ℕ → List ℕ → ℕ → List ℕ
-costsIn c d m n = padded d (tab (costIn c m n) d)
+unfoldable pub costs_in : ℕ → ℕ → List ℕ → ℕ → List ℕ
+costs_in c d m n = padded d (tab (cost_in c m n) d)
 
-unfoldable pub moveIn : ℕ → ℕ → List ℕ → ℕ → Move
-moveIn c d m i = record { number = number_in c m i; costs = costsIn c d m (number_in c m i) }
+unfoldable pub move_in : ℕ → ℕ → List ℕ → ℕ → Move
+move_in c d m i = record { number = number_in c m i; costs = costs_in c d m (number_in c m i) }
 
-unfoldable pub placedIn : ℕ → ℕ → List ℕ → ℕ → Placed
-placedIn c d m i = record { move = moveIn c d m i; height = heightIn c m i }
+unfoldable pub placed_in : ℕ → ℕ → List ℕ → ℕ → Placed
+placed_in c d m i = record { move = move_in c d m i; height = height_in c m i }
 
 -- The line that n rows of the memory hold, for a given size and number of costs; and the memory's own.
-unfoldable pub lineFrom : ℕ → ℕ → ℕ → List ℕ → List Placed
-lineFrom c d n m = tab (placedIn c d m) n
+unfoldable pub line_from : ℕ → ℕ → ℕ → List ℕ → List Placed
+line_from c d n m = tab (placed_in c d m) n
 
-unfoldable pub lineIn : List ℕ → List Placed
-lineIn m = lineFrom (sizeIn m) (dimensionIn m) (countIn m) m
+unfoldable pub line_in : List ℕ → List Placed
+line_in m = line_from (size_in m) (dimension_in m) (count_in m) m
 
-unfoldable pub boardIn : List ℕ → Board
-boardIn m =
+unfoldable pub board_in : List ℕ → Board
+board_in m =
     record {
-      size = sizeIn m;
-      dimension = dimensionIn m;
-      moves = movesIn (lineIn m);
-      blocks = blocksOn (movesIn (lineIn m)) (blockIn (sizeIn m) m);
+      size = size_in m;
+      dimension = dimension_in m;
+      moves = moves_in (line_in m);
+      blocks = blocks_on (moves_in (line_in m)) (block_in (size_in m) m);
     }
 
 -- The kept list: the moves whose flag is 1.
-unfoldable pub keptFrom : ℕ → List ℕ → List Move → List Move
-keptFrom c m ms = select (λ x. eqb (flagIn c m x.number) 1) ms
+unfoldable pub kept_from : ℕ → List ℕ → List Move → List Move
+kept_from c m ms = select (λ x. eqb (flag_in c m x.number) 1) ms
 
-unfoldable pub keptIn : List ℕ → List Move
-keptIn m = keptFrom (sizeIn m) m (movesIn (lineIn m))
+unfoldable pub kept_in : List ℕ → List Move
+kept_in m = kept_from (size_in m) m (moves_in (line_in m))

@@ -1,6 +1,6 @@
 // What is read off a verdict, and the verdict on the rows lent.
 ghost use Rattle.std.specs.Prelude.{◌≡◌, eqb};
-ghost use Rattle.model.specs.Calls.{rowsAnswer};
+ghost use Rattle.model.specs.Calls.{rows_answer};
 ghost use Rattle.promises.specs.Answers as spec;
 
 use crate::{Outcome, Verdict};
@@ -41,7 +41,7 @@ pub fn counted(verdict: Verdict, n: usize) -> usize
 
 // Gives refusal 8, if more rows are needed than lent.
 pub fn enough(need: usize, lent: usize) -> Verdict
-    ensures { spec.answer_of result ≡ rowsAnswer need lent }
+    ensures { spec.answer_of result ≡ rows_answer need lent }
 {
     if lent < need {
         return Verdict {

@@ -1,12 +1,12 @@
 // Band: the moves that at most so many others dominate. Who dominates a move stands before it, and
 // a listed move none does.
 ghost use Rattle.std.specs.Prelude.{◌≡◌, ◌<◌};
-ghost use Rattle.memory.specs.Held.{SoundAt, moveHeld};
+ghost use Rattle.memory.specs.Held.{SoundAt, move_held};
 ghost use Rattle.memory.specs.Room.{Readable};
 ghost use Rattle.search.specs.Search.{Corners};
 ghost use Rattle.search.specs.declared.search.Among.TheVariants.{All};
 ghost use Rattle.upkeep.specs.Found.{FindsMoves};
-ghost use Rattle.query.specs.Band.{bandOf, fewBefore};
+ghost use Rattle.query.specs.Band.{band_of, few_before};
 
 use dominance::{bounds_of, exceeds};
 use memory::{Head, costs_at, is_listed, number_at};
@@ -20,7 +20,7 @@ use zorder::COSTS;
 fn few_before(m: &[u8], h: Head, most: usize, i: usize, corners: &[[u16; COSTS]; RUNS]) -> bool
     requires readable { Readable h m.now × (i < h.count) }
     requires corners { Corners All h.size m.now h.count corners.now }
-    ensures { result ≡ fewBefore h most m.now i }
+    ensures { result ≡ few_before h most m.now i }
 {
     let costs = costs_at(m, h, i);
     let q = bounds_of(h.dimension, costs);
@@ -42,7 +42,7 @@ fn few_before(m: &[u8], h: Head, most: usize, i: usize, corners: &[[u16; COSTS];
 fn in_band(m: &[u8], h: Head, most: usize, i: usize, corners: &[[u16; COSTS]; RUNS]) -> bool
     requires sound_at { SoundAt h m.now × (i < h.count) }
     requires corners { Corners All h.size m.now h.count corners.now }
-    ensures { result ≡ bandOf h most m.now (moveHeld h m.now i) }
+    ensures { result ≡ band_of h most m.now (move_held h m.now i) }
 {
     if is_listed(m, h.size, number_at(m, h.size, i)) {
         return true;
@@ -53,7 +53,7 @@ fn in_band(m: &[u8], h: Head, most: usize, i: usize, corners: &[[u16; COSTS]; RU
 // Finds the moves that at most `most` others dominate.
 pub(crate) fn find_band(m: &[u8], h: Head, most: usize) -> Found
     requires { SoundAt h m.now }
-    ensures { FindsMoves h (bandOf h most m.now) m.now result }
+    ensures { FindsMoves h (band_of h most m.now) m.now result }
 {
     let n = h.count;
     let corners = corners_of(m, h, Among::All);

@@ -1,4 +1,6 @@
 // Band, on k and chosen costs, planned without writing. None has a `requires`: they refuse.
+#![tactic(auto)]
+
 mod band;
 mod plan;
 mod rule;

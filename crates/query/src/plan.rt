@@ -1,6 +1,6 @@
 // Band, on k and chosen costs planned: 3, then 7, then the moves that few enough others beat,
 // and 8.
-ghost use Rattle.model.specs.Calls.{bandQuery, onKQuery, chosenQuery};
+ghost use Rattle.model.specs.Calls.{band_query, on_k_query, chosen_query};
 ghost use Rattle.rows.specs.Planned.{QueryPlanned};
 
 use crate::band::find_band;
@@ -12,7 +12,7 @@ use soundness::{Held, sound_head};
 
 // Plans band (Definition 3): the moves that b others or fewer dominate.
 pub fn plan_band(m: &[u8], b: usize, lent: usize) -> Plan
-    ensures { QueryPlanned (bandQuery b) m.now lent result }
+    ensures { QueryPlanned (band_query b) m.now lent result }
 {
     let Held::Sound(h) = sound_head(m) else {
         return refused(Outcome::Unsound, 0);
@@ -25,7 +25,7 @@ pub fn plan_band(m: &[u8], b: usize, lent: usize) -> Plan
 
 // Plans on k (Definition 6): the moves that none dominates on k of the costs.
 pub fn plan_on_k(m: &[u8], k: usize, lent: usize) -> Plan
-    ensures { QueryPlanned (onKQuery k) m.now lent result }
+    ensures { QueryPlanned (on_k_query k) m.now lent result }
 {
     let Held::Sound(h) = sound_head(m) else {
         return refused(Outcome::Unsound, 0);
@@ -39,7 +39,7 @@ pub fn plan_on_k(m: &[u8], k: usize, lent: usize) -> Plan
 // Plans chosen costs (Definition 8): the moves that none dominates on them, out of all moves. Bit i
 // of the set stands for cost i.
 pub fn plan_chosen(m: &[u8], set: usize, lent: usize) -> Plan
-    ensures { QueryPlanned (chosenQuery set) m.now lent result }
+    ensures { QueryPlanned (chosen_query set) m.now lent result }
 {
     let Held::Sound(h) = sound_head(m) else {
         return refused(Outcome::Unsound, 0);

@@ -1,11 +1,11 @@
 // On k and chosen costs: the moves that none beats. What some move beats, a listed one does, so
 // each move is held against the listed ones only.
 ghost use Rattle.std.specs.Prelude.{◌≤◌, ◌<◌, ◌%◌, ◌^◌};
-ghost use Rattle.zorder.specs.Address.{rowCosts};
-ghost use Rattle.dominance.specs.Lanes.{Lanes, bound, isChosen};
+ghost use Rattle.zorder.specs.Address.{row_costs};
+ghost use Rattle.dominance.specs.Lanes.{Lanes, bound, is_chosen};
 ghost use Rattle.memory.specs.Held.{SoundAt};
 ghost use Rattle.memory.specs.Room.{Readable};
-ghost use Rattle.memory.specs.Tests.{isListed};
+ghost use Rattle.memory.specs.Tests.{is_listed};
 ghost use Rattle.search.specs.Search.{First, ListedCorners};
 ghost use Rattle.upkeep.specs.Found.{FindsMoves};
 ghost use Rattle.query.specs.Rule.{Fair};
@@ -22,7 +22,7 @@ use zorder::COSTS;
 // The next listed place from i on.
 fn next_listed(m: &[u8], h: Head, i: usize) -> usize
     requires { Readable h m.now × (i ≤ h.count) }
-    ensures { First (isListed h.size m.now) i h.count result }
+    ensures { First (is_listed h.size m.now) i h.count result }
 {
     let n = h.count;
     let mut j = i;
@@ -37,8 +37,8 @@ fn next_listed(m: &[u8], h: Head, i: usize) -> usize
 
 // Bounds on those of the first d costs that are in the set.
 fn chosen_bounds(d: usize, set: usize, q: [u16; COSTS]) -> [u16; COSTS]
-    requires { d ≤ rowCosts }
-    ensures { Lanes (bound (isChosen (set % 2 ^ d)) q) result }
+    requires { d ≤ row_costs }
+    ensures { Lanes (bound (is_chosen (set % 2 ^ d)) q) result }
 {
     bounds_in(set % (1usize << d), q)
 }
@@ -113,7 +113,7 @@ fn beater(
 // Finds the moves that none beats. What beat one move often beats the next.
 pub(crate) fn find_unbeaten(m: &[u8], h: Head, rule: Rule) -> Found
     requires { SoundAt h m.now × Fair rule }
-    ensures { FindsMoves h (spec.unbeatenOf h rule m.now) m.now result }
+    ensures { FindsMoves h (spec.unbeaten_of h rule m.now) m.now result }
 {
     let n = h.count;
     let corners = corners_of(m, h, Among::Listed);

@@ -16,7 +16,7 @@ use types.Tokens.{lft_new, lft_end, lent_back}
 use denote.RattleType.{RattleType}
 use denote.Laws.{Is, shows}
 use denote.Memory.{cell_at, part_of, part_at}
-use denote.Plain.{uint_Makes, uint_vals, uint_Tells}
+use denote.Plain.{uint__makes, uint_vals, uint__tells}
 use denote.Array.{array_vals, Array-Tells, Array-Makes}
 use denote.Builtin.{u64, Array}
 use denote.Ref.{Bor, ShrRef}
@@ -43,14 +43,14 @@ module _ (n : ℕ) where
     words-in : (v : Val) → Is Words ns (v ∷ []) → ent 𝓤 (H.at full_share ty b 0 v) (sem 𝓛 (part_at Words full_share ns b 0))
     unfolding part_of
     words-in v is =
-        qed 𝓛 (‵ (fat full_share ty b 0 v) ∷ []) ∵ owned ! Words (Is Words) (Array-Makes 𝓛 u64 (uint_Makes 𝓛 w64) n) ns (v ∷ []) is $ move ! (1 ∷ 0 ∷ []) $ fjoin ! $
+        qed 𝓛 (‵ (fat full_share ty b 0 v) ∷ []) ∵ owned ! Words (Is Words) (Array-Makes 𝓛 u64 (uint__makes 𝓛 w64) n) ns (v ∷ []) is $ move ! (1 ∷ 0 ∷ []) $ fjoin ! $
         fpack ! (List Val) (λ vs. fsep (cell_at full_share Words.mir vs b 0) (Words.own ns vs)) (v ∷ []) $ done !
 
     words-out : ent 𝓤 (sem 𝓛 (part_at Words full_share ns b 0)) (H.at full_share ty b 0 (words_val ns))
     unfolding part_of
     words-out =
         qed 𝓛 (‵ (part_at Words full_share ns b 0) ∷ []) ∵ fpick ! (λ vs. fsplit ! $ move ! (1 ∷ []) $ facts ! Words (Is Words) (shows 𝓛 Words) ns vs (λ is.
-        rewrite ! 0 (λ (us : List Val). ‵ (cell_at full_share Words.mir us b 0)) (Array-Tells u64 (uint_vals w64) (uint_Tells w64) n ns vs is) refl $ done !))
+        rewrite ! 0 (λ (us : List Val). ‵ (cell_at full_share Words.mir us b 0)) (Array-Tells u64 (uint_vals w64) (uint__tells w64) n ns vs is) refl $ done !))
 
   module _ {M : Type 1} {𝓤 : Ura M} {𝓛 : Logic 𝓤} {K : Type 0} {Γ : List (Item 𝓤)} {G : Goal 𝓤 𝓛.H} (ℓ : Lifetime) (ns : List ℕ) (b : ℕ) where
     pub words-lent : K → Soaks G → (v : Val) → Is Words ns (v ∷ [])

@@ -1,40 +1,40 @@
 -- What a call will say and tell, found without writing.
 use Rattle.std.specs.Prelude.{ℕ, ◌+◌, ◌≤◌, ◌<◌, Bool, ◌≡◌, List, ◌++◌, map, length, take, drop}
 use Rattle.model.specs.Moves.{Row}
-use Rattle.model.specs.Lists.{listedRows}
+use Rattle.model.specs.Lists.{listed_rows}
 use Rattle.model.specs.Tree.{Tree}
 use Rattle.model.specs.Calls as calls
-use Rattle.model.specs.Calls.{accepted, or_else, rowsAnswer, Query, queryRefusal, queryRows}
-use Rattle.model.specs.Opening.{queryOpens}
-use Rattle.promises.specs.Layout.{dimensionIn, boardIn}
+use Rattle.model.specs.Calls.{accepted, or_else, rows_answer, Query, query_refusal, query_rows}
+use Rattle.model.specs.Opening.{query_opens}
+use Rattle.promises.specs.Layout.{dimension_in, board_in}
 use Rattle.promises.specs.Sound.{Stands, Sound}
-use Rattle.promises.specs.Answers.{answer_of, number_of, counted, result_row, refusedBy}
+use Rattle.promises.specs.Answers.{answer_of, number_of, counted, result_row, refused_by}
 use Rattle.promises.specs.declared.Verdict.{Verdict}
 use Rattle.promises.specs.declared.Outcome.TheVariants.{Unsound}
 use Rattle.promises.specs.declared.CallResult.{CallResult}
 use Rattle.memory.specs.Held.{SoundAt}
 use Rattle.memory.specs.declared.head.Head.{Head}
-use Rattle.upkeep.specs.Found.{Finds, foundMoves}
+use Rattle.upkeep.specs.Found.{Finds, found_moves}
 use Rattle.upkeep.specs.declared.found.Found.{Found}
-use Rattle.rows.specs.Telling.{TellingAsked, toldRows}
+use Rattle.rows.specs.Telling.{TellingAsked, told_rows}
 use Rattle.rows.specs.declared.plan.Plan.{Plan}
 use Rattle.rows.specs.declared.telling.Telling.{Telling}
 
 -- The answer of a call that is refused so, 3 and 8 apart, and has these rows.
-abbrev pub answerBy : calls.Answer → List Row → ℕ → calls.Answer
-answerBy refusal rows lent = or_else refusal (rowsAnswer (length rows) lent)
+abbrev pub answer_by : calls.Answer → List Row → ℕ → calls.Answer
+answer_by refusal rows lent = or_else refusal (rows_answer (length rows) lent)
 
 -- What is foreseen of such a call: the verdict, 3 of memory that is not sound; and where 8 is judged, so where nothing before it
 -- turns the call down, the rows needed and the nodes opened.
 pub record Foreseen (refusal : calls.Answer) (rows : List Row) (nodes : Tree → ℕ) (m : List ℕ) (lent : ℕ) (v : Verdict) (need opened : ℕ) : Type 0 where
-  pub sound : Sound m → answer_of v ≡ answerBy refusal rows lent
-  pub unsound : (Sound m → ⊥) → v ≡ refusedBy Unsound 0
+  pub sound : Sound m → answer_of v ≡ answer_by refusal rows lent
+  pub unsound : (Sound m → ⊥) → v ≡ refused_by Unsound 0
   pub needs : Sound m → refusal.number ≡ 0 → need ≡ length rows
   pub opens : (s : Sound m) → refusal.number ≡ 0 → opened ≡ nodes s.tree
 
 -- A telling has these rows, if the call is accepted; refused, it tells none, and then the memory may be any.
 pub record Tells (v : Verdict) (new : List Row) (m : List ℕ) (t : Telling) : Type 0 where
-  pub rows : 0 < t.count → map result_row (toldRows t.told t.numbers m) ≡ new
+  pub rows : 0 < t.count → map result_row (told_rows t.told t.numbers m) ≡ new
   pub count : number_of v ≡ 0 → t.count ≡ length new
   pub none : 0 < number_of v → t.count ≡ 0
   pub asked : 0 < t.count → TellingAsked t.told m
@@ -46,7 +46,7 @@ pub record Plans (refusal : calls.Answer) (rows : List Row) (nodes : Tree → �
   pub enough : p.telling.count ≤ lent
 
 abbrev pub QueryPlanned : Query → List ℕ → ℕ → Plan → Type 0
-QueryPlanned q m lent = Plans (queryRefusal (boardIn m) q) (queryRows (boardIn m) q) (queryOpens (dimensionIn m) q) m lent
+QueryPlanned q m lent = Plans (query_refusal (board_in m) q) (query_rows (board_in m) q) (query_opens (dimension_in m) q) m lent
 
 -- A plan that tells nothing: a check before 8 refused.
 pub record Refuses (v : Verdict) (p : Plan) : Type 0 where
@@ -62,7 +62,7 @@ pub record PlansFound (h : Head) (found : Found) (opened lent : ℕ) (p : Plan) 
       → (refusal : calls.Answer)
       → refusal ≡ accepted
       → (rows : List Row)
-      → listedRows (foundMoves h.size h.dimension h.count test m) ≡ rows
+      → listed_rows (found_moves h.size h.dimension h.count test m) ≡ rows
       → (nodes : Tree → ℕ)
       → ((t : Tree) → Stands m t → opened ≡ nodes t)
       → Plans refusal rows nodes m lent p

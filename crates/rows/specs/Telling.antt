@@ -1,18 +1,18 @@
 -- What is told of one memory: the moves of a set of numbers, in Z-order, under one mark, and the coming move of a notice before
 -- the move at its place. First all rows of a telling, then the same one by one.
-use Rattle.zorder.specs.Address.{rowCosts}
+use Rattle.zorder.specs.Address.{row_costs}
 use Rattle.std.specs.Prelude.{ℕ, zero, suc, ◌+◌, ◌-◌, ◌≤◌, Bool, false, cond, ◌&&◌, List, [], ◌∷◌, ◌++◌, map, eqb, ltb, set, replicate}
-use Rattle.model.specs.Basics.{select, numbersFrom, first_or}
+use Rattle.model.specs.Basics.{select, numbers_from, first_or}
 use Rattle.model.specs.Moves.{listed}
-use Rattle.promises.specs.Layout.{number_in, moveIn}
-use Rattle.dominance.specs.Move.{asMove}
+use Rattle.promises.specs.Layout.{number_in, move_in}
+use Rattle.dominance.specs.Move.{as_move}
 use Rattle.memory.specs.Room.{Readable}
-use Rattle.search.specs.Search.{looksAt}
+use Rattle.search.specs.Search.{looks_at}
 use Rattle.search.specs.declared.search.Among.TheVariants.{All}
 use Rattle.memory.specs.declared.head.Head.{Head}
 use Rattle.numbers.specs.Set.{in_set}
-use Rattle.upkeep.specs.Change.{placesIn}
-use Rattle.rows.specs.Rows.{moveNumbers}
+use Rattle.upkeep.specs.Change.{places_in}
+use Rattle.rows.specs.Rows.{move_numbers}
 use Rattle.rows.specs.declared.telling.Coming.{Coming}
 use Rattle.rows.specs.declared.telling.View.{View}
 use Rattle.rows.specs.declared.telling.Telling.{Telling}
@@ -22,35 +22,35 @@ pub record TellingAsked (t : View) (m : List ℕ) : Type 0 where
   pub place : t.coming.place ≤ t.head.count
 
 -- Whether the move at place i is told.
-unfoldable pub tellsPlace : View → List ℕ → List ℕ → ℕ → Bool
-tellsPlace t numbers m i = in_set numbers (number_in t.head.size m i) && looksAt t.among t.head.size m i
+unfoldable pub tells_place : View → List ℕ → List ℕ → ℕ → Bool
+tells_place t numbers m i = in_set numbers (number_in t.head.size m i) && looks_at t.among t.head.size m i
 
 -- The rows of some places under a mark.
 unfoldable pub rows_at : ℕ → ℕ → ℕ → List ℕ → List ℕ → List (List ℕ)
-rows_at c d mark places m = map (λ i. moveNumbers mark (moveIn c d m i)) places
+rows_at c d mark places m = map (λ i. move_numbers mark (move_in c d m i)) places
 
 -- The coming move's row.
-unfoldable pub comingRows : ℕ → Coming → List (List ℕ)
-comingRows mark x = cond x.told (moveNumbers mark (asMove x.entrant) ∷ []) []
+unfoldable pub coming_rows : ℕ → Coming → List (List ℕ)
+coming_rows mark x = cond x.told (move_numbers mark (as_move x.entrant) ∷ []) []
 
 -- All rows, the coming move's at its place.
-unfoldable pub toldRows : View → List ℕ → List ℕ → List (List ℕ)
-toldRows t numbers m =
+unfoldable pub told_rows : View → List ℕ → List ℕ → List (List ℕ)
+told_rows t numbers m =
     let h = t.head in
     let p = t.coming.place in
-    rows_at h.size h.dimension t.mark (placesIn 0 p (tellsPlace t numbers m)) m
-    ++ (comingRows t.mark t.coming
-    ++ rows_at h.size h.dimension t.mark (placesIn p h.count (tellsPlace t numbers m)) m)
+    rows_at h.size h.dimension t.mark (places_in 0 p (tells_place t numbers m)) m
+    ++ (coming_rows t.mark t.coming
+    ++ rows_at h.size h.dimension t.mark (places_in p h.count (tells_place t numbers m)) m)
 
 -- No move comes; and what a list tells: all moves of a set of numbers, as listed.
 abbrev pub nobody : Coming
-nobody = record { told = false; place = 0; entrant = record { number = 0; costs = replicate rowCosts 0 } }
+nobody = record { told = false; place = 0; entrant = record { number = 0; costs = replicate row_costs 0 } }
 
-abbrev pub listedBy : Head → View
-listedBy h = record { head = h; mark = listed; among = All; coming = nobody }
+abbrev pub listed_by : Head → View
+listed_by h = record { head = h; mark = listed; among = All; coming = nobody }
 
 abbrev pub listing : Head → List ℕ → ℕ → Telling
-listing h numbers count = record { told = listedBy h; numbers = numbers; count = count }
+listing h numbers count = record { told = listed_by h; numbers = numbers; count = count }
 
 -- ---- one by one
 
@@ -62,24 +62,24 @@ positions t = t.head.count + 1
 unfoldable pub place_of : ℕ → ℕ → ℕ
 place_of p i = cond (ltb i p) i (i - 1)
 
-unfoldable pub toldAt : View → List ℕ → List ℕ → ℕ → Bool
-toldAt t numbers m i = cond (eqb i t.coming.place) t.coming.told (tellsPlace t numbers m (place_of t.coming.place i))
+unfoldable pub told_at : View → List ℕ → List ℕ → ℕ → Bool
+told_at t numbers m i = cond (eqb i t.coming.place) t.coming.told (tells_place t numbers m (place_of t.coming.place i))
 
 unfoldable pub row_at : View → List ℕ → ℕ → List ℕ
 row_at t m i =
-    cond (eqb i t.coming.place) (moveNumbers t.mark (asMove t.coming.entrant))
-    (moveNumbers t.mark (moveIn t.head.size t.head.dimension m (place_of t.coming.place i)))
+    cond (eqb i t.coming.place) (move_numbers t.mark (as_move t.coming.entrant))
+    (move_numbers t.mark (move_in t.head.size t.head.dimension m (place_of t.coming.place i)))
 
 -- The told positions from one on.
-unfoldable pub toldFrom : View → List ℕ → List ℕ → ℕ → List ℕ
-toldFrom t numbers m i = select (toldAt t numbers m) (numbersFrom i (positions t - i))
+unfoldable pub told_from : View → List ℕ → List ℕ → ℕ → List ℕ
+told_from t numbers m i = select (told_at t numbers m) (numbers_from i (positions t - i))
 
 -- The row at the first of them, and the position after it.
-unfoldable pub nextRow : View → List ℕ → List ℕ → ℕ → List ℕ
-nextRow t numbers m i = first_or (replicate (2 + rowCosts) 0) (map (row_at t m) (toldFrom t numbers m i))
+unfoldable pub next_row : View → List ℕ → List ℕ → ℕ → List ℕ
+next_row t numbers m i = first_or (replicate (2 + row_costs) 0) (map (row_at t m) (told_from t numbers m i))
 
 unfoldable pub next_at : View → List ℕ → List ℕ → ℕ → ℕ
-next_at t numbers m i = first_or (positions t) (map suc (toldFrom t numbers m i))
+next_at t numbers m i = first_or (positions t) (map suc (told_from t numbers m i))
 
 -- Where the row k is looked for.
 unfoldable pub position : View → List ℕ → List ℕ → ℕ → ℕ
@@ -87,6 +87,6 @@ position t numbers m zero = 0
 position t numbers m (suc k) = next_at t numbers m (position t numbers m k)
 
 -- Rows after the first k told ones were put into them, one by one, from a row on.
-unfoldable pub filledRows : View → List ℕ → List ℕ → ℕ → ℕ → List (List ℕ) → List (List ℕ)
-filledRows t numbers m from zero rows = rows
-filledRows t numbers m from (suc k) rows = set (filledRows t numbers m from k rows) (from + k) (nextRow t numbers m (position t numbers m k))
+unfoldable pub filled_rows : View → List ℕ → List ℕ → ℕ → ℕ → List (List ℕ) → List (List ℕ)
+filled_rows t numbers m from zero rows = rows
+filled_rows t numbers m from (suc k) rows = set (filled_rows t numbers m from k rows) (from + k) (next_row t numbers m (position t numbers m k))

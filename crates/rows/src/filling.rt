@@ -1,7 +1,7 @@
 // Lent rows filled. Whatever has a reference to rows is proved by a walk of its MIR, by hand.
 ghost use Rattle.std.specs.Prelude.{map, ◌≡◌, ◌+◌, ◌<◌, ◌≤◌, length};
-ghost use Rattle.rows.specs.Rows.{rowNumbers};
-ghost use Rattle.rows.specs.Telling.{TellingAsked, filledRows};
+ghost use Rattle.rows.specs.Rows.{row_numbers};
+ghost use Rattle.rows.specs.Telling.{TellingAsked, filled_rows};
 
 use crate::row::{Row, row_from};
 use crate::telling::{Telling, told_next};
@@ -10,8 +10,8 @@ use crate::telling::{Telling, told_next};
 pub fn fill(rows: &mut [Row], m: &[u8], t: Telling, from: usize)
     requires { (0 < t.count → TellingAsked t.told m.now)
         × (from + t.count ≤ length rows.old) }
-    ensures { map rowNumbers rows.new ≡ filledRows t.told t.numbers
-        m.now from t.count (map rowNumbers rows.old) }
+    ensures { map row_numbers rows.new ≡ filled_rows t.told t.numbers
+        m.now from t.count (map row_numbers rows.old) }
 {
     let told = t.told;
     let numbers = t.numbers;

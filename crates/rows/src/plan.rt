@@ -1,5 +1,5 @@
 // The plan of a list: what the call will say and tell, found without writing.
-ghost use Rattle.promises.specs.Answers.{refusedBy};
+ghost use Rattle.promises.specs.Answers.{refused_by};
 ghost use Rattle.rows.specs.Planned as spec;
 
 use crate::telling::{Telling, listing_of, no_telling};
@@ -9,7 +9,7 @@ use upkeep::Found;
 
 // `need` rows are needed, also where too few are lent, and `opened` nodes were opened: the answer
 // alone tells zero of a refused call.
-#[derive(Drop)]
+#[derive(Clone, Copy)]
 pub struct Plan {
     pub verdict: Verdict,
     pub need: usize,
@@ -19,7 +19,7 @@ pub struct Plan {
 
 // Nothing is told: a check before 8 turned the call down.
 pub fn refused(outcome: Outcome, detail: usize) -> Plan
-    ensures { spec.Refuses (refusedBy outcome detail) result }
+    ensures { spec.Refuses (refused_by outcome detail) result }
 {
     Plan {
         verdict: Verdict { outcome, detail },

@@ -1,7 +1,7 @@
 // A row that a call tells: mark, number, costs; as a struct and as numbers.
 ghost use Rattle.std.specs.Prelude.{◌≡◌};
-ghost use Rattle.dominance.specs.Move.{asMove};
-ghost use Rattle.rows.specs.Rows.{rowNumbers, moveNumbers};
+ghost use Rattle.dominance.specs.Move.{as_move};
+ghost use Rattle.rows.specs.Rows.{row_numbers, move_numbers};
 
 use dominance::Move;
 use promises::{WORDS, costs_from};
@@ -10,7 +10,7 @@ use zorder::COSTS;
 pub const ROW: usize = WORDS;
 
 #[repr(C)]
-#[derive(Drop)]
+#[derive(Clone, Copy)]
 pub struct Row {
     pub mark: u16,
     pub number: u16,
@@ -19,7 +19,7 @@ pub struct Row {
 
 // Gives the numbers of a move's row.
 pub fn row_of(x: Move, mark: u16) -> [u16; ROW]
-    ensures { result ≡ moveNumbers mark (asMove x) }
+    ensures { result ≡ move_numbers mark (as_move x) }
 {
     let p = x.costs;
     let mut row = [0u16; ROW];
@@ -35,7 +35,7 @@ pub fn row_of(x: Move, mark: u16) -> [u16; ROW]
 
 // Gives the row of these numbers.
 pub fn row_from(numbers: [u16; ROW]) -> Row
-    ensures { rowNumbers result ≡ numbers }
+    ensures { row_numbers result ≡ numbers }
 {
     Row {
         mark: numbers[0],

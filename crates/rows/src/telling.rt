@@ -10,7 +10,7 @@ use search::{Among, looks};
 use zorder::COSTS;
 
 // The coming move of a notice stands before the move at its place, if it is told.
-#[derive(Drop)]
+#[derive(Clone, Copy)]
 pub struct Coming {
     pub told: bool,
     pub place: usize,
@@ -18,7 +18,7 @@ pub struct Coming {
 }
 
 // Which moves of a set are told, all or the listed or the hidden ones, and under which mark.
-#[derive(Drop)]
+#[derive(Clone, Copy)]
 pub struct View {
     pub head: Head,
     pub mark: u16,
@@ -28,7 +28,7 @@ pub struct View {
 
 // `count` rows are told. The set goes by reference where rows are told one by one: it would be
 // copied for each of them.
-#[derive(Drop)]
+#[derive(Clone, Copy)]
 pub struct Telling {
     pub told: View,
     pub numbers: [u64; WORDS],
@@ -36,7 +36,7 @@ pub struct Telling {
 }
 
 // A row, and the position from which the next one is looked for.
-#[derive(Drop)]
+#[derive(Clone, Copy)]
 pub struct Step {
     pub row: [u16; ROW],
     pub next: usize,
@@ -95,7 +95,7 @@ fn place_at(place: usize, i: usize) -> usize
 // Whether a row is told at position i.
 fn is_told(m: &[u8], t: View, numbers: &[u64; WORDS], i: usize) -> bool
     requires { spec.TellingAsked t m.now × (i ≤ t.head.count) }
-    ensures { result ≡ spec.toldAt t numbers.now m.now i }
+    ensures { result ≡ spec.told_at t numbers.now m.now i }
 {
     let h = t.head;
     let coming = t.coming;
@@ -128,7 +128,7 @@ fn row_at(m: &[u8], t: View, i: usize) -> [u16; ROW]
 // Gives the first told row from position i on.
 pub fn told_next(m: &[u8], t: View, numbers: &[u64; WORDS], i: usize) -> Step
     requires { spec.TellingAsked t m.now }
-    ensures { (result.row ≡ spec.nextRow t numbers.now m.now i)
+    ensures { (result.row ≡ spec.next_row t numbers.now m.now i)
         × (result.next ≡ spec.next_at t numbers.now m.now i) }
 {
     let h = t.head;

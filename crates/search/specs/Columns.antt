@@ -1,8 +1,8 @@
 -- Sixty-four moves as columns, cost by cost: cost k of column j stands at 64 k + j.
 use Rattle.std.specs.Prelude.{ℕ, zero, suc, ◌+◌, ◌*◌, ◌≤◌, ◌<◌, Bool, true, false, cond, List, ◌≡◌, leb, length, get_or}
-use Rattle.zorder.specs.Address.{rowCosts}
-use Rattle.model.specs.Dominance.{nowhereGreater}
-use Rattle.memory.specs.Tests.{allTo}
+use Rattle.zorder.specs.Address.{row_costs}
+use Rattle.model.specs.Dominance.{nowhere_greater}
+use Rattle.memory.specs.Tests.{all_to}
 
 -- How many places below n pass a test.
 unfoldable pub count_to : (ℕ → Bool) → ℕ → ℕ
@@ -10,15 +10,15 @@ count_to p zero = 0
 count_to p (suc n) = count_to p n + cond (p n) 1 0
 
 -- Column j is nowhere greater than q in the first w costs.
-unfoldable pub columnFits : ℕ → List ℕ → List ℕ → ℕ → Bool
-columnFits w columns q j = allTo (λ k. leb (get_or columns (64 * k + j) 0) (get_or q k 0)) w
+unfoldable pub column_fits : ℕ → List ℕ → List ℕ → ℕ → Bool
+column_fits w columns q j = all_to (λ k. leb (get_or columns (64 * k + j) 0) (get_or q k 0)) w
 
 unfoldable pub fitting : ℕ → List ℕ → List ℕ → ℕ
-fitting w columns q = count_to (columnFits w columns q) 64
+fitting w columns q = count_to (column_fits w columns q) 64
 
 -- Column t is a row.
 abbrev pub Column : List ℕ → ℕ → List ℕ → Type 0
-Column columns t row = (k : ℕ) → k < rowCosts → get_or columns (64 * k + t) 0 ≡ get_or row k 0
+Column columns t row = (k : ℕ) → k < row_costs → get_or columns (64 * k + t) 0 ≡ get_or row k 0
 
 -- ---- the answer of a question to all columns
 
@@ -29,17 +29,17 @@ pub record Says (yes no : Type 0) (r : Bool) : Type 0 where
 
 -- Bounds for d costs: past them every cost of 16 bits fits.
 abbrev pub Bounds : ℕ → List ℕ → Type 0
-Bounds d q = (k : ℕ) → d ≤ k → k < rowCosts → get_or q k 0 ≡ 65535
+Bounds d q = (k : ℕ) → d ≤ k → k < row_costs → get_or q k 0 ≡ 65535
 
 -- A column that is nowhere greater than q: so is every row of 16 bits that is this column.
 pub record FittingColumn (columns q : List ℕ) : Type 0 where
   pub column : ℕ
   pub inside : column < 64
-  pub fits : (row : List ℕ) → length row ≡ rowCosts → ((k : ℕ) → get_or row k 0 < 65536) → Column columns column row → nowhereGreater row q ≡ true
+  pub fits : (row : List ℕ) → length row ≡ row_costs → ((k : ℕ) → get_or row k 0 < 65536) → Column columns column row → nowhere_greater row q ≡ true
 
 -- No column is.
 abbrev pub NoneFits : List ℕ → List ℕ → Type 0
-NoneFits columns q = (t : ℕ) → t < 64 → (row : List ℕ) → length row ≡ rowCosts → Column columns t row → nowhereGreater row q ≡ false
+NoneFits columns q = (t : ℕ) → t < 64 → (row : List ℕ) → length row ≡ row_costs → Column columns t row → nowhere_greater row q ≡ false
 
 abbrev pub SomeFits : List ℕ → List ℕ → Bool → Type 0
 SomeFits columns q = Says (FittingColumn columns q) (NoneFits columns q)

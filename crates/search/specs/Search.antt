@@ -1,45 +1,45 @@
 -- What the search over places finds.
 use Rattle.std.specs.Prelude.{ℕ, ◌-◌, ◌/◌, ◌%◌, ◌^◌, ◌≤◌, ◌<◌, Bool, true, false, not, ◌&&◌, List, [], ◌≡◌, eqb, length, get_or}
-use Rattle.zorder.specs.Address.{rowCosts}
-use Rattle.model.specs.Dominance.{nowhereGreater}
-use Rattle.dominance.specs.Lanes.{bound, isFirst}
-use Rattle.promises.specs.Layout.{number_in, blockIn, costsIn, tab}
-use Rattle.memory.specs.Tests.{isFlagged}
+use Rattle.zorder.specs.Address.{row_costs}
+use Rattle.model.specs.Dominance.{nowhere_greater}
+use Rattle.dominance.specs.Lanes.{bound, is_first}
+use Rattle.promises.specs.Layout.{number_in, block_in, costs_in, tab}
+use Rattle.memory.specs.Tests.{is_flagged}
 use Rattle.search.specs.declared.search.Among.{Among}
 use Rattle.search.specs.declared.search.Among.TheVariants.{All, Listed, Hidden, InBlocks}
 use Rattle.memory.specs.declared.head.Head.{Head}
 
 -- Whether the block of a number is one of a set, whose bit k stands for block k.
-unfoldable pub inBlocks : ℕ → ℕ → List ℕ → ℕ → Bool
-inBlocks blocks c m k = eqb (blocks / 2 ^ (blockIn c m k % 64) % 2) 1
+unfoldable pub in_blocks : ℕ → ℕ → List ℕ → ℕ → Bool
+in_blocks blocks c m k = eqb (blocks / 2 ^ (block_in c m k % 64) % 2) 1
 
 -- Whether a search looks at the move of a number, and at the one at place i.
 unfoldable pub looks : Among → ℕ → List ℕ → ℕ → Bool
 looks All c m k = true
-looks Listed c m k = isFlagged c m k
-looks Hidden c m k = not (isFlagged c m k)
-looks (InBlocks blocks) c m k = inBlocks blocks c m k
+looks Listed c m k = is_flagged c m k
+looks Hidden c m k = not (is_flagged c m k)
+looks (InBlocks blocks) c m k = in_blocks blocks c m k
 
-unfoldable pub looksAt : Among → ℕ → List ℕ → ℕ → Bool
-looksAt a c m i = looks a c m (number_in c m i)
+unfoldable pub looks_at : Among → ℕ → List ℕ → ℕ → Bool
+looks_at a c m i = looks a c m (number_in c m i)
 
 -- Costs as a search sees them, and those at place i.
 unfoldable pub seen : Among → List ℕ → List ℕ
 seen All costs = costs
 seen Listed costs = costs
-seen Hidden costs = tab (λ i. 65535 - get_or costs i 0) rowCosts
+seen Hidden costs = tab (λ i. 65535 - get_or costs i 0) row_costs
 seen (InBlocks blocks) costs = costs
 
 unfoldable pub seen_at : Among → ℕ → List ℕ → ℕ → List ℕ
-seen_at a c m i = seen a (costsIn c rowCosts m (number_in c m i))
+seen_at a c m i = seen a (costs_in c row_costs m (number_in c m i))
 
 -- What a move before place i that hides the one there is nowhere greater than.
-unfoldable pub boundsAt : ℕ → ℕ → List ℕ → ℕ → List ℕ
-boundsAt c d m i = tab (bound (isFirst d) (seen_at Listed c m i)) rowCosts
+unfoldable pub bounds_at : ℕ → ℕ → List ℕ → ℕ → List ℕ
+bounds_at c d m i = tab (bound (is_first d) (seen_at Listed c m i)) row_costs
 
 -- What it looks for: a move that is nowhere greater than q.
 unfoldable pub fits : Among → ℕ → List ℕ → List ℕ → ℕ → Bool
-fits a c m q i = looksAt a c m i && nowhereGreater (seen_at a c m i) q
+fits a c m q i = looks_at a c m i && nowhere_greater (seen_at a c m i) q
 
 -- No place from i up to j passes.
 abbrev pub None : (ℕ → Bool) → ℕ → ℕ → Type 0
@@ -66,12 +66,12 @@ abbrev pub Below : List ℕ → List ℕ → Type 0
 Below p q = (k : ℕ) → get_or p k 0 ≤ get_or q k 0
 
 abbrev pub Under : List ℕ → List ℕ → Type 0
-Under p q = (k : ℕ) → k < rowCosts → get_or p k 0 ≤ get_or q k 0
+Under p q = (k : ℕ) → k < row_costs → get_or p k 0 ≤ get_or q k 0
 
 -- The corner of each run is nowhere greater than the moves of the run that are looked at, of the first n.
 pub record Corners (a : Among) (c : ℕ) (m : List ℕ) (n : ℕ) (corners : List (List ℕ)) : Type 0 where
   pub runs : length corners ≡ 64
-  pub below : (i : ℕ) → i < n → looksAt a c m i ≡ true → Below (get_or corners (i / 64) []) (seen_at a c m i)
+  pub below : (i : ℕ) → i < n → looks_at a c m i ≡ true → Below (get_or corners (i / 64) []) (seen_at a c m i)
 
 abbrev pub ListedCorners : Head → List ℕ → ℕ → List (List ℕ) → Type 0
 ListedCorners h = Corners Listed h.size
@@ -79,4 +79,4 @@ ListedCorners h = Corners Listed h.size
 -- A corner with the moves from place i up to place e.
 pub record CornerWith (a : Among) (c : ℕ) (m : List ℕ) (i e : ℕ) (low r : List ℕ) : Type 0 where
   pub old : Below r low
-  pub new : (k : ℕ) → i ≤ k → k < e → looksAt a c m k ≡ true → Below r (seen_at a c m k)
+  pub new : (k : ℕ) → i ≤ k → k < e → looks_at a c m k ≡ true → Below r (seen_at a c m k)

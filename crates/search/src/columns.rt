@@ -2,7 +2,7 @@
 // question to all of them takes eight columns a vector.
 ghost use Rattle.std.specs.Prelude.{cond, ◌≡◌, ◌≤◌, ◌<◌, eqb};
 ghost use Rattle.search.specs.Columns as spec;
-ghost use Rattle.zorder.specs.Address.{rowCosts};
+ghost use Rattle.zorder.specs.Address.{row_costs};
 
 use dominance::{less, over};
 use zorder::COSTS;
@@ -20,8 +20,8 @@ fn zero(a: u16) -> u16
 
 // Gives 1 if column j is nowhere greater than q in the first w costs, else 0.
 pub fn fits_column(columns: &[u16; CELLS], w: usize, j: usize, q: [u16; COSTS]) -> u16
-    requires { (w ≤ rowCosts) × (j < 64) }
-    ensures { result ≡ cond (spec.columnFits w columns.now q j) 1 0 }
+    requires { (w ≤ row_costs) × (j < 64) }
+    ensures { result ≡ cond (spec.column_fits w columns.now q j) 1 0 }
 {
     let mut worse: u16 = 0;
     let mut k = 0;
@@ -35,7 +35,7 @@ pub fn fits_column(columns: &[u16; CELLS], w: usize, j: usize, q: [u16; COSTS]) 
 // How many columns are nowhere greater than q in the first w costs. Where w is a number, the
 // compiler takes eight columns at once.
 fn fitting(columns: &[u16; CELLS], w: usize, q: [u16; COSTS]) -> u16
-    requires { w ≤ rowCosts }
+    requires { w ≤ row_costs }
     ensures { result ≡ spec.fitting w columns.now q }
 {
     let mut fitting: u16 = 0;

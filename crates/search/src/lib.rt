@@ -1,4 +1,6 @@
 // The search over the places of a board, and moves as columns, asked 64 at a time.
+#![tactic(auto)]
+
 mod columns;
 mod search;
 

@@ -17,7 +17,7 @@ pub const RUNS: usize = 64;
 // Which moves a search looks at. Hidden ones are seen from above, each cost as what it lacks of
 // 65535: what is nowhere less than a move is found as what is nowhere greater. Of blocks, bit k of
 // the number stands for block k.
-#[derive(Drop)]
+#[derive(Clone, Copy)]
 pub enum Among {
     All,
     Listed,
@@ -28,7 +28,7 @@ pub enum Among {
 // Says whether the move of a number lies in one of these blocks.
 pub fn in_blocks(m: &[u8], c: usize, number: u16, blocks: u64) -> bool
     requires { Room c m.now × (number < c) }
-    ensures { result ≡ spec.inBlocks blocks c m.now number }
+    ensures { result ≡ spec.in_blocks blocks c m.now number }
 {
     (blocks >> (block_of(m, c, number) % 64)) & 1 == 1
 }
@@ -87,7 +87,7 @@ pub fn seen_at(m: &[u8], h: Head, i: usize, among: Among) -> [u16; COSTS]
 // Says whether a search looks at the move at place i.
 pub fn looks_at(m: &[u8], h: Head, i: usize, among: Among) -> bool
     requires { Readable h m.now × (i < h.count) }
-    ensures { result ≡ spec.looksAt among h.size m.now i }
+    ensures { result ≡ spec.looks_at among h.size m.now i }
 {
     looks(m, h.size, number_at(m, h.size, i), among)
 }
@@ -95,7 +95,7 @@ pub fn looks_at(m: &[u8], h: Head, i: usize, among: Among) -> bool
 // Gives what a move before place i that hides the one there is nowhere greater than.
 pub fn bounds_at(m: &[u8], h: Head, i: usize) -> [u16; COSTS]
     requires { Readable h m.now × (i < h.count) }
-    ensures { result ≡ spec.boundsAt h.size h.dimension m.now i }
+    ensures { result ≡ spec.bounds_at h.size h.dimension m.now i }
 {
     bounds_of(h.dimension, seen_at(m, h, i, Among::Listed))
 }

@@ -1,13 +1,13 @@
 -- Listed moves held against each other, a chunk of them as columns.
 use Rattle.std.specs.Prelude.{ℕ, ◌+◌, ◌-◌, ◌/◌, ◌≤◌, ◌<◌, Bool, true, false, List, [], ◌≡◌, length, get_or}
-use Rattle.search.specs.Search.{looksAt, seen_at, fits, boundsAt, Below, Under}
+use Rattle.search.specs.Search.{looks_at, seen_at, fits, bounds_at, Below, Under}
 use Rattle.search.specs.Columns.{count_to, Column, Says}
 use Rattle.search.specs.declared.search.Among.TheVariants.{Listed}
 use Rattle.memory.specs.declared.head.Head.{Head}
 use Rattle.skyline.specs.declared.chunks.Chunk.{Chunk}
 
 abbrev pub listed : ℕ → List ℕ → ℕ → Bool
-listed c m = looksAt Listed c m
+listed c m = looks_at Listed c m
 
 -- ---- the moves of a chunk
 
@@ -55,14 +55,14 @@ pub record FitsBefore (c : ℕ) (m q : List ℕ) (j : ℕ) : Type 0 where
 
 -- No listed move from place a up to b hides a later listed one from place i up to e.
 abbrev pub Unhidden : ℕ → ℕ → List ℕ → ℕ → ℕ → ℕ → ℕ → Type 0
-Unhidden c d m a b i e = (j : ℕ) → i ≤ j → j < e → listed c m j ≡ true → NoneBefore c m (boundsAt c d m j) a b j
+Unhidden c d m a b i e = (j : ℕ) → i ≤ j → j < e → listed c m j ≡ true → NoneBefore c m (bounds_at c d m j) a b j
 
 -- A listed move that a listed one before it hides.
 pub record ListedHidden (c d n : ℕ) (m : List ℕ) : Type 0 where
   pub place : ℕ
   pub inside : place < n
   pub shown : listed c m place ≡ true
-  pub hider : FitsBefore c m (boundsAt c d m place) place
+  pub hider : FitsBefore c m (bounds_at c d m place) place
 
 abbrev pub UnhiddenSaid : Head → List ℕ → ℕ → ℕ → ℕ → ℕ → Bool → Type 0
 UnhiddenSaid h m a b i e = Says (Unhidden h.size h.dimension m a b i e) (ListedHidden h.size h.dimension h.count m)
@@ -82,8 +82,8 @@ pub record NextChunk (h : Head) (m : List ℕ) (a : ℕ) (columns : List ℕ) (r
 -- A row with what the listed moves from place i up to e are held to.
 pub record HighWith (c d : ℕ) (m : List ℕ) (i e : ℕ) (high r : List ℕ) : Type 0 where
   pub old : Under high r
-  pub new : (k : ℕ) → i ≤ k → k < e → listed c m k ≡ true → Under (boundsAt c d m k) r
+  pub new : (k : ℕ) → i ≤ k → k < e → listed c m k ≡ true → Under (bounds_at c d m k) r
 
 pub record Highs (c d : ℕ) (m : List ℕ) (n : ℕ) (highs : List (List ℕ)) : Type 0 where
   pub runs : length highs ≡ 64
-  pub above : (i : ℕ) → i < n → listed c m i ≡ true → Under (boundsAt c d m i) (get_or highs (i / 64) [])
+  pub above : (i : ℕ) → i < n → listed c m i ≡ true → Under (bounds_at c d m i) (get_or highs (i / 64) [])

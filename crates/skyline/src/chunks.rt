@@ -15,7 +15,7 @@ use zorder::COSTS;
 
 // The listed moves from one place up to another, the least of each of their costs, and whether none
 // of them hides another.
-#[derive(Drop)]
+#[derive(Clone, Copy)]
 pub struct Chunk {
     pub from: usize,
     pub to: usize,
@@ -136,7 +136,7 @@ pub(crate) fn listed_right(
     columns: &mut [u16; CELLS],
 ) -> bool
     requires { Readable h m.now × InOrder h m.now × (length highs.old ≡ 64) }
-    ensures { result ≡ tests.listedRight h.size h.dimension h.count m.now }
+    ensures { result ≡ tests.listed_right h.size h.dimension h.count m.now }
 {
     let n = h.count;
     let mut from = 0;

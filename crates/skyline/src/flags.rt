@@ -23,7 +23,7 @@ pub fn hider_before(
 ) -> usize
     requires readable { Readable h m.now × InOrder h m.now × (i < h.count) }
     requires listed_corners { search.ListedCorners h m.now i corners.now }
-    ensures { tests.hiddenAt h.size h.dimension m.now i ≡ ltb result i }
+    ensures { tests.hidden_at h.size h.dimension m.now i ≡ ltb result i }
 {
     found_from(m, h, i, last, corners, bounds_at(m, h, i))
 }
@@ -31,7 +31,7 @@ pub fn hider_before(
 // Every move that is not listed is hidden, and no listed one.
 pub fn flags_right(m: &[u8], h: Head) -> bool
     requires { Readable h m.now × InOrder h m.now }
-    ensures { result ≡ tests.flagsRight h.size h.dimension h.count m.now }
+    ensures { result ≡ tests.flags_right h.size h.dimension h.count m.now }
 {
     // Working space that the halves share, one after the other: 1 KB each would be twice that.
     let mut rows = [[65535u16; COSTS]; RUNS];

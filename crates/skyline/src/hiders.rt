@@ -95,7 +95,7 @@ pub(crate) fn hidden_right(
     columns: &mut [u16; CELLS],
 ) -> bool
     requires { Readable h m.now × InOrder h m.now × (length corners.old ≡ 64) }
-    ensures { result ≡ tests.hiddenRight h.size h.dimension h.count m.now }
+    ensures { result ≡ tests.hidden_right h.size h.dimension h.count m.now }
 {
     let n = h.count;
     let mut places = [0usize; HIDERS];

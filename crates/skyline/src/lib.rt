@@ -1,4 +1,6 @@
 // Whether the flagged moves are the list: each move is held against the listed moves before it.
+#![tactic(auto)]
+
 mod chunks;
 mod flags;
 mod hiders;

@@ -3,13 +3,13 @@
 ghost use Rattle.std.specs.Prelude.{◌≡◌, ◌≤◌, ◌<◌, cond, leb};
 ghost use Rattle.line.specs.Heights as definition;
 ghost use Rattle.memory.specs.Room.{Room};
-ghost use Rattle.promises.specs.Layout.{heightsFrom};
+ghost use Rattle.promises.specs.Layout.{heights_from};
 
 use memory::height_at;
 
 fn first_highest(m: &[u8], c: usize, n: usize) -> bool
     requires { Room c m.now × (n ≤ c) }
-    ensures { result ≡ definition.firstHighest (heightsFrom c n m.now) }
+    ensures { result ≡ definition.first_highest (heights_from c n m.now) }
 {
     if n == 0 {
         return true;
@@ -31,7 +31,7 @@ fn first_highest(m: &[u8], c: usize, n: usize) -> bool
 // Whether every node at level l, which is at least 1, has lo to 8 entries.
 fn counts_right(m: &[u8], c: usize, n: usize, l: u8, lo: usize) -> bool
     requires { Room c m.now × (n ≤ c) × (0 < n) × (0 < l) }
-    ensures { result ≡ definition.countsAt l lo (heightsFrom c n m.now) }
+    ensures { result ≡ definition.counts_at l lo (heights_from c n m.now) }
 {
     let mut entries: usize = 1;
     let mut i = 1;
@@ -53,7 +53,7 @@ fn counts_right(m: &[u8], c: usize, n: usize, l: u8, lo: usize) -> bool
 // The least number of entries of a node at level l of a tree of `top` levels.
 fn least_entries(top: u8, l: u8) -> usize
     requires { 0 < l }
-    ensures { result ≡ cond (leb top l) (definition.rootCount l) 3 }
+    ensures { result ≡ cond (leb top l) (definition.root_count l) 3 }
 {
     if l < top {
         3
@@ -67,7 +67,7 @@ fn least_entries(top: u8, l: u8) -> usize
 // Says whether the heights of n places are those of a tree.
 pub(crate) fn heights_right(m: &[u8], c: usize, n: usize) -> bool
     requires { Room c m.now × (n ≤ c) }
-    ensures { result ≡ definition.heightsRight (heightsFrom c n m.now) }
+    ensures { result ≡ definition.heights_right (heights_from c n m.now) }
 {
     if n == 0 {
         return true;

@@ -1,4 +1,6 @@
 // Whether the memory is sound, decided for every content.
+#![tactic(auto)]
+
 mod heights;
 mod sound;
 

@@ -15,7 +15,7 @@ use zorder::cost_count_bad;
 // enough for C.
 fn head_right(m: &[u8], h: Head) -> bool
     requires { HeadOf h m.now }
-    ensures { result ≡ tests.headRight m.now }
+    ensures { result ≡ tests.head_right m.now }
 {
     if size_bad(h.size) {
         return false;
@@ -35,7 +35,7 @@ fn head_right(m: &[u8], h: Head) -> bool
 // Whether each number is below C and its block in range.
 fn numbers_right(m: &[u8], c: usize, n: usize) -> bool
     requires { Room c m.now × (n ≤ c) }
-    ensures { result ≡ tests.numbersRight c n m.now }
+    ensures { result ≡ tests.numbers_right c n m.now }
 {
     let mut i = 0;
     while i < n {
@@ -54,7 +54,7 @@ fn numbers_right(m: &[u8], c: usize, n: usize) -> bool
 
 fn order_right(m: &[u8], h: Head) -> bool
     requires { Readable h m.now }
-    ensures { result ≡ tests.orderRight h.size h.dimension h.count m.now }
+    ensures { result ≡ tests.order_right h.size h.dimension h.count m.now }
 {
     let n = h.count;
     let mut i = 1;
@@ -87,7 +87,7 @@ fn is_sound(m: &[u8], h: Head) -> bool
     flags_right(m, h)
 }
 
-#[derive(Drop)]
+#[derive(Clone, Copy)]
 pub enum Held {
     Sound(Head),
     Unsound,

@@ -1,6 +1,6 @@
 // A move entered into the line.
 ghost use Rattle.std.specs.Prelude.{◌≡◌, ◌<◌};
-ghost use Rattle.dominance.specs.Move.{asMove};
+ghost use Rattle.dominance.specs.Move.{as_move};
 ghost use Rattle.tree.specs.Enter as enter;
 
 use crate::insert::{insert_row, place_for};
@@ -14,7 +14,7 @@ use zorder::side_of;
 // a gap if the later neighbour gets the lesser side.
 fn takes_over(m: &[u8], h: Head, p: usize, x: Move) -> bool
     requires { enter.PlaceAsked h.size h.dimension h.count p m.now }
-    ensures { enter.TakesOver h.size h.dimension h.count p (asMove x)
+    ensures { enter.TakesOver h.size h.dimension h.count p (as_move x)
         m.now result }
 {
     let n = h.count;
@@ -47,8 +47,8 @@ fn takes_over(m: &[u8], h: Head, p: usize, x: Move) -> bool
 
 // The row of x put at place p.
 fn put_row(m: &mut [u8], h: Head, p: usize, x: Move)
-    requires { enter.PutAsked h.size h.dimension h.count p (asMove x) m.old }
-    ensures { enter.RowPut h.size h.dimension h.count p (asMove x) m.old
+    requires { enter.PutAsked h.size h.dimension h.count p (as_move x) m.old }
+    ensures { enter.RowPut h.size h.dimension h.count p (as_move x) m.old
         m.new }
 {
     if takes_over(m, h, p, x) {
@@ -62,7 +62,7 @@ fn put_row(m: &mut [u8], h: Head, p: usize, x: Move)
 
 // Gives the same board with n rows.
 pub fn with_rows(h: Head, n: usize) -> Head
-    ensures { result ≡ enter.withRows h n }
+    ensures { result ≡ enter.with_rows h n }
 {
     Head {
         size: h.size,
@@ -73,8 +73,8 @@ pub fn with_rows(h: Head, n: usize) -> Head
 
 // Enters x among the rows. Its costs stand in the memory already.
 pub fn enter_line(m: &mut [u8], h: Head, x: Move)
-    requires { enter.EnterAsked h.size h.dimension h.count (asMove x) m.old }
-    ensures { enter.Entered h.size h.dimension h.count (asMove x) m.old
+    requires { enter.EnterAsked h.size h.dimension h.count (as_move x) m.old }
+    ensures { enter.Entered h.size h.dimension h.count (as_move x) m.old
         m.new }
 {
     let n = h.count;

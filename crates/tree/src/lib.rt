@@ -1,5 +1,7 @@
 // The tree in the lent memory: the flat operations of `line` on its rows. Only rows and the work
 // area are written here.
+#![tactic(auto)]
+
 mod enter;
 mod insert;
 mod raise;

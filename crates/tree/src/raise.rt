@@ -9,7 +9,7 @@ use memory::{height_at, set_height};
 // Whether entry j of n starts a group.
 fn starts_group(n: usize, j: usize) -> bool
     requires { j + 3 < 65536 }
-    ensures { result ≡ definition.startsGroup n j }
+    ensures { result ≡ definition.starts_group n j }
 {
     if j == 0 {
         return true;

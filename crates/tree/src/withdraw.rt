@@ -9,7 +9,7 @@ use memory::{Head, costs_of, height_at, number_at, set_height, set_number, set_w
 use nodes::{entries, node_end, node_start};
 
 // Rows from a place up to another.
-#[derive(Drop)]
+#[derive(Clone, Copy)]
 pub struct Range {
     pub from: usize,
     pub to: usize,

@@ -1,6 +1,6 @@
 // Who enters the list by a change, looked for through the nodes.
 ghost use Rattle.std.specs.Prelude.{◌≡◌, ◌≤◌, ◌<◌};
-ghost use Rattle.promises.specs.Layout.{moveIn};
+ghost use Rattle.promises.specs.Layout.{move_in};
 ghost use Rattle.memory.specs.Held.{SoundAt};
 ghost use Rattle.memory.specs.Room.{Readable};
 ghost use Rattle.upkeep.specs.Change as spec;
@@ -14,7 +14,7 @@ use search::{Among, RUNS, corners_of};
 use zorder::COSTS;
 
 // How many moves enter the list, and the nodes opened while looking for them.
-#[derive(Drop)]
+#[derive(Clone, Copy)]
 pub struct Entered {
     pub count: usize,
     pub opened: usize,
@@ -25,8 +25,8 @@ pub struct Entered {
 fn comes_up(m: &[u8], h: Head, k: Exchange, corners: &[[u16; COSTS]; RUNS], i: usize) -> bool
     requires { spec.GoesListed h k m.now × spec.AllCorners h m.now corners.now
         × (i < h.count) }
-    ensures { result ≡ spec.comesUp h.size h.dimension h.count k
-        (moveIn h.size h.dimension m.now i) m.now }
+    ensures { result ≡ spec.comes_up h.size h.dimension h.count k
+        (move_in h.size h.dimension m.now i) m.now }
 {
     let goes = k.goes;
     let x = move_at(m, h.size, h.dimension, i);
@@ -44,7 +44,7 @@ fn comes_up(m: &[u8], h: Head, k: Exchange, corners: &[[u16; COSTS]; RUNS], i: u
 fn enters(m: &[u8], h: Head, k: Exchange, corners: &[[u16; COSTS]; RUNS], i: usize) -> bool
     requires { spec.GoesListed h k m.now × spec.AllCorners h m.now corners.now
         × (i < h.count) }
-    ensures { result ≡ spec.entersAt h.size h.dimension h.count k m.now i }
+    ensures { result ≡ spec.enters_at h.size h.dimension h.count k m.now i }
 {
     if is_listed(m, h.size, number_at(m, h.size, i)) {
         return false;
@@ -58,7 +58,7 @@ fn enters(m: &[u8], h: Head, k: Exchange, corners: &[[u16; COSTS]; RUNS], i: usi
 // Whether a move goes and is listed.
 fn goes_listed(m: &[u8], h: Head, goes: usize) -> bool
     requires { Readable h m.now }
-    ensures { result ≡ spec.goesListed h.size h.count goes m.now }
+    ensures { result ≡ spec.goes_listed h.size h.count goes m.now }
 {
     if h.count <= goes {
         return false;
@@ -78,7 +78,7 @@ fn find_in_leaf(
 ) -> usize
     requires { spec.GoesListed h k m.now × spec.AllCorners h m.now corners.now
         × (start ≤ end) × (end ≤ h.count) }
-    ensures { spec.Passing h.size m.now (spec.entersAt h.size h.dimension
+    ensures { spec.Passing h.size m.now (spec.enters_at h.size h.dimension
         h.count k m.now) changed.old start end changed.new result }
 {
     let mut entered: usize = 0;

@@ -1,10 +1,10 @@
 // An exchange of moves, what it does to the list, and what hides a move after it. The move at one
 // place goes, or none; a move comes, or none.
 ghost use Rattle.std.specs.Prelude.{◌≡◌, ◌≤◌};
-ghost use Rattle.dominance.specs.Move.{asMove};
+ghost use Rattle.dominance.specs.Move.{as_move};
 ghost use Rattle.memory.specs.Room.{Readable};
 ghost use Rattle.upkeep.specs.Change as spec;
-ghost use Rattle.zorder.specs.Address.{rowCosts};
+ghost use Rattle.zorder.specs.Address.{row_costs};
 
 use dominance::{Move, bounds_of, hides};
 use memory::Head;
@@ -13,7 +13,7 @@ use search::{Among, RUNS, next_within};
 use zorder::COSTS;
 
 // `goes` is a place, or the number of moves where none goes.
-#[derive(Drop)]
+#[derive(Clone, Copy)]
 pub struct Exchange {
     pub goes: usize,
     pub comes: bool,
@@ -24,7 +24,7 @@ pub struct Exchange {
 // enter it; the nodes opened while looking for those that enter; whether the coming one is listed.
 // The flags before the change say who leaves and who enters: a second set would be copied with
 // each plan.
-#[derive(Drop)]
+#[derive(Clone, Copy)]
 pub struct Upkeep {
     pub changed: [u64; WORDS],
     pub left: usize,
@@ -44,8 +44,8 @@ pub fn hidden_by_others(
     x: Move,
 ) -> bool
     requires readable { Readable h m.now × spec.AllCorners h m.now corners.now }
-    requires parted { spec.Parted h.size h.dimension h.count i (asMove x) m.now }
-    ensures { result ≡ spec.hiddenByOthers h.size h.dimension h.count goes (asMove x)
+    requires parted { spec.Parted h.size h.dimension h.count i (as_move x) m.now }
+    ensures { result ≡ spec.hidden_by_others h.size h.dimension h.count goes (as_move x)
         m.now }
 {
     let costs = x.costs;
@@ -62,8 +62,8 @@ pub fn hidden_by_others(
 
 // Says whether the coming move hides x.
 pub fn hidden_by_coming(d: usize, k: Exchange, x: Move) -> bool
-    requires { d ≤ rowCosts }
-    ensures { result ≡ spec.hiddenByComing d k (asMove x) }
+    requires { d ≤ row_costs }
+    ensures { result ≡ spec.hidden_by_coming d k (as_move x) }
 {
     if k.comes {
         let coming = k.coming;

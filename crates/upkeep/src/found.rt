@@ -1,14 +1,14 @@
 // Moves found for a list, by number.
 ghost use Rattle.std.specs.Prelude.{◌<◌};
 ghost use Rattle.memory.specs.Room.{Readable};
-ghost use Rattle.memory.specs.Tests.{isFlagged};
+ghost use Rattle.memory.specs.Tests.{is_flagged};
 ghost use Rattle.upkeep.specs.Found as spec;
 
 use memory::{Head, is_listed, number_at};
 use numbers::{WORDS, add, empty};
 
 // The numbers, and how many they are.
-#[derive(Drop)]
+#[derive(Clone, Copy)]
 pub struct Found {
     pub numbers: [u64; WORDS],
     pub count: usize,
@@ -31,7 +31,7 @@ pub fn add_found(m: &[u8], h: Head, i: usize, found: bool, numbers: &mut [u64; W
 // Gives the listed ones.
 pub fn find_listed(m: &[u8], h: Head) -> Found
     requires { Readable h m.now }
-    ensures { spec.Finds h (isFlagged h.size m.now) m.now result }
+    ensures { spec.Finds h (is_flagged h.size m.now) m.now result }
 {
     let n = h.count;
     let mut numbers = empty();

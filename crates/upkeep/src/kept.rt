@@ -13,7 +13,7 @@ use zorder::COSTS;
 // Whether the move at place i leaves the list.
 fn leaves(m: &[u8], h: Head, k: Exchange, i: usize) -> bool
     requires { Readable h m.now × (i < h.count) }
-    ensures { result ≡ spec.leavesAt h.size h.dimension k m.now i }
+    ensures { result ≡ spec.leaves_at h.size h.dimension k m.now i }
 {
     if !is_listed(m, h.size, number_at(m, h.size, i)) {
         return false;
@@ -27,7 +27,7 @@ fn leaves(m: &[u8], h: Head, k: Exchange, i: usize) -> bool
 // The moves that leave the list.
 fn find_leaving(m: &[u8], h: Head, k: Exchange, changed: &mut [u64; WORDS]) -> usize
     requires { Readable h m.now }
-    ensures { spec.Passing h.size m.now (spec.leavesAt h.size
+    ensures { spec.Passing h.size m.now (spec.leaves_at h.size
         h.dimension k m.now) changed.old 0 h.count
         changed.new result }
 {
@@ -55,7 +55,7 @@ fn coming_listed(
 ) -> bool
     requires change_asked { spec.ChangeAsked h k m.now × spec.AllCorners h m.now corners.now }
     requires coming_place { spec.ComingPlace h k m.now place }
-    ensures { result ≡ spec.comingListed h.size h.dimension h.count k
+    ensures { result ≡ spec.coming_listed h.size h.dimension h.count k
         m.now }
 {
     if !k.comes {

@@ -1,4 +1,6 @@
 // The kept list: flagged anew after a load, kept up by what a change does.
+#![tactic(auto)]
+
 mod entering;
 mod exchange;
 mod flag;

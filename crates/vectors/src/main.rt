@@ -2,6 +2,8 @@
 // (bindings/README.md has the words of the lines). Makes each call, each file's on memory that was
 // never loaded; writes each line whose answer is another, with what was answered, and for each file
 // how many lines agree and how many ask no call that is here.
+#![tactic(auto)]
+
 mod address;
 mod answer;
 mod change;

@@ -1,7 +1,7 @@
 // The comparison of two costs and dominance, of what a line has and of pairs of rows drawn, whose
 // answers are held against a test by the signs of the language.
 ghost use Rattle.std.specs.Prelude.{◌≤◌};
-ghost use Rattle.zorder.specs.Address.{rowCosts};
+ghost use Rattle.zorder.specs.Address.{row_costs};
 
 use crate::said::{Said, put};
 use crate::values::{at_most, costs, narrow, value};
@@ -11,7 +11,7 @@ use zorder::COSTS;
 
 // Pairs in which the first cost is less, pairs in which the first row dominates, and answers that
 // are not the plain ones.
-#[derive(Drop)]
+#[derive(Clone, Copy)]
 struct Tally {
     lesser: u64,
     dominating: u64,
@@ -23,7 +23,7 @@ fn number(answer: bool) -> u64 {
 }
 
 fn plain_dominates(d: usize, p: [u16; COSTS], q: [u16; COSTS]) -> bool
-    requires { d ≤ rowCosts }
+    requires { d ≤ row_costs }
 {
     let mut somewhere = false;
     let mut i = 0;
@@ -77,7 +77,7 @@ fn with_answer(t: Tally, lesser: bool, dominating: bool, right: bool) -> Tally {
 
 // The tally with one pair more.
 fn with_pair(t: Tally, d: usize, p: [u16; COSTS], q: [u16; COSTS]) -> Tally
-    requires { d ≤ rowCosts }
+    requires { d ≤ row_costs }
 {
     let a = p[0];
     let b = q[0];

@@ -4,7 +4,7 @@
 // numbers are whole, how many of them stand before the sign `=`, and whether the last byte was a
 // digit; then how long the longest load was so far, how many lines before it agree, how many were
 // passed by, and whether there may be more. The numbers go into lent space.
-#[derive(Drop)]
+#[derive(Clone, Copy)]
 pub struct Reading {
     pub word: u32,
     pub named: bool,

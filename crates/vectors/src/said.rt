@@ -6,7 +6,7 @@ use libc::STDOUT_FILENO;
 
 // A line's word, how many of its numbers are asked and how many there are, the place of the next
 // one answered.
-#[derive(Drop)]
+#[derive(Clone, Copy)]
 pub struct Said {
     pub word: u32,
     pub asked: usize,

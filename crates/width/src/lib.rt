@@ -1,1 +1,2 @@
 // No code: that costs past d do not matter to a board stands in specs/.
+#![tactic(auto)]

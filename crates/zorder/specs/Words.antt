@@ -3,12 +3,12 @@ use Rattle.std.specs.Prelude.{ℕ, ◌+◌, ◌*◌, ◌/◌, ◌%◌, ◌^◌}
 use Rattle.zorder.specs.declared.AddressWords.{AddressWords}
 
 -- How many bits a word has.
-abbrev pub wordBits : ℕ
-wordBits = 64
+abbrev pub word_bits : ℕ
+word_bits = 64
 
 unfoldable pub value : AddressWords → ℕ
-value a = a.upper * 2 ^ wordBits + a.lower
+value a = a.upper * 2 ^ word_bits + a.lower
 
 -- The words of a number.
 unfoldable pub words_of : ℕ → AddressWords
-words_of n = record { upper = n / 2 ^ wordBits; lower = n % 2 ^ wordBits }
+words_of n = record { upper = n / 2 ^ word_bits; lower = n % 2 ^ word_bits }

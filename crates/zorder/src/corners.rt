@@ -1,6 +1,6 @@
 // The region of two addresses: a square, by its two corners and its side.
 ghost use Rattle.std.specs.Prelude.{◌≡◌, map, ◌≤◌, ◌<◌, ◌*◌, ◌^◌, take};
-ghost use Rattle.zorder.specs.Address.{rowCosts, padded};
+ghost use Rattle.zorder.specs.Address.{row_costs, padded};
 ghost use Rattle.zorder.specs.Region as definition;
 ghost use Rattle.zorder.specs.Promise.{RegionPromise, RefusedRegion};
 ghost use Rattle.zorder.specs.Words.{value};
@@ -12,7 +12,7 @@ use crate::{AddressWords, BITS, COSTS, RegionResult, Verdict};
 
 // How many groups of the two addresses are not kept.
 fn unkept(d: usize, a: AddressWords, b: AddressWords) -> usize
-    requires { (1 ≤ d) × (d ≤ rowCosts) × (value a < 2 ^ (16 * d)) × (value b < 2 ^ (16 * d)) }
+    requires { (1 ≤ d) × (d ≤ row_costs) × (value a < 2 ^ (16 * d)) × (value b < 2 ^ (16 * d)) }
     ensures { (result ≡ definition.unkept d (value a) (value b)) × (result ≤ 16) }
 {
     let zeros = leading_zeros(xor(a, b));
@@ -22,7 +22,7 @@ fn unkept(d: usize, a: AddressWords, b: AddressWords) -> usize
 // A cost with its last u bits filled with 0.
 fn zeros_below(u: usize, c: u16) -> u16
     requires { u ≤ 16 }
-    ensures { result ≡ definition.zerosBelow 1 u c }
+    ensures { result ≡ definition.zeros_below 1 u c }
 {
     (((c as u32) >> u) << u) as u16
 }
@@ -30,8 +30,8 @@ fn zeros_below(u: usize, c: u16) -> u16
 // Gives the first d costs with their last u bits filled with 0: the near corner of a region that
 // does not keep u groups.
 pub(crate) fn near(d: usize, u: usize, costs: [u16; COSTS]) -> [u16; COSTS]
-    requires { (d ≤ rowCosts) × (u ≤ 16) }
-    ensures { result ≡ padded d (map (definition.zerosBelow 1 u) (take d costs)) }
+    requires { (d ≤ row_costs) × (u ≤ 16) }
+    ensures { result ≡ padded d (map (definition.zeros_below 1 u) (take d costs)) }
 {
     let mut corner = [0u16; COSTS];
     let mut i = 0;
@@ -45,15 +45,15 @@ pub(crate) fn near(d: usize, u: usize, costs: [u16; COSTS]) -> [u16; COSTS]
 // A cost with its last u bits filled with 1.
 fn ones_below(u: usize, c: u16) -> u16
     requires { u ≤ 16 }
-    ensures { result ≡ definition.onesBelow 1 u c }
+    ensures { result ≡ definition.ones_below 1 u c }
 {
     zeros_below(u, c) + (((1u32 << u) - 1) as u16)
 }
 
 // Gives the far corner likewise.
 pub(crate) fn far(d: usize, u: usize, costs: [u16; COSTS]) -> [u16; COSTS]
-    requires { (d ≤ rowCosts) × (u ≤ 16) }
-    ensures { result ≡ padded d (map (definition.onesBelow 1 u) (take d costs)) }
+    requires { (d ≤ row_costs) × (u ≤ 16) }
+    ensures { result ≡ padded d (map (definition.ones_below 1 u) (take d costs)) }
 {
     let mut corner = [0u16; COSTS];
     let mut i = 0;

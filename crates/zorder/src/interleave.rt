@@ -1,8 +1,8 @@
 // From costs to their address.
 ghost use Rattle.std.specs.Prelude.{◌≡◌, ◌≤◌, ◌<◌, take, drop};
 ghost use Rattle.zorder.specs.Address as definition;
-ghost use Rattle.zorder.specs.Address.{rowCosts};
-ghost use Rattle.zorder.specs.Refusal.{allZero, costCountBad};
+ghost use Rattle.zorder.specs.Address.{row_costs};
+ghost use Rattle.zorder.specs.Refusal.{all_zero, cost_count_bad};
 ghost use Rattle.zorder.specs.Promise.{AddressPromise};
 ghost use Rattle.zorder.specs.Words.{value};
 
@@ -17,7 +17,7 @@ fn wide(c: u16) -> u64
 
 // Gives the group for bit j of the first d costs.
 pub(crate) fn group(d: usize, costs: [u16; COSTS], j: usize) -> u64
-    requires { (d ≤ rowCosts) × (j < 16) }
+    requires { (d ≤ row_costs) × (j < 16) }
     ensures { result ≡ definition.group j (take d costs) }
 {
     let mut g: u64 = 0;
@@ -31,7 +31,7 @@ pub(crate) fn group(d: usize, costs: [u16; COSTS], j: usize) -> u64
 
 // The groups of the first d costs, highest first.
 fn interleaved(d: usize, costs: [u16; COSTS]) -> AddressWords
-    requires { (1 ≤ d) × (d ≤ rowCosts) }
+    requires { (1 ≤ d) × (d ≤ row_costs) }
     ensures { value result ≡ definition.address d costs }
 {
     let mut a = AddressWords { upper: 0, lower: 0 };
@@ -45,8 +45,8 @@ fn interleaved(d: usize, costs: [u16; COSTS]) -> AddressWords
 
 // Says whether the costs past d are zero.
 pub fn zero_past(d: usize, costs: [u16; COSTS]) -> bool
-    requires { d ≤ rowCosts }
-    ensures { result ≡ allZero (drop d costs) }
+    requires { d ≤ row_costs }
+    ensures { result ≡ all_zero (drop d costs) }
 {
     let mut i = d;
     while i < COSTS {
@@ -60,7 +60,7 @@ pub fn zero_past(d: usize, costs: [u16; COSTS]) -> bool
 
 // Says whether no board has d costs.
 pub fn cost_count_bad(d: usize) -> bool
-    ensures { result ≡ costCountBad d }
+    ensures { result ≡ cost_count_bad d }
 {
     d < 2 || COSTS < d
 }

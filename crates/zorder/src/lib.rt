@@ -3,6 +3,8 @@
 // The calls `address`, `costs` and `region` have no `requires`: they refuse. The functions of
 // `between` serve the crates above, which name no address: a wider address changes this crate
 // alone. So do `zero_past` and `cost_count_bad`.
+#![tactic(auto)]
+
 mod between;
 mod corners;
 mod interleave;
@@ -21,7 +23,7 @@ pub const COSTS: usize = 8;
 pub const BITS: usize = 16;
 
 // What a call of this crate says: document 01's 0, 2 and 7.
-#[derive(Drop)]
+#[derive(Clone, Copy)]
 pub enum Verdict {
     Accepted,
     BadCostCount,
@@ -30,25 +32,25 @@ pub enum Verdict {
 
 // An address of up to 128 bits: upper * 2^64 + lower.
 #[repr(C)]
-#[derive(Drop)]
+#[derive(Clone, Copy)]
 pub struct AddressWords {
     pub upper: u64,
     pub lower: u64,
 }
 
-#[derive(Drop)]
+#[derive(Clone, Copy)]
 pub struct AddressResult {
     pub verdict: Verdict,
     pub address: AddressWords,
 }
 
-#[derive(Drop)]
+#[derive(Clone, Copy)]
 pub struct CostsResult {
     pub verdict: Verdict,
     pub costs: [u16; COSTS],
 }
 
-#[derive(Drop)]
+#[derive(Clone, Copy)]
 pub struct RegionResult {
     pub verdict: Verdict,
     pub near: [u16; COSTS],
@@ -57,7 +59,7 @@ pub struct RegionResult {
 }
 
 // How the costs of one row stand to those of another in Z-order.
-#[derive(Drop)]
+#[derive(Clone, Copy)]
 pub enum Order {
     Before,
     Same,

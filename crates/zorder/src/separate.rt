@@ -1,8 +1,8 @@
 // From an address to its costs.
 ghost use Rattle.std.specs.Prelude.{◌≡◌, ◌≤◌, ◌<◌, ◌+◌, ◌*◌};
 ghost use Rattle.zorder.specs.Address as definition;
-ghost use Rattle.zorder.specs.Address.{rowCosts};
-ghost use Rattle.zorder.specs.Refusal.{addressBad};
+ghost use Rattle.zorder.specs.Address.{row_costs};
+ghost use Rattle.zorder.specs.Refusal.{address_bad};
 ghost use Rattle.zorder.specs.Promise.{CostsPromise};
 ghost use Rattle.zorder.specs.Words.{value};
 
@@ -12,8 +12,8 @@ use crate::{AddressWords, BITS, COSTS, CostsResult, Verdict};
 
 // The cost whose bits stand at place e, counted from the right, of each group of d.
 fn cost_in(d: usize, a: AddressWords, e: usize) -> u16
-    requires { (e < d) × (d ≤ rowCosts) }
-    ensures { result ≡ definition.costFromBits d e 16 (value a) }
+    requires { (e < d) × (d ≤ row_costs) }
+    ensures { result ≡ definition.cost_from_bits d e 16 (value a) }
 {
     let mut c: u16 = 0;
     let mut j = BITS;
@@ -26,8 +26,8 @@ fn cost_in(d: usize, a: AddressWords, e: usize) -> u16
 
 // Gives the d costs of an address, and zeros past them.
 pub(crate) fn separated(d: usize, a: AddressWords) -> [u16; COSTS]
-    requires { d ≤ rowCosts }
-    ensures { result ≡ definition.padded d (definition.costsOf d (value a)) }
+    requires { d ≤ row_costs }
+    ensures { result ≡ definition.padded d (definition.costs_of d (value a)) }
 {
     let mut costs = [0u16; COSTS];
     let mut e = d;
@@ -40,8 +40,8 @@ pub(crate) fn separated(d: usize, a: AddressWords) -> [u16; COSTS]
 
 // Says whether a has a bit beyond the 16 groups of d. With eight costs no two words have.
 pub(crate) fn too_large(d: usize, a: AddressWords) -> bool
-    requires { d ≤ rowCosts }
-    ensures { result ≡ addressBad d (value a) }
+    requires { d ≤ row_costs }
+    ensures { result ≡ address_bad d (value a) }
 {
     leading_zeros(a) < 128 - BITS * d
 }

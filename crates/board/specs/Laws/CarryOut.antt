@@ -4,12 +4,12 @@ use Rattle.std.proofs.Common.{sym, subst, arith}
 use Rattle.model.specs.Laws.Bool.{both_ways}
 use Rattle.promises.specs.Sound.{Sound}
 use Rattle.model.specs.Calls as calls
-use Rattle.dominance.specs.Move.{asMove}
+use Rattle.dominance.specs.Move.{as_move}
 use Rattle.dominance.specs.declared.Move.{Move}
 use Rattle.promises.specs.Layout.{number_in}
 use Rattle.promises.specs.Answers.{number_of}
-use Rattle.memory.specs.Stores.{setBlock}
-use Rattle.planning.specs.Kind.{changeOf, comes, comingOf}
+use Rattle.memory.specs.Stores.{set_block}
+use Rattle.planning.specs.Kind.{change_of, comes, coming_of}
 use Rattle.planning.specs.Change.{Made, EnterMade, WithdrawMade, RecostMade}
 use Rattle.planning.specs.Plan.{MovesReady, MovesMade, CarriedOut, PreparedFor}
 use Rattle.planning.specs.declared.change.Change.{Change}
@@ -28,30 +28,30 @@ module _ (p : ChangePlan) (m : List ℕ) (ready : MovesReady p m) (h : p.makes �
   sound-for Withdraw a = a.0.asked.sound.sound
   sound-for Recost a = a.asked.sound.sound
 
-  pub moves-made : {m' : List ℕ} {kind : Kind} → p.change.kind ≡ kind → Made (changeOf kind p.change.number p.change.block p.change.costs) m m' → MovesMade p m m'
+  pub moves-made : {m' : List ℕ} {kind : Kind} → p.change.kind ≡ kind → Made (change_of kind p.change.number p.change.block p.change.costs) m m' → MovesMade p m m'
   moves-made {m'} {kind} e made =
       let sound = sound-for kind (prepared-for e) in
       record {
-        made = λ _. subst (λ (kind : Kind). Made (changeOf kind p.change.number p.change.block p.change.costs) m m') (sym e) made;
+        made = λ _. subst (λ (kind : Kind). Made (change_of kind p.change.number p.change.block p.change.costs) m m') (sym e) made;
         idle = λ f. both_ways h f;
         length = (made.kept sound.tree sound.stands).only.length;
       }
 
 -- The change of moves as its kind makes it: of the move that comes.
-pub enter-as : {m m' : List ℕ} (y : Move) (x : Change) → y ≡ comingOf x → EnterMade (asMove y) m m' → Made (changeOf Enter x.number x.block x.costs) m m'
-unfolding changeOf
+pub enter-as : {m m' : List ℕ} (y : Move) (x : Change) → y ≡ coming_of x → EnterMade (as_move y) m m' → Made (change_of Enter x.number x.block x.costs) m m'
+unfolding change_of
 enter-as {m} {m'} y x e made = subst (λ (z : Move). Made (calls.enter z.number x.block z.costs) m m') e (made x.block)
 
-pub recost-as : {m m' : List ℕ} (y : Move) (x : Change) → y ≡ comingOf x → RecostMade (asMove y) m m' → Made (changeOf Recost x.number x.block x.costs) m m'
-unfolding changeOf
+pub recost-as : {m m' : List ℕ} (y : Move) (x : Change) → y ≡ coming_of x → RecostMade (as_move y) m m' → Made (change_of Recost x.number x.block x.costs) m m'
+unfolding change_of
 recost-as {m} {m'} y x e made = subst (λ (z : Move). Made (calls.recost z.number x.block z.costs) m m') e (made x.block)
 
-pub withdraw-as : {m m' : List ℕ} (c p : ℕ) (x : Change) → number_in c m p ≡ x.number → WithdrawMade c p m m' → Made (changeOf Withdraw x.number x.block x.costs) m m'
-unfolding changeOf
+pub withdraw-as : {m m' : List ℕ} (c p : ℕ) (x : Change) → number_in c m p ≡ x.number → WithdrawMade c p m m' → Made (change_of Withdraw x.number x.block x.costs) m m'
+unfolding change_of
 withdraw-as {m} {m'} c p x e made = subst (λ (n : ℕ). Made (calls.withdraw n) m m') e made
 
 -- An accepted plan carried out.
 pub carried-out : (p : ChangePlan) {m b m' : List ℕ} → number_of p.verdict ≡ 0 → MovesMade p m b
-    → (comes p.change.kind ≡ true → m' ≡ setBlock p.head.size p.change.number p.change.block b) → (comes p.change.kind ≡ false → m' ≡ b) → CarriedOut p m m'
+    → (comes p.change.kind ≡ true → m' ≡ set_block p.head.size p.change.number p.change.block b) → (comes p.change.kind ≡ false → m' ≡ b) → CarriedOut p m m'
 carried-out p {b = b} z made given kept =
     record { between = b; refused = λ h. absurd (omega (arith, z, h)); moves = λ _. made; given = λ _. given; kept = λ _. kept }

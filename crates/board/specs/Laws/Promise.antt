@@ -9,23 +9,23 @@ use Rattle.std.proofs.Math.ListN.{length, drop}
 use Rattle.std.proofs.lemmas.List.{length-map}
 use Rattle.model.specs.Moves.{Row}
 use Rattle.model.specs.Calls as calls
-use Rattle.model.specs.Calls.{changeRefusal, changeAnswer, changeNotice, changed, keepsMoves, changesNothing}
-use Rattle.model.specs.Changing.{changeTree}
+use Rattle.model.specs.Calls.{change_refusal, change_answer, change_notice, changed, keeps_moves, changes_nothing}
+use Rattle.model.specs.Changing.{change_tree}
 use Rattle.model.specs.Laws.Changes.{accepted-passes, nothing-keeps}
-use Rattle.promises.specs.Layout.{sizeIn, dimensionIn, boardIn}
+use Rattle.promises.specs.Layout.{size_in, dimension_in, board_in}
 use Rattle.promises.specs.Sound.{Sound}
-use Rattle.promises.specs.Answers.{number_of, result_row, rowsAfter, outcomeNumber}
+use Rattle.promises.specs.Answers.{number_of, result_row, rows_after, outcome_number}
 use Rattle.promises.specs.declared.Verdict.{Verdict}
-use Rattle.promises.specs.Written.{blockWrites, changeWrites}
+use Rattle.promises.specs.Written.{block_writes, change_writes}
 use Rattle.promises.specs.Promise.{MemoryAfter, ChangeSaid, ChangePromise}
-use Rattle.memory.specs.Stores.{setBlock}
-use Rattle.rows.specs.Telling.{filledRows}
+use Rattle.memory.specs.Stores.{set_block}
+use Rattle.rows.specs.Telling.{filled_rows}
 use Rattle.rows.specs.Planned.{answered, put}
 use Rattle.rows.specs.Laws.Telling.{filled-length}
 use Rattle.rows.specs.Laws.Planned.{foreseen-said, foreseen-unsaid, tells-put, tells_none, put_both}
 use Rattle.planning.specs.Kind.{call_of, comes}
 use Rattle.planning.specs.Change.{Made}
-use Rattle.planning.specs.Plan.{CarriedOut, Planned, left_of, rowsFilled}
+use Rattle.planning.specs.Plan.{CarriedOut, Planned, left_of, rows_filled}
 use Rattle.board.specs.Laws.Give.{kept-given, given-alone, given-again}
 use Rattle.planning.specs.declared.change.Change.{Change}
 use Rattle.planning.specs.declared.plan.ChangePlan.{ChangePlan}
@@ -37,9 +37,9 @@ module _ {x : Change} {m : List ℕ} {p : ChangePlan} (rows : List (List ℕ)) (
   lent = length-map rows result_row
 
   first : List (List ℕ)
-  first = filledRows (left_of p).told (left_of p).numbers m 0 (left_of p).count rows
+  first = filled_rows (left_of p).told (left_of p).numbers m 0 (left_of p).count rows
 
-  accepted-rows : number_of p.verdict ≡ 0 → map result_row (rowsFilled p m rows) ≡ changeNotice (boardIn m) (call_of x) ++ drop (length (changeNotice (boardIn m) (call_of x))) (map result_row rows)
+  accepted-rows : number_of p.verdict ≡ 0 → map result_row (rows_filled p m rows) ≡ change_notice (board_in m) (call_of x) ++ drop (length (change_notice (board_in m) (call_of x))) (map result_row rows)
   unfolding first
   accepted-rows z =
       let before = tells-put plan.leaves rows 0 (omega (arith, plan.enough, lent)) z in
@@ -49,21 +49,21 @@ module _ {x : Change} {m : List ℕ} {p : ChangePlan} (rows : List (List ℕ)) (
       ∙ put_both plan.lefts plan.entereds (map result_row rows)
       ∙ ap (λ (new : List Row). new ++ drop (length new) (map result_row rows)) (plan.notice z)
 
-  refused-rows : 0 < number_of p.verdict → rowsFilled p m rows ≡ rows
+  refused-rows : 0 < number_of p.verdict → rows_filled p m rows ≡ rows
   unfolding first
   refused-rows h = tells_none plan.enters first (left_of p).count h ∙ tells_none plan.leaves rows 0 h
 
-  pub plan-rows : map result_row (rowsFilled p m rows) ≡ rowsAfter (number_of p.verdict) (changeNotice (boardIn m) (call_of x)) (map result_row rows)
-  unfolding rowsAfter
+  pub plan-rows : map result_row (rows_filled p m rows) ≡ rows_after (number_of p.verdict) (change_notice (board_in m) (call_of x)) (map result_row rows)
+  unfolding rows_after
   plan-rows = by (number_of p.verdict) refl
     where
-      by : (k : ℕ) → number_of p.verdict ≡ k → map result_row (rowsFilled p m rows) ≡ rowsAfter k (changeNotice (boardIn m) (call_of x)) (map result_row rows)
+      by : (k : ℕ) → number_of p.verdict ≡ k → map result_row (rows_filled p m rows) ≡ rows_after k (change_notice (board_in m) (call_of x)) (map result_row rows)
       by zero e = accepted-rows e
       by (suc k) e = ap (map result_row) (refused-rows (omega (arith, e)))
 
   -- A plan that is told says what is said of its change, carried out or not.
-  pub plan-said : {after : List Row} → after ≡ map result_row (rowsFilled p m rows) → ChangeSaid (call_of x) m (map result_row rows) (answered p.verdict p.need p.opened) after
-  unfolding changeAnswer
+  pub plan-said : {after : List Row} → after ≡ map result_row (rows_filled p m rows) → ChangeSaid (call_of x) m (map result_row rows) (answered p.verdict p.need p.opened) after
+  unfolding change_answer
   plan-said {after} e =
       record {
         sound = foreseen-said plan.foreseen (map result_row rows) after (e ∙ plan-rows);
@@ -77,31 +77,31 @@ module _ {x : Change} {m m' : List ℕ} {lent : ℕ} {p : ChangePlan} (plan : Pl
   accepted-made e true f = subst (λ (y : Change). Made (call_of y) m out.between) plan.change ((out.moves e).made f)
   accepted-made e false f = subst (Made (call_of x) m) (sym ((out.moves e).idle f)) (plan.idle e f)
 
-  accepted-passed : Sound m → number_of p.verdict ≡ 0 → changeRefusal (boardIn m) (call_of x) ≡ 0
-  unfolding changeAnswer
+  accepted-passed : Sound m → number_of p.verdict ≡ 0 → change_refusal (board_in m) (call_of x) ≡ 0
+  unfolding change_answer
   accepted-passed s z =
-      accepted-passes (boardIn m) (call_of x) lent (sym (ap (λ (a : calls.Answer). a.number) (plan.foreseen.sound s)) ∙ z)
+      accepted-passes (board_in m) (call_of x) lent (sym (ap (λ (a : calls.Answer). a.number) (plan.foreseen.sound s)) ∙ z)
 
-  block-given : number_of p.verdict ≡ 0 → comes x.kind ≡ true → m' ≡ setBlock (sizeIn m) x.number x.block out.between
+  block-given : number_of p.verdict ≡ 0 → comes x.kind ≡ true → m' ≡ set_block (size_in m) x.number x.block out.between
   block-given z e =
       out.given z (ap (λ (y : Change). comes y.kind) plan.change ∙ e)
-      ∙ (λ i. setBlock (plan.size z i) (plan.change i).number (plan.change i).block out.between)
+      ∙ (λ i. set_block (plan.size z i) (plan.change i).number (plan.change i).block out.between)
 
   block-kept : number_of p.verdict ≡ 0 → comes x.kind ≡ false → m' ≡ out.between
   block-kept z e = out.kept z (ap (λ (y : Change). comes y.kind) plan.change ∙ e)
 
   pub plan-left : (k : ℕ) → number_of p.verdict ≡ k → (s : Sound m)
-      → MemoryAfter (changeWrites (sizeIn m) (call_of x)) k m m' (changed (boardIn m) (call_of x)) (changeTree (dimensionIn m) (call_of x) s.tree)
+      → MemoryAfter (change_writes (size_in m) (call_of x)) k m m' (changed (board_in m) (call_of x)) (change_tree (dimension_in m) (call_of x) s.tree)
   unfolding MemoryAfter
   plan-left zero e s =
       kept-given s x.kind x.number x.block x.costs ((accepted-made e p.makes refl).kept s.tree s.stands) (accepted-passed s e) (block-given e) (block-kept e)
   plan-left (suc k) e s = out.refused (omega (arith, e))
 
   -- Equal costs: no move changes.
-  kept-moves : Sound m → keepsMoves (boardIn m) (call_of x) ≡ true → (z : number_of p.verdict ≡ 0) → out.between ≡ m
+  kept-moves : Sound m → keeps_moves (board_in m) (call_of x) ≡ true → (z : number_of p.verdict ≡ 0) → out.between ≡ m
   kept-moves s e z = (out.moves z).idle (plan.nothing s e z)
 
-  plan-alone : Sound m → keepsMoves (boardIn m) (call_of x) ≡ true → (i : ℕ) → blockWrites (sizeIn m) (call_of x) i ≡ false → get_or m' i 0 ≡ get_or m i 0
+  plan-alone : Sound m → keeps_moves (board_in m) (call_of x) ≡ true → (i : ℕ) → block_writes (size_in m) (call_of x) i ≡ false → get_or m' i 0 ≡ get_or m i 0
   plan-alone s e i free = by_answer (dec_lt 0 (number_of p.verdict))
     where
       by_answer : Dec (0 < number_of p.verdict) → get_or m' i 0 ≡ get_or m i 0
@@ -111,21 +111,21 @@ module _ {x : Change} {m m' : List ℕ} {lent : ℕ} {p : ChangePlan} (plan : Pl
           given-alone x.kind x.number x.block x.costs e (kept-moves s e z) (block-given z) i free
 
   -- Equal costs and an equal block: the byte that is written holds it already.
-  plan-nothing : Sound m → changesNothing (boardIn m) (call_of x) ≡ true → m' ≡ m
+  plan-nothing : Sound m → changes_nothing (board_in m) (call_of x) ≡ true → m' ≡ m
   plan-nothing s e = by_answer (dec_lt 0 (number_of p.verdict))
     where
       by_answer : Dec (0 < number_of p.verdict) → m' ≡ m
       by_answer (yes h) = out.refused h
       by_answer (no h) =
           let z : number_of p.verdict ≡ 0 = omega arith in
-          given-again s x.kind x.number x.block x.costs (accepted-passed s z) e (kept-moves s (nothing-keeps (boardIn m) (call_of x) e) z) (block-given z)
+          given-again s x.kind x.number x.block x.costs (accepted-passed s z) e (kept-moves s (nothing-keeps (board_in m) (call_of x) e) z) (block-given z)
 
   plan-unsaid : (Sound m → ⊥) → m' ≡ m
-  unfolding outcomeNumber
+  unfolding outcome_number
   plan-unsaid bad = out.refused (omega (arith, ap (λ (v : Verdict). number_of v) (plan.foreseen.unsound bad)))
 
 pub plan-promise : {x : Change} {m m' : List ℕ} {p : ChangePlan} (rows : List (List ℕ)) {after : List Row} → Planned x m (length (map result_row rows)) p → CarriedOut p m m'
-    → after ≡ map result_row (rowsFilled p m rows) → ChangePromise (call_of x) m (map result_row rows) (answered p.verdict p.need p.opened) m' after
+    → after ≡ map result_row (rows_filled p m rows) → ChangePromise (call_of x) m (map result_row rows) (answered p.verdict p.need p.opened) m' after
 plan-promise {p = p} rows plan out e =
     record {
       said = plan-said rows plan e;

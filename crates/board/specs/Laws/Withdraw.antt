@@ -3,14 +3,14 @@ use Rattle.std.specs.Prelude.{ℕ, ◌-◌, ◌≤◌, ◌<◌, List, ◌≡◌,
 use Rattle.std.proofs.Math.Path.{refl}
 use Rattle.std.proofs.Common.{◌∙◌, subst}
 use Rattle.model.specs.Calls as calls
-use Rattle.model.specs.Changing.{changeTree}
+use Rattle.model.specs.Changing.{change_tree}
 use Rattle.promises.specs.Layout.{number_in}
 use Rattle.promises.specs.Run.{Bytes}
 use Rattle.memory.specs.Held.{SoundRows}
-use Rattle.memory.specs.Stores.{setCount}
+use Rattle.memory.specs.Stores.{set_count}
 use Rattle.memory.specs.Laws.Written.{only-trans, flags-written}
 use Rattle.tree.specs.Withdraw as withdraw
-use Rattle.upkeep.specs.Change.{movesAfter}
+use Rattle.upkeep.specs.Change.{moves_after}
 use Rattle.upkeep.specs.Flag.{SetFlags}
 use Rattle.upkeep.specs.Laws.Change.{rest-without}
 use Rattle.upkeep.specs.declared.exchange.Upkeep.{Upkeep}
@@ -36,8 +36,8 @@ module _ {c d n p : ℕ} {u : Upkeep} {m m₁ : List ℕ} (a : ToWithdraw c d n 
   pub withdraw-count-asked : {m₂ : List ℕ} → withdraw.Withdrawn c d n p m₁ m₂ → (16 ≤ length m₂) × (n - 1 < 65536)
   withdraw-count-asked w = holds-counted (gone-holds w s b a.place set.frame s.sound.tree s.sound.stands)
 
-  pub withdraw-made : {m₂ m₃ : List ℕ} → withdraw.Withdrawn c d n p m₁ m₂ → m₃ ≡ setCount (n - 1) m₂ → WithdrawMade c p m m₃
-  unfolding changeTree calls.changedMoves movesAfter
+  pub withdraw-made : {m₂ m₃ : List ℕ} → withdraw.Withdrawn c d n p m₁ m₂ → m₃ ≡ set_count (n - 1) m₂ → WithdrawMade c p m m₃
+  unfolding change_tree calls.changed_moves moves_after
   withdraw-made {m₂} w e₃ =
       record {
         kept = λ t stands.

@@ -7,7 +7,7 @@ use Rattle.model.specs.Calls as calls
 use Rattle.promises.specs.Answers.{result_row}
 use Rattle.rows.specs.Planned.{QueryPlanned, answered}
 use Rattle.rows.specs.Laws.Planned.{query-promise}
-use Rattle.rows.specs.Rows.{rowNumbers}
+use Rattle.rows.specs.Rows.{row_numbers}
 use Rattle.rows.specs.declared.plan.Plan.{Plan}
 use Rattle.rows.specs.declared.row.Row.{Row}
 use Rattle.planning.specs.Kind.{call_of}
@@ -22,7 +22,7 @@ use Rattle.calls.specs.declared.answer.Answer.{Answer}
 -- What is said with so many lent rows, by the rows as the definitions speak of them.
 by_rows : (Says : ℕ → Type 0) (lent : List Row) → Says (length lent) → Says (length (rows_of lent))
 unfolding rows_of
-by_rows Says lent = subst Says (sym (length-map (map rowNumbers lent) result_row ∙ length-map lent rowNumbers))
+by_rows Says lent = subst Says (sym (length-map (map row_numbers lent) result_row ∙ length-map lent row_numbers))
 
 -- ---- a list
 
@@ -36,7 +36,7 @@ module _ (q : calls.Query) {m : List ℕ} (lent : List Row) {p : Plan} (plan : Q
       record {
         answer = answered p.verdict p.need p.opened;
         handed = told.handed;
-        promise = query-promise (map rowNumbers lent) (by_rows (λ n. QueryPlanned q m n p) lent plan) (ap (map result_row) told.rows);
+        promise = query-promise (map row_numbers lent) (by_rows (λ n. QueryPlanned q m n p) lent plan) (ap (map result_row) told.rows);
       }
 
 -- ---- a change
@@ -56,7 +56,7 @@ module _ {x : Change} {c : calls.Change} (ties : call_of x ≡ c) {m : List ℕ}
         (record {
           answer = answered p.verdict p.need p.opened;
           handed = told.handed;
-          promise = plan-said (map rowNumbers lent) planned (ap (map result_row) told.rows);
+          promise = plan-said (map row_numbers lent) planned (ap (map result_row) told.rows);
         })
 
     pub change-exported : {m' : List ℕ} → CarriedOut p m m' → ChangeExported c m (rows_of lent) r m' (rows_of lent')
@@ -66,5 +66,5 @@ module _ {x : Change} {c : calls.Change} (ties : call_of x ≡ c) {m : List ℕ}
         (record {
           answer = answered p.verdict p.need p.opened;
           handed = told.handed;
-          promise = plan-promise (map rowNumbers lent) planned out (ap (map result_row) told.rows);
+          promise = plan-promise (map row_numbers lent) planned out (ap (map result_row) told.rows);
         })

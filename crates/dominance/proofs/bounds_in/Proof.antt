@@ -1,21 +1,21 @@
 -- `bounds_in` meets its contract, as `bounds_of` does. Assumes nothing.
 use Prim.Native.Nat.{◌-◌, ◌≤◌}
 use native.Mathlib.Omega.{arith}
-use Rattle.zorder.specs.Address.{rowCosts}
-use Rattle.dominance.specs.Lanes.{bound, isChosen}
+use Rattle.zorder.specs.Address.{row_costs}
+use Rattle.dominance.specs.Lanes.{bound, is_chosen}
 use Rattle.dominance.specs.Laws.Lanes.{FilledTo, filled_none, filled_more, filled-all}
 use Rattle.dominance.specs.Laws.Sums.{bit-small}
 use Rattle.dominance.proofs.bounds_in.Statement.{statement}
 use Rattle.dominance.proofs.bounds_in.Tie as tie
 
 abbrev invariant-loop : tie.invariant-loop
-invariant-loop set q bounds₀ i₀ bounds i = (i ≤ rowCosts) × FilledTo (bound (isChosen set) q) i bounds
+invariant-loop set q bounds₀ i₀ bounds i = (i ≤ row_costs) × FilledTo (bound (is_chosen set) q) i bounds
 
 abbrev decreases-loop : tie.decreases-loop
-decreases-loop set q bounds₀ i₀ bounds i = rowCosts - i
+decreases-loop set q bounds₀ i₀ bounds i = row_costs - i
 
 loop-holds : tie.Need-loop-init invariant-loop decreases-loop
-loop-holds c = let a = c.args in (omega arith, filled_none (bound (isChosen a.set) a.t2) a.t2 (omega arith))
+loop-holds c = let a = c.args in (omega arith, filled_none (bound (is_chosen a.set) a.t2) a.t2 (omega arith))
 
 cast-choose : tie.Need-overflow-cast-choose invariant-loop decreases-loop
 cast-choose c = omega (arith, bit-small c.before.before.args.set c.before.loop.i)

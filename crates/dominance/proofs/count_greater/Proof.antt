@@ -4,21 +4,21 @@ use mathlib.Core.Bool.{cond}
 use mathlib.Core.Path.{ap, ap₂, ◌∙◌}
 use native.Mathlib.Omega.{arith}
 use lib.ListN.{get_or}
-use Rattle.zorder.specs.Address.{rowCosts}
+use Rattle.zorder.specs.Address.{row_costs}
 use Rattle.model.specs.Dominance.{less}
-use Rattle.dominance.specs.Sums.{countLess}
+use Rattle.dominance.specs.Sums.{count_less}
 use Rattle.dominance.specs.Laws.Sums.{SumTo, sum-none, sum_more, sum-end, first_of, first_small, at-counted}
 use Rattle.dominance.proofs.count_greater.Statement.{statement}
 use Rattle.dominance.proofs.count_greater.Tie as tie
 
 abbrev invariant-loop : tie.invariant-loop
-invariant-loop d p q greater₀ i₀ greater i = (i ≤ rowCosts) × SumTo (first_of d) (first_small d) q p rowCosts i greater
+invariant-loop d p q greater₀ i₀ greater i = (i ≤ row_costs) × SumTo (first_of d) (first_small d) q p row_costs i greater
 
 abbrev decreases-loop : tie.decreases-loop
-decreases-loop d p q greater₀ i₀ greater i = rowCosts - i
+decreases-loop d p q greater₀ i₀ greater i = row_costs - i
 
 loop-holds : tie.Need-loop-init invariant-loop decreases-loop
-loop-holds c = (omega arith, sum-none (first_of c.args.d) (first_small c.args.d) c.args.t3 c.args.t2 rowCosts)
+loop-holds c = (omega arith, sum-none (first_of c.args.d) (first_small c.args.d) c.args.t3 c.args.t2 row_costs)
 
 less-times-requires : tie.Need-less-times-requires invariant-loop decreases-loop
 less-times-requires c κs = c.first-factor.ensures.1
@@ -27,7 +27,7 @@ less-times-requires c κs = c.first-factor.ensures.1
 more : (c : tie.After-less-times invariant-loop decreases-loop)
     → let a = c.before.before.before.before.args in
     let own = c.before.before.before.loop in
-    SumTo (first_of a.d) (first_small a.d) a.t3 a.t2 rowCosts (own.i + 1) (own.greater + c.less-times.result)
+    SumTo (first_of a.d) (first_small a.d) a.t3 a.t2 row_costs (own.i + 1) (own.greater + c.less-times.result)
 more c =
     let a = c.before.before.before.before.args in
     let own = c.before.before.before.loop in
@@ -44,8 +44,8 @@ returns : tie.Need-returns invariant-loop decreases-loop
 returns c =
     let a = c.before.before.args in
     let own = c.before.loop in
-    sum-end (first_of a.d) (first_small a.d) a.t3 a.t2 rowCosts own.i own.greater (omega arith) own.invariant.1
-    ∙ ap₂ countLess (at-counted a.d a.t3 (omega arith) (omega arith)) (at-counted a.d a.t2 (omega arith) (omega arith))
+    sum-end (first_of a.d) (first_small a.d) a.t3 a.t2 row_costs own.i own.greater (omega arith) own.invariant.1
+    ∙ ap₂ count_less (at-counted a.d a.t3 (omega arith) (omega arith)) (at-counted a.d a.t2 (omega arith) (omega arith))
 
 pub count-greater-spec : {M : Type 1} → statement M
 count-greater-spec =

@@ -4,20 +4,20 @@ use mathlib.Core.Bool.{cond}
 use mathlib.Core.Path.{ap, ap₂, ◌∙◌}
 use native.Mathlib.Omega.{arith}
 use lib.ListN.{get_or}
-use Rattle.zorder.specs.Address.{rowCosts}
-use Rattle.model.specs.Dominance.{less, somewhereLess}
+use Rattle.zorder.specs.Address.{row_costs}
+use Rattle.model.specs.Dominance.{less, somewhere_less}
 use Rattle.dominance.specs.Laws.Sums.{OrTo, or-none, or-more, or-end, first_of, first_small, at-counted}
 use Rattle.dominance.proofs.exceeds.Statement.{statement}
 use Rattle.dominance.proofs.exceeds.Tie as tie
 
 abbrev invariant-loop : tie.invariant-loop
-invariant-loop d p q greater₀ i₀ greater i = (i ≤ rowCosts) × OrTo (first_of d) (first_small d) q p rowCosts i greater
+invariant-loop d p q greater₀ i₀ greater i = (i ≤ row_costs) × OrTo (first_of d) (first_small d) q p row_costs i greater
 
 abbrev decreases-loop : tie.decreases-loop
-decreases-loop d p q greater₀ i₀ greater i = rowCosts - i
+decreases-loop d p q greater₀ i₀ greater i = row_costs - i
 
 loop-holds : tie.Need-loop-init invariant-loop decreases-loop
-loop-holds c = (omega arith, or-none (first_of c.args.d) (first_small c.args.d) c.args.t3 c.args.t2 rowCosts)
+loop-holds c = (omega arith, or-none (first_of c.args.d) (first_small c.args.d) c.args.t3 c.args.t2 row_costs)
 
 less-times-requires : tie.Need-less-times-requires invariant-loop decreases-loop
 less-times-requires c κs = c.first-factor.ensures.1
@@ -33,8 +33,8 @@ returns : tie.Need-returns invariant-loop decreases-loop
 returns c =
     let a = c.before.before.args in
     let own = c.before.loop in
-    or-end (first_of a.d) (first_small a.d) a.t3 a.t2 rowCosts own.i own.greater (omega arith) own.invariant.1
-    ∙ ap₂ somewhereLess (at-counted a.d a.t3 (omega arith) (omega arith)) (at-counted a.d a.t2 (omega arith) (omega arith))
+    or-end (first_of a.d) (first_small a.d) a.t3 a.t2 row_costs own.i own.greater (omega arith) own.invariant.1
+    ∙ ap₂ somewhere_less (at-counted a.d a.t3 (omega arith) (omega arith)) (at-counted a.d a.t2 (omega arith) (omega arith))
 
 pub exceeds-spec : {M : Type 1} → statement M
 exceeds-spec =

@@ -3,7 +3,7 @@ use Prim.Native.Nat.{ℕ, ◌+◌, ◌-◌, ◌≤◌}
 use mathlib.Core.Path.{ap, ◌∙◌}
 use native.Mathlib.Omega.{arith}
 use lib.ListN.{get_or}
-use Rattle.zorder.specs.Address.{rowCosts}
+use Rattle.zorder.specs.Address.{row_costs}
 use Rattle.zorder.proofs.Row.{row-costs}
 use Rattle.dominance.specs.Lanes.{greater}
 use Rattle.dominance.specs.Laws.Lanes.{FilledTo, filled_none, filled_more, filled-all, greater-number}
@@ -11,10 +11,10 @@ use Rattle.dominance.proofs.greatest.Statement.{statement}
 use Rattle.dominance.proofs.greatest.Tie as tie
 
 abbrev invariant-loop : tie.invariant-loop
-invariant-loop p q row₀ i₀ row i = (i ≤ rowCosts) × FilledTo (greater p q) i row
+invariant-loop p q row₀ i₀ row i = (i ≤ row_costs) × FilledTo (greater p q) i row
 
 abbrev decreases-loop : tie.decreases-loop
-decreases-loop p q row₀ i₀ row i = rowCosts - i
+decreases-loop p q row₀ i₀ row i = row_costs - i
 
 loop-holds : tie.Need-loop-init invariant-loop decreases-loop
 loop-holds c = let a = c.args in (omega arith, filled_none (greater a.t1 a.t2) a.t1 (omega arith))

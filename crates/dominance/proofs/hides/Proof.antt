@@ -5,21 +5,21 @@ use mathlib.Core.Path.{◌≡◌, sym, ap, ap₂, ◌∙◌}
 use lib.Dec.{ltb}
 use lib.ListN.{length, length-map}
 use borrow.Author.Rules.{rules}
-use Rattle.zorder.specs.Address.{rowCosts}
-use Rattle.model.specs.Dominance.{less, lowerTwin, hides}
+use Rattle.zorder.specs.Address.{row_costs}
+use Rattle.model.specs.Dominance.{less, lower_twin, hides}
 use Rattle.dominance.specs.Laws.Sums.{test-number, exceeds-dominate-or-equal}
 use Rattle.dominance.proofs.hides.Statement.{statement}
 use Rattle.dominance.proofs.hides.Tie as tie
 
 -- An array in a struct has its length.
-count-p : (c : tie.Start) → length c.args.p.costs ≡ rowCosts
+count-p : (c : tie.Start) → length c.args.p.costs ≡ row_costs
 count-p c = sym (length-map c.args.p.costs (λ (v : ℕ). v)) ∙ c.well-formed.1.0.1.1.1.0.1.0.1
 
-count-q : (c : tie.Start) → length c.args.q.costs ≡ rowCosts
+count-q : (c : tie.Start) → length c.args.q.costs ≡ row_costs
 count-q c = sym (length-map c.args.q.costs (λ (v : ℕ). v)) ∙ c.well-formed.1.1.0.1.1.1.0.1.0.1
 
 returns : tie.Need-returns
-unfolding hides lowerTwin less
+unfolding hides lower_twin less
 returns c =
     let start = c.before.before.before.before.before in
     let a = start.args in

@@ -3,17 +3,17 @@ use Prim.Native.Nat.{ℕ, ◌-◌, ◌≤◌}
 use mathlib.Core.Path.{ap, ◌∙◌}
 use native.Mathlib.Omega.{arith}
 use lib.ListN.{get_or}
-use Rattle.zorder.specs.Address.{rowCosts}
+use Rattle.zorder.specs.Address.{row_costs}
 use Rattle.dominance.specs.Lanes.{lesser}
 use Rattle.dominance.specs.Laws.Lanes.{FilledTo, filled_none, filled_more, filled-all, lesser-number}
 use Rattle.dominance.proofs.least.Statement.{statement}
 use Rattle.dominance.proofs.least.Tie as tie
 
 abbrev invariant-loop : tie.invariant-loop
-invariant-loop p q row₀ i₀ row i = (i ≤ rowCosts) × FilledTo (lesser p q) i row
+invariant-loop p q row₀ i₀ row i = (i ≤ row_costs) × FilledTo (lesser p q) i row
 
 abbrev decreases-loop : tie.decreases-loop
-decreases-loop p q row₀ i₀ row i = rowCosts - i
+decreases-loop p q row₀ i₀ row i = row_costs - i
 
 loop-holds : tie.Need-loop-init invariant-loop decreases-loop
 loop-holds c = let a = c.args in (omega arith, filled_none (lesser a.t1 a.t2) a.t1 (omega arith))

@@ -6,11 +6,11 @@ use Rattle.std.proofs.Common.{sym, ap, ◌∙◌, subst, zero-mul, one-mul, arit
 use Rattle.std.proofs.Math.Decide.{ℕ_discrete, dec_lt}
 use borrow.Author.Tests.{ltb-true, ltb-false, lt-ltb}
 use Rattle.std.proofs.Math.ListN.{get_or, get_or-eq_default}
-use Rattle.zorder.specs.Address.{rowCosts}
-use Rattle.model.specs.Dominance.{less, nowhereGreater}
-use Rattle.model.specs.Laws.Bool.{testCases, same_test}
+use Rattle.zorder.specs.Address.{row_costs}
+use Rattle.model.specs.Dominance.{less, nowhere_greater}
+use Rattle.model.specs.Laws.Bool.{test_cases, same_test}
 use Rattle.model.specs.Laws.Dominance.{nowhere-greater-places, places-nowhere-greater, take-same-length}
-use Rattle.dominance.specs.Lanes.{Lanes, bound, isFirst, lesser, greater}
+use Rattle.dominance.specs.Lanes.{Lanes, bound, is_first, lesser, greater}
 
 -- ---- a choice by a factor
 
@@ -21,7 +21,7 @@ chosen-number (suc (suc k)) a b h = absurd (omega arith)
 
 pub chosen-small : (k a b n : ℕ) → k < 2 → a < n → b < n → k * a + (1 - k) * b < n
 chosen-small k a b n h l g =
-    subst (λ (x : ℕ). x < n) (sym (chosen-number k a b h)) (testCases (λ t. cond t a b < n) (eqb k 1) (λ e. l) (λ e. g))
+    subst (λ (x : ℕ). x < n) (sym (chosen-number k a b h)) (test_cases (λ t. cond t a b < n) (eqb k 1) (λ e. l) (λ e. g))
 
 pub factor-test : (t : Bool) → eqb (cond t 1 0) 1 ≡ t
 factor-test true = refl
@@ -31,20 +31,20 @@ factor-test false = refl
 
 -- The first i places are filled.
 pub record FilledTo (f : ℕ → ℕ) (i : ℕ) (row : List ℕ) : Type 0 where
-  pub wide : length row ≡ rowCosts
+  pub wide : length row ≡ row_costs
   pub holds : (k : ℕ) → k < i → get_or row k 0 ≡ f k
 
-pub filled_none : (f : ℕ → ℕ) (row : List ℕ) → length row ≡ rowCosts → FilledTo f 0 row
+pub filled_none : (f : ℕ → ℕ) (row : List ℕ) → length row ≡ row_costs → FilledTo f 0 row
 filled_none f row e = record { wide = e; holds = λ k l. absurd (omega arith) }
 
-pub filled_more : {f : ℕ → ℕ} {i : ℕ} {row : List ℕ} (v : ℕ) → FilledTo f i row → i < rowCosts → v ≡ f i → FilledTo f (i + 1) (set row i v)
+pub filled_more : {f : ℕ → ℕ} {i : ℕ} {row : List ℕ} (v : ℕ) → FilledTo f i row → i < row_costs → v ≡ f i → FilledTo f (i + 1) (set row i v)
 filled_more {f} {i} {row} v h l e = record { wide = length-set row i v ∙ h.wide; holds = λ k m. go k m (ℕ_discrete k i) }
   where
     go : (k : ℕ) → k < i + 1 → Dec (k ≡ i) → get_or (set row i v) k 0 ≡ f k
     go k m (yes same) = ap (λ (j : ℕ). get_or (set row i v) j 0) same ∙ get_or-set_same row i v 0 (omega (arith, h.wide)) ∙ e ∙ ap f (sym same)
     go k m (no other) = get_or-set_other row i k v 0 other ∙ h.holds k (omega arith)
 
-pub filled-all : {f : ℕ → ℕ} {i : ℕ} {row : List ℕ} → FilledTo f i row → rowCosts ≤ i → Lanes f row
+pub filled-all : {f : ℕ → ℕ} {i : ℕ} {row : List ℕ} → FilledTo f i row → row_costs ≤ i → Lanes f row
 filled-all h l = record { wide = h.wide; holds = λ k m. h.holds k (omega arith) }
 
 -- ---- the lesser and the greater of two
@@ -53,7 +53,7 @@ filled-all h l = record { wide = h.wide; holds = λ k m. h.holds k (omega arith)
 pub over-number : (a b : ℕ) → (b ≤ cond (less b a) a b) × (cond (less b a) a b - b ≡ a - b)
 unfolding less
 over-number a b =
-    testCases (λ t. (b ≤ cond t a b) × (cond t a b - b ≡ a - b)) (ltb b a)
+    test_cases (λ t. (b ≤ cond t a b) × (cond t a b - b ≡ a - b)) (ltb b a)
     (λ e. (omega (arith, ltb-true b a e), omega arith))
     (λ e. (omega arith, omega (arith, ltb-false b a e)))
 
@@ -61,14 +61,14 @@ module _ (p q : List ℕ) (i : ℕ) where
   pub lesser-number : get_or p i 0 - (get_or p i 0 - get_or q i 0) ≡ lesser p q i
   unfolding less
   lesser-number =
-      testCases (λ t. get_or p i 0 - (get_or p i 0 - get_or q i 0) ≡ cond t (get_or q i 0) (get_or p i 0)) (ltb (get_or q i 0) (get_or p i 0))
+      test_cases (λ t. get_or p i 0 - (get_or p i 0 - get_or q i 0) ≡ cond t (get_or q i 0) (get_or p i 0)) (ltb (get_or q i 0) (get_or p i 0))
       (λ e. omega (arith, ltb-true (get_or q i 0) (get_or p i 0) e))
       (λ e. omega (arith, ltb-false (get_or q i 0) (get_or p i 0) e))
 
   pub greater-number : get_or p i 0 + (get_or q i 0 - get_or p i 0) ≡ greater p q i
   unfolding less
   greater-number =
-      testCases (λ t. get_or p i 0 + (get_or q i 0 - get_or p i 0) ≡ cond t (get_or q i 0) (get_or p i 0)) (ltb (get_or p i 0) (get_or q i 0))
+      test_cases (λ t. get_or p i 0 + (get_or q i 0 - get_or p i 0) ≡ cond t (get_or q i 0) (get_or p i 0)) (ltb (get_or p i 0) (get_or q i 0))
       (λ e. omega (arith, ltb-true (get_or p i 0) (get_or q i 0) e))
       (λ e. omega (arith, ltb-false (get_or p i 0) (get_or q i 0) e))
 
@@ -82,38 +82,38 @@ module _ (p q : List ℕ) (i : ℕ) where
 
 -- p is nowhere greater than q at the places that pass the test.
 abbrev pub WithinAt : (ℕ → Bool) → List ℕ → List ℕ → Type 0
-WithinAt test p q = (i : ℕ) → i < rowCosts → test i ≡ true → get_or p i 0 ≤ get_or q i 0
+WithinAt test p q = (i : ℕ) → i < row_costs → test i ≡ true → get_or p i 0 ≤ get_or q i 0
 
-module _ (test : ℕ → Bool) (p q l : List ℕ) (bounds : Lanes (bound test q) l) (wide : length p ≡ rowCosts) where
-  pub bounds-places : nowhereGreater p l ≡ true → WithinAt test p q
+module _ (test : ℕ → Bool) (p q l : List ℕ) (bounds : Lanes (bound test q) l) (wide : length p ≡ row_costs) where
+  pub bounds-places : nowhere_greater p l ≡ true → WithinAt test p q
   bounds-places h i k e =
       omega (arith, nowhere-greater-places p l (wide ∙ sym bounds.wide) h i, bounds.holds i k ∙ ap (λ (t : Bool). cond t (get_or q i 0) 65535) e)
 
-  pub places-bounds : ((i : ℕ) → get_or p i 0 < 65536) → WithinAt test p q → nowhereGreater p l ≡ true
-  places-bounds small h = places-nowhere-greater p l (λ i. go i (dec_lt i rowCosts))
+  pub places-bounds : ((i : ℕ) → get_or p i 0 < 65536) → WithinAt test p q → nowhere_greater p l ≡ true
+  places-bounds small h = places-nowhere-greater p l (λ i. go i (dec_lt i row_costs))
     where
-      go : (i : ℕ) → Dec (i < rowCosts) → get_or p i 0 ≤ get_or l i 0
+      go : (i : ℕ) → Dec (i < row_costs) → get_or p i 0 ≤ get_or l i 0
       go i (no k) = omega (arith, get_or-eq_default p 0 {n = i} (omega arith))
       go i (yes k) =
           subst (λ (x : ℕ). get_or p i 0 ≤ x) (sym (bounds.holds i k))
-          (testCases (λ t. get_or p i 0 ≤ cond t (get_or q i 0) 65535) (test i) (h i k) (λ e. omega (arith, small i)))
+          (test_cases (λ t. get_or p i 0 ≤ cond t (get_or q i 0) 65535) (test i) (h i k) (λ e. omega (arith, small i)))
 
 -- On the first d costs.
-module _ (d : ℕ) (p q l : List ℕ) (few : d ≤ rowCosts) (bounds : Lanes (bound (isFirst d) q) l) (wide : length p ≡ rowCosts) (count : length q ≡ rowCosts) (small : (i : ℕ) → get_or p i 0 < 65536) where
-  pub bounds-first : nowhereGreater p l ≡ nowhereGreater (take d p) (take d q)
+module _ (d : ℕ) (p q l : List ℕ) (few : d ≤ row_costs) (bounds : Lanes (bound (is_first d) q) l) (wide : length p ≡ row_costs) (count : length q ≡ row_costs) (small : (i : ℕ) → get_or p i 0 < 65536) where
+  pub bounds-first : nowhere_greater p l ≡ nowhere_greater (take d p) (take d q)
   bounds-first =
-      same_test (nowhereGreater p l) (nowhereGreater (take d p) (take d q))
+      same_test (nowhere_greater p l) (nowhere_greater (take d p) (take d q))
       (λ h. places-nowhere-greater (take d p) (take d q) (λ i. forth h i (dec_lt i d)))
-      (λ h. places-bounds (isFirst d) p q l bounds wide small (λ i k e. back h i (ltb-true i d e)))
+      (λ h. places-bounds (is_first d) p q l bounds wide small (λ i k e. back h i (ltb-true i d e)))
     where
-      taken : (x : List ℕ) → length x ≡ rowCosts → (i : ℕ) → d ≤ i → get_or (take d x) i 0 ≡ 0
+      taken : (x : List ℕ) → length x ≡ row_costs → (i : ℕ) → d ≤ i → get_or (take d x) i 0 ≡ 0
       taken x e i k = get_or-eq_default (take d x) 0 {n = i} (omega (arith, length-take-le d x (omega arith)))
 
-      forth : nowhereGreater p l ≡ true → (i : ℕ) → Dec (i < d) → get_or (take d p) i 0 ≤ get_or (take d q) i 0
+      forth : nowhere_greater p l ≡ true → (i : ℕ) → Dec (i < d) → get_or (take d p) i 0 ≤ get_or (take d q) i 0
       forth h i (yes k) =
-          omega (arith, get_or-take d p i 0 k, get_or-take d q i 0 k, bounds-places (isFirst d) p q l bounds wide h i (omega arith) (lt-ltb i d k))
+          omega (arith, get_or-take d p i 0 k, get_or-take d q i 0 k, bounds-places (is_first d) p q l bounds wide h i (omega arith) (lt-ltb i d k))
       forth h i (no k) = omega (arith, taken p wide i (omega arith))
 
-      back : nowhereGreater (take d p) (take d q) ≡ true → (i : ℕ) → i < d → get_or p i 0 ≤ get_or q i 0
+      back : nowhere_greater (take d p) (take d q) ≡ true → (i : ℕ) → i < d → get_or p i 0 ≤ get_or q i 0
       back h i k =
           omega (arith, get_or-take d p i 0 k, get_or-take d q i 0 k, nowhere-greater-places (take d p) (take d q) (take-same-length d p q (wide ∙ sym count)) h i)

@@ -6,24 +6,24 @@ use Rattle.std.proofs.Common.{sym, ap₂, ◌∙◌, mod-lt, zero-add, zero-mul,
 use Rattle.std.proofs.lemmas.Bool.{eqb-false}
 use Rattle.std.specs.Int.Bits.{bit_or, or_add_and}
 use Rattle.std.proofs.lemmas.Nat.{and_le_l, and_le_r}
-use Rattle.zorder.specs.Address.{rowCosts}
-use Rattle.model.specs.Basics.{consIf, select, numbersFrom}
-use Rattle.model.specs.Dominance.{less, nowhereGreater, somewhereLess, better, at, dominates, equalCosts}
-use Rattle.model.specs.Lists.{chosenCosts}
-use Rattle.model.specs.Laws.Bool.{testCases, same_test}
+use Rattle.zorder.specs.Address.{row_costs}
+use Rattle.model.specs.Basics.{cons_if, select, numbers_from}
+use Rattle.model.specs.Dominance.{less, nowhere_greater, somewhere_less, better, at, dominates, equal_costs}
+use Rattle.model.specs.Lists.{chosen_costs}
+use Rattle.model.specs.Laws.Bool.{test_cases, same_test}
 use Rattle.model.specs.Laws.Basics.{at_most_one}
 use Rattle.model.specs.Laws.Dominance.{take-same-length}
 use Rattle.model.specs.Laws.Hiding.{better-or-equal}
 use Rattle.model.specs.Laws.Queries.{at_first}
 use Rattle.model.specs.Laws.Chosen.{chosen-first, bit-first, bit-past-first}
 use Rattle.model.specs.Laws.Range.{from, from_all, from_more, from_end}
-use Rattle.dominance.specs.Sums.{countLess}
+use Rattle.dominance.specs.Sums.{count_less}
 
 -- The widened difference, divided: 1 if a is less than b, else 0.
 pub less-number : (a b : ℕ) → a < 65536 → b < 65536 → (65535 + b - a) / 65536 ≡ cond (less a b) 1 0
 unfolding less
 less-number a b h k =
-    testCases (λ t. (65535 + b - a) / 65536 ≡ cond t 1 0) (ltb a b)
+    test_cases (λ t. (65535 + b - a) / 65536 ≡ cond t 1 0) (ltb a b)
     (λ e. omega (arith, ltb-true a b e))
     (λ e. omega (arith, ltb-false a b e))
 
@@ -41,9 +41,9 @@ less-times (suc zero) a b h = ap₂ (λ (x y : ℕ). cond (ltb x y) 1 0) (one-mu
 less-times (suc (suc k)) a b h = absurd (omega arith)
 
 -- A division that gives 1 before d, and 0 from d on.
-pub first-number : (d i : ℕ) → d ≤ rowCosts → i < rowCosts → (d + rowCosts - 1 - i) / rowCosts ≡ cond (ltb i d) 1 0
+pub first-number : (d i : ℕ) → d ≤ row_costs → i < row_costs → (d + row_costs - 1 - i) / row_costs ≡ cond (ltb i d) 1 0
 first-number d i h k =
-    testCases (λ t. (d + rowCosts - 1 - i) / rowCosts ≡ cond t 1 0) (ltb i d)
+    test_cases (λ t. (d + row_costs - 1 - i) / row_costs ≡ cond t 1 0) (ltb i d)
     (λ e. omega (arith, ltb-true i d e))
     (λ e. omega (arith, ltb-false i d e))
 
@@ -54,29 +54,29 @@ not-or true b c e = refl
 not-or false b c e = e
 
 -- Nowhere greater: the other is nowhere less.
-pub nowhere-somewhere : (p q : List ℕ) → nowhereGreater p q ≡ not (somewhereLess q p)
-unfolding nowhereGreater somewhereLess
+pub nowhere-somewhere : (p q : List ℕ) → nowhere_greater p q ≡ not (somewhere_less q p)
+unfolding nowhere_greater somewhere_less
 nowhere-somewhere [] [] = refl
 nowhere-somewhere [] (b ∷ q) = refl
 nowhere-somewhere (a ∷ p) [] = refl
-nowhere-somewhere (a ∷ p) (b ∷ q) = not-or (less b a) (nowhereGreater p q) (somewhereLess q p) (nowhere-somewhere p q)
+nowhere-somewhere (a ∷ p) (b ∷ q) = not-or (less b a) (nowhere_greater p q) (somewhere_less q p) (nowhere-somewhere p q)
 
 -- "nowhere greater and somewhere less"
-pub exceeds-better : (p q : List ℕ) → (not (somewhereLess q p) && somewhereLess p q) ≡ better p q
+pub exceeds-better : (p q : List ℕ) → (not (somewhere_less q p) && somewhere_less p q) ≡ better p q
 unfolding better
-exceeds-better p q = ap (λ (b : Bool). b && somewhereLess p q) (sym (nowhere-somewhere p q))
+exceeds-better p q = ap (λ (b : Bool). b && somewhere_less p q) (sym (nowhere-somewhere p q))
 
 -- On the first d costs that is Definition 1; with a test that stands for "somewhere less" of equal costs, it is Definition 1 or
 -- equal costs with that test.
-pub exceeds-dominate : (d : ℕ) (p q : List ℕ) → (not (somewhereLess (take d q) (take d p)) && somewhereLess (take d p) (take d q)) ≡ dominates d p q
+pub exceeds-dominate : (d : ℕ) (p q : List ℕ) → (not (somewhere_less (take d q) (take d p)) && somewhere_less (take d p) (take d q)) ≡ dominates d p q
 unfolding dominates
 exceeds-dominate d p q = exceeds-better (take d p) (take d q)
 
 pub exceeds-dominate-or-equal : (d : ℕ) (p q : List ℕ) (lower : Bool) → length p ≡ length q
-    → (not (somewhereLess (take d q) (take d p)) && (lower || somewhereLess (take d p) (take d q))) ≡ (dominates d p q || (equalCosts d p q && lower))
-unfolding dominates equalCosts
+    → (not (somewhere_less (take d q) (take d p)) && (lower || somewhere_less (take d p) (take d q))) ≡ (dominates d p q || (equal_costs d p q && lower))
+unfolding dominates equal_costs
 exceeds-dominate-or-equal d p q lower n =
-    ap₂ ◌&&◌ (sym (nowhere-somewhere (take d p) (take d q))) (or_comm lower (somewhereLess (take d p) (take d q)))
+    ap₂ ◌&&◌ (sym (nowhere-somewhere (take d p) (take d q))) (or_comm lower (somewhere_less (take d p) (take d q)))
     ∙ better-or-equal (take d p) (take d q) lower (take-same-length d p q n)
 
 -- ---- a sum, and whether it is 0
@@ -96,19 +96,19 @@ pub test-number : (b : Bool) → ltb 0 (cond b 1 0) ≡ b
 test-number true = refl
 test-number false = refl
 
-somewhere-sum : (p q : List ℕ) → ltb 0 (countLess p q) ≡ somewhereLess p q
-unfolding countLess somewhereLess
+somewhere-sum : (p q : List ℕ) → ltb 0 (count_less p q) ≡ somewhere_less p q
+unfolding count_less somewhere_less
 somewhere-sum [] q = refl
 somewhere-sum (a ∷ p) [] = refl
-somewhere-sum (a ∷ p) (b ∷ q) = some-sum (cond (less a b) 1 0) (countLess p q) ∙ ap₂ ◌||◌ (test-number (less a b)) (somewhere-sum p q)
+somewhere-sum (a ∷ p) (b ∷ q) = some-sum (cond (less a b) 1 0) (count_less p q) ∙ ap₂ ◌||◌ (test-number (less a b)) (somewhere-sum p q)
 
 -- No sum is more than the number of costs.
-pub count-few : (p q : List ℕ) → countLess p q ≤ length p
-unfolding countLess
+pub count-few : (p q : List ℕ) → count_less p q ≤ length p
+unfolding count_less
 count-few [] q = omega arith
 count-few (a ∷ p) [] = omega arith
 count-few (a ∷ p) (b ∷ q) =
-    testCases (λ (t : Bool). cond t 1 0 + countLess p q ≤ length (a ∷ p)) (less a b)
+    test_cases (λ (t : Bool). cond t 1 0 + count_less p q ≤ length (a ∷ p)) (less a b)
     (λ e. omega (arith, count-few p q))
     (λ e. omega (arith, count-few p q))
 
@@ -135,10 +135,10 @@ module _ (factor : ℕ → ℕ) (small : (i : ℕ) → factor i < 2) (a b : List
 
   -- What the costs at some places add, those of factor 0 left out.
   pub added : List ℕ → ℕ
-  added s = countLess (at (counted factor s) a) (at (counted factor s) b)
+  added s = count_less (at (counted factor s) a) (at (counted factor s) b)
 
-  added-if : (i : ℕ) (s : List ℕ) (t : Bool) → countLess (at (consIf t i s) a) (at (consIf t i s) b) ≡ cond t (cond (lower i) 1 0 + countLess (at s a) (at s b)) (countLess (at s a) (at s b))
-  unfolding at countLess
+  added-if : (i : ℕ) (s : List ℕ) (t : Bool) → count_less (at (cons_if t i s) a) (at (cons_if t i s) b) ≡ cond t (cond (lower i) 1 0 + count_less (at s a) (at s b)) (count_less (at s a) (at s b))
+  unfolding at count_less
   added-if i s true = refl
   added-if i s false = refl
 
@@ -151,7 +151,7 @@ module _ (factor : ℕ → ℕ) (small : (i : ℕ) → factor i < 2) (a b : List
   -- The costs before cost i are summed up: with those to come that is the whole.
   pub record SumTo (n i sum : ℕ) : Type 0 where
     pub few : sum ≤ i
-    pub whole : sum + added (from n i) ≡ added (numbersFrom 0 n)
+    pub whole : sum + added (from n i) ≡ added (numbers_from 0 n)
 
   pub sum-none : (n : ℕ) → SumTo n 0 0
   sum-none n = record { few = omega arith; whole = zero-add (added (from n 0)) ∙ ap added (from_all n) }
@@ -163,8 +163,8 @@ module _ (factor : ℕ → ℕ) (small : (i : ℕ) → factor i < 2) (a b : List
         whole = omega (arith, t.whole, ap added (from_more n i h), added-cons i (from n (i + 1)));
       }
 
-  pub sum-end : (n i sum : ℕ) → n ≤ i → SumTo n i sum → sum ≡ countLess (at (counted factor (numbersFrom 0 n)) a) (at (counted factor (numbersFrom 0 n)) b)
-  unfolding added counted select at countLess
+  pub sum-end : (n i sum : ℕ) → n ≤ i → SumTo n i sum → sum ≡ count_less (at (counted factor (numbers_from 0 n)) a) (at (counted factor (numbers_from 0 n)) b)
+  unfolding added counted select at count_less
   sum-end n i sum h t = omega (arith, t.whole, ap added (from_end n i h))
 
   -- Whether there is one among the costs before cost i, by an or: 0 exactly if their sum is.
@@ -182,11 +182,11 @@ module _ (factor : ℕ → ℕ) (small : (i : ℕ) → factor i < 2) (a b : List
   pub or-more : {n i : ℕ} (any x : ℕ) → i < n → x ≡ factor i * cond (lower i) 1 0 → OrTo n i any → OrTo n (i + 1) (bit_or any x)
   or-more any x h e t = record { sum = t.sum + x; to = sum_more t.sum x h e t.to; same = same_more any x t.sum t.same }
 
-  pub or-end : (n i any : ℕ) → n ≤ i → OrTo n i any → ltb 0 any ≡ somewhereLess (at (counted factor (numbersFrom 0 n)) a) (at (counted factor (numbersFrom 0 n)) b)
+  pub or-end : (n i any : ℕ) → n ≤ i → OrTo n i any → ltb 0 any ≡ somewhere_less (at (counted factor (numbers_from 0 n)) a) (at (counted factor (numbers_from 0 n)) b)
   or-end n i any h t =
       t.same
       ∙ ap (ltb 0) (sum-end n i t.sum h t.to)
-      ∙ somewhere-sum (at (counted factor (numbersFrom 0 n)) a) (at (counted factor (numbersFrom 0 n)) b)
+      ∙ somewhere-sum (at (counted factor (numbers_from 0 n)) a) (at (counted factor (numbers_from 0 n)) b)
 
 -- ---- the factors of a set, and of the first d costs
 
@@ -202,20 +202,20 @@ first_of d i = cond (ltb i d) 1 0
 pub first_small : (d i : ℕ) → first_of d i < 2
 first_small d i = omega (arith, at_most_one (ltb i d))
 
-pub counted-set : (n set : ℕ) → counted (bit_of set) (numbersFrom 0 n) ≡ chosenCosts n set
-unfolding counted chosenCosts
+pub counted-set : (n set : ℕ) → counted (bit_of set) (numbers_from 0 n) ≡ chosen_costs n set
+unfolding counted chosen_costs
 counted-set n set = refl
 
-pub counted-first : (n d : ℕ) → d ≤ n → counted (first_of d) (numbersFrom 0 n) ≡ numbersFrom 0 d
-unfolding counted chosenCosts
-counted-first n d h = (λ i. select (λ j. eqb (first_bit j i) 1) (numbersFrom 0 n)) ∙ chosen-first n d h
+pub counted-first : (n d : ℕ) → d ≤ n → counted (first_of d) (numbers_from 0 n) ≡ numbers_from 0 d
+unfolding counted chosen_costs
+counted-first n d h = (λ i. select (λ j. eqb (first_bit j i) 1) (numbers_from 0 n)) ∙ chosen-first n d h
   where
     first_bit : (j : ℕ) → first_of d j ≡ bit_of (2 ^ d - 1) j
     first_bit j =
-        testCases (λ t. cond t 1 0 ≡ bit_of (2 ^ d - 1) j) (ltb j d)
+        test_cases (λ t. cond t 1 0 ≡ bit_of (2 ^ d - 1) j) (ltb j d)
         (λ e. sym (bit-first d j (ltb-true j d e)))
         (λ e. sym (bit-past-first d j (ltb-false j d e)))
 
 -- The costs there are the first d.
-pub at-counted : (d : ℕ) (p : List ℕ) → d ≤ rowCosts → length p ≡ rowCosts → at (counted (first_of d) (numbersFrom 0 rowCosts)) p ≡ take d p
-at-counted d p h l = ap (λ (s : List ℕ). at s p) (counted-first rowCosts d h) ∙ at_first d p (omega arith)
+pub at-counted : (d : ℕ) (p : List ℕ) → d ≤ row_costs → length p ≡ row_costs → at (counted (first_of d) (numbers_from 0 row_costs)) p ≡ take d p
+at-counted d p h l = ap (λ (s : List ℕ). at s p) (counted-first row_costs d h) ∙ at_first d p (omega arith)

@@ -10,18 +10,18 @@ use Rattle.std.proofs.Math.ListN.{get_or-append, get_or-eq_default}
 use Rattle.std.proofs.Math.Seq.{get_or-append_seam}
 use Rattle.model.specs.Basics.{all}
 use Rattle.model.specs.Laws.Basics.{all_append}
-use Rattle.model.specs.Laws.Bool.{byCases, testCases}
-use Rattle.frame_lines.specs.Digits.{isDigit}
-use Rattle.frame_lines.specs.Reading.{mostDigits, Judged, ByteKept}
+use Rattle.model.specs.Laws.Bool.{by_cases, test_cases}
+use Rattle.frame_lines.specs.Digits.{is_digit}
+use Rattle.frame_lines.specs.Reading.{most_digits, Judged, ByteKept}
 use Rattle.frame_lines.specs.declared.reading.Line.{Line}
 
-pub judged-none : Judged [] (record { first = replicate mostDigits 0; count = 0; odd = false; spelled = true })
+pub judged-none : Judged [] (record { first = replicate most_digits 0; count = 0; odd = false; spelled = true })
 unfolding all
-judged-none = record { first = λ i h. get_or-replicate mostDigits i 0 0 h; count = refl; odd = refl; spelled = refl }
+judged-none = record { first = λ i h. get_or-replicate most_digits i 0 0 h; count = refl; odd = refl; spelled = refl }
 
 odd-next : (n : ℕ) → not (eqb (n % 2) 1) ≡ eqb ((n + 1) % 2) 1
 odd-next n =
-    testCases (λ (b : Bool). not b ≡ eqb ((n + 1) % 2) 1) (eqb (n % 2) 1)
+    test_cases (λ (b : Bool). not b ≡ eqb ((n + 1) % 2) 1) (eqb (n % 2) 1)
     (λ e. let odd : n % 2 ≡ 1 = eqb-true (n % 2) 1 e in sym (ne_eqb ((n + 1) % 2) 1 (λ z. omega arith)))
     (λ e. let even : n % 2 ≡ 1 → ⊥ = eqb-false (n % 2) 1 e in sym (eq-eqb ((n + 1) % 2) 1 (omega arith)))
 
@@ -32,7 +32,7 @@ module _ (line : List ℕ) (b : ℕ) where
 
   more-other : (i : ℕ) → (i ≡ length line → ⊥) → get_or line i 0 ≡ get_or (line ++ b ∷ []) i 0
   more-other i other =
-      byCases (ltb i (length line))
+      by_cases (ltb i (length line))
       (λ e. sym (get_or-append line (b ∷ []) 0 i (ltb-true i (length line) e)))
       (λ e.
       let past : length line ≤ i = ltb-false i (length line) e in
@@ -41,9 +41,9 @@ module _ (line : List ℕ) (b : ℕ) where
 
 -- A byte more: its place is kept if it is among the first, and the count goes up to one more than the longest frame has.
 module _ (line : List ℕ) (b : ℕ) (l : Line) (j : Judged line l) where
-  first_more : (i : ℕ) → i < mostDigits → cond (eqb i l.count) b (get_or l.first i 0) ≡ get_or (line ++ b ∷ []) i 0
+  first_more : (i : ℕ) → i < most_digits → cond (eqb i l.count) b (get_or l.first i 0) ≡ get_or (line ++ b ∷ []) i 0
   first_more i h =
-      testCases (λ (x : Bool). cond x b (get_or l.first i 0) ≡ get_or (line ++ b ∷ []) i 0) (eqb i l.count)
+      test_cases (λ (x : Bool). cond x b (get_or l.first i 0) ≡ get_or (line ++ b ∷ []) i 0) (eqb i l.count)
       (λ e.
       let at : length line ≡ i = omega (arith, eqb-true i l.count e, j.count) in
       sym (get_or-append_seam line b [] 0) ∙ ap (λ (n : ℕ). get_or (line ++ b ∷ []) n 0) at)
@@ -53,8 +53,8 @@ module _ (line : List ℕ) (b : ℕ) (l : Line) (j : Judged line l) where
 
   pub stepped : {first : List ℕ} {count : ℕ} {spelled : Bool}
       → ByteKept l.first l.count b first
-      → count ≡ min (l.count + 1) (suc mostDigits)
-      → spelled ≡ (isDigit b && l.spelled)
+      → count ≡ min (l.count + 1) (suc most_digits)
+      → spelled ≡ (is_digit b && l.spelled)
       → Judged (line ++ b ∷ []) (record { first = first; count = count; odd = not l.odd; spelled = spelled })
   unfolding ByteKept all
   stepped kept counts spells =
@@ -67,7 +67,7 @@ module _ (line : List ℕ) (b : ℕ) (l : Line) (j : Judged line l) where
             ∙ ap (λ (n : ℕ). eqb (n % 2) 1) (sym (more-length line b));
         spelled =
             spells
-            ∙ and_comm (isDigit b) l.spelled
-            ∙ ap₂ (λ (x y : Bool). x && y) j.spelled (sym (and-true (isDigit b)))
-            ∙ sym (all_append isDigit line (b ∷ []));
+            ∙ and_comm (is_digit b) l.spelled
+            ∙ ap₂ (λ (x y : Bool). x && y) j.spelled (sym (and-true (is_digit b)))
+            ∙ sym (all_append is_digit line (b ∷ []));
       }

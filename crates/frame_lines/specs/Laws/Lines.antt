@@ -4,27 +4,27 @@ use mathlib.Core.List.{List, [], ◌∷◌, ◌++◌, append-nil, append_assoc}
 use Rattle.std.proofs.Common.{sym, ◌∙◌, eq-eqb, ne_eqb, add-one, arith, take-suc, drop-cons}
 use Rattle.std.proofs.Math.Path.{ap, subst}
 use Rattle.std.proofs.Math.ListN.{take}
-use Rattle.frame_lines.specs.Text.{lineEnd}
+use Rattle.frame_lines.specs.Text.{line_end}
 use Rattle.frame_lines.specs.Lines.{lines_from}
 use Rattle.frame_lines.specs.Reading.{Judged, Stepped, ReadOn}
 use Rattle.frame_lines.specs.declared.reading.Line.{Line}
 
 -- ---- the lines of an input
 
-lines-byte : (line : List ℕ) (b : ℕ) (bs : List ℕ) → lines_from line (b ∷ bs) ≡ cond (eqb b lineEnd) (line ∷ lines_from [] bs) (lines_from (line ++ b ∷ []) bs)
+lines-byte : (line : List ℕ) (b : ℕ) (bs : List ℕ) → lines_from line (b ∷ bs) ≡ cond (eqb b line_end) (line ∷ lines_from [] bs) (lines_from (line ++ b ∷ []) bs)
 unfolding lines_from
 lines-byte [] b bs = refl
 lines-byte (a ∷ line) b bs = refl
 
-pub lines_end : (line : List ℕ) (b : ℕ) (bs : List ℕ) → b ≡ lineEnd → lines_from line (b ∷ bs) ≡ line ∷ lines_from [] bs
+pub lines_end : (line : List ℕ) (b : ℕ) (bs : List ℕ) → b ≡ line_end → lines_from line (b ∷ bs) ≡ line ∷ lines_from [] bs
 lines_end line b bs e =
     lines-byte line b bs
-    ∙ ap (λ (x : Bool). cond x (line ∷ lines_from [] bs) (lines_from (line ++ b ∷ []) bs)) (eq-eqb b lineEnd e)
+    ∙ ap (λ (x : Bool). cond x (line ∷ lines_from [] bs) (lines_from (line ++ b ∷ []) bs)) (eq-eqb b line_end e)
 
-lines_more : (line : List ℕ) (b : ℕ) (bs : List ℕ) → (b ≡ lineEnd → ⊥) → lines_from line (b ∷ bs) ≡ lines_from (line ++ b ∷ []) bs
+lines_more : (line : List ℕ) (b : ℕ) (bs : List ℕ) → (b ≡ line_end → ⊥) → lines_from line (b ∷ bs) ≡ lines_from (line ++ b ∷ []) bs
 lines_more line b bs other =
     lines-byte line b bs
-    ∙ ap (λ (x : Bool). cond x (line ∷ lines_from [] bs) (lines_from (line ++ b ∷ []) bs)) (ne_eqb b lineEnd other)
+    ∙ ap (λ (x : Bool). cond x (line ∷ lines_from [] bs) (lines_from (line ++ b ∷ []) bs)) (ne_eqb b line_end other)
 
 -- ---- bytes added to a line
 
@@ -46,7 +46,7 @@ module _ (bytes : List ℕ) (i : ℕ) (here : i < length bytes) where
   pub drop_more : drop i bytes ≡ get_or bytes i 0 ∷ drop (i + 1) bytes
   drop_more = drop-cons bytes i 0 here ∙ ap (λ (n : ℕ). get_or bytes i 0 ∷ drop n bytes) (sym (add-one i))
 
-  pub read_more : {l l' l'' : Line} → ReadOn l bytes i l' → (get_or bytes i 0 ≡ lineEnd → ⊥) → Stepped l' (get_or bytes i 0) l'' → ReadOn l bytes (i + 1) l''
+  pub read_more : {l l' l'' : Line} → ReadOn l bytes i l' → (get_or bytes i 0 ≡ line_end → ⊥) → Stepped l' (get_or bytes i 0) l'' → ReadOn l bytes (i + 1) l''
   unfolding Stepped
   read_more {l} {l'} {l''} so other steps =
       record {

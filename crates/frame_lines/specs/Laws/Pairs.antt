@@ -1,12 +1,12 @@
 -- Lists of pairs as lists of numbers, and costs as a row holds them.
 use Rattle.promises.specs.Layout.{tab}
-use Rattle.promises.specs.Laws.Tab.{length-tab, getD-tab}
-use Rattle.zorder.specs.Address.{rowCosts, padded}
+use Rattle.promises.specs.Laws.Tab.{length-tab, get_or-tab}
+use Rattle.zorder.specs.Address.{row_costs, padded}
 use Rattle.std.specs.Prelude.{ℕ, zero, suc, ◌+◌, ◌-◌, ◌*◌, ◌<◌, ◌≤◌, Bool, cond, List, [], ◌∷◌, ◌++◌, ◌≡◌, refl, ltb, length, get_or, replicate}
 use Rattle.std.proofs.Common.{sym, ap, ap₂, ◌∙◌, ltb-true, ltb-false, arith, length-append, get_or-append-add, ext_get_or}
 use Rattle.std.proofs.lemmas.List.{length-replicate, get_or-replicate}
 use Rattle.std.proofs.Math.ListN.{get_or-append}
-use Rattle.model.specs.Laws.Bool.{testCases}
+use Rattle.model.specs.Laws.Bool.{test_cases}
 use Rattle.frame_lines.specs.Digits.{joined}
 
 pub joined_length : (base : ℕ) (ns : List ℕ) (n : ℕ) → length ns ≡ 2 * n → length (joined base ns) ≡ n
@@ -29,23 +29,23 @@ joined_at base (h ∷ l ∷ ns) (suc n) e (suc i) =
     joined_at base ns n (omega arith) i
     ∙ ap₂ (λ (x y : ℕ). get_or (h ∷ l ∷ ns) x 0 * base + get_or (h ∷ l ∷ ns) y 0) (sym even) (sym odd)
 
-padded-length : (d : ℕ) (cs : List ℕ) → d ≤ rowCosts → length cs ≡ d → length (padded d cs) ≡ rowCosts
+padded-length : (d : ℕ) (cs : List ℕ) → d ≤ row_costs → length cs ≡ d → length (padded d cs) ≡ row_costs
 unfolding padded
-padded-length d cs most count = omega (arith, length-append cs (replicate (rowCosts - d) 0), length-replicate {A = ℕ} (rowCosts - d) 0)
+padded-length d cs most count = omega (arith, length-append cs (replicate (row_costs - d) 0), length-replicate {A = ℕ} (row_costs - d) 0)
 
-padded-at : (d : ℕ) (cs : List ℕ) → length cs ≡ d → (j : ℕ) → j < rowCosts → get_or (padded d cs) j 0 ≡ cond (ltb j d) (get_or cs j 0) 0
+padded-at : (d : ℕ) (cs : List ℕ) → length cs ≡ d → (j : ℕ) → j < row_costs → get_or (padded d cs) j 0 ≡ cond (ltb j d) (get_or cs j 0) 0
 unfolding padded
 padded-at d cs count j room =
-    testCases (λ (b : Bool). get_or (cs ++ replicate (rowCosts - d) 0) j 0 ≡ cond b (get_or cs j 0) 0) (ltb j d)
-    (λ e. get_or-append cs (replicate (rowCosts - d) 0) 0 j (omega (arith, ltb-true j d e)))
+    test_cases (λ (b : Bool). get_or (cs ++ replicate (row_costs - d) 0) j 0 ≡ cond b (get_or cs j 0) 0) (ltb j d)
+    (λ e. get_or-append cs (replicate (row_costs - d) 0) 0 j (omega (arith, ltb-true j d e)))
     (λ e.
     let past : d ≤ j = ltb-false j d e in
     let place : length cs + (j - d) ≡ j = omega arith in
-    ap (λ (i : ℕ). get_or (cs ++ replicate (rowCosts - d) 0) i 0) (sym place)
-    ∙ get_or-append-add cs (replicate (rowCosts - d) 0) (j - d) 0
-    ∙ get_or-replicate (rowCosts - d) (j - d) 0 0 (omega arith))
+    ap (λ (i : ℕ). get_or (cs ++ replicate (row_costs - d) 0) i 0) (sym place)
+    ∙ get_or-append-add cs (replicate (row_costs - d) 0) (j - d) 0
+    ∙ get_or-replicate (row_costs - d) (j - d) 0 0 (omega arith))
 
-pub tab-padded : (f : ℕ → ℕ) (d : ℕ) (cs : List ℕ) → d ≤ rowCosts → length cs ≡ d → ((j : ℕ) → j < rowCosts → f j ≡ cond (ltb j d) (get_or cs j 0) 0) → tab f rowCosts ≡ padded d cs
+pub tab-padded : (f : ℕ → ℕ) (d : ℕ) (cs : List ℕ) → d ≤ row_costs → length cs ≡ d → ((j : ℕ) → j < row_costs → f j ≡ cond (ltb j d) (get_or cs j 0) 0) → tab f row_costs ≡ padded d cs
 tab-padded f d cs most count same =
-    ext_get_or 0 (tab f rowCosts) (padded d cs) (length-tab f rowCosts ∙ sym (padded-length d cs most count))
-    (λ j h. let within : j < rowCosts = omega (arith, length-tab f rowCosts) in getD-tab f 0 rowCosts j within ∙ same j within ∙ sym (padded-at d cs count j within))
+    ext_get_or 0 (tab f row_costs) (padded d cs) (length-tab f row_costs ∙ sym (padded-length d cs most count))
+    (λ j h. let within : j < row_costs = omega (arith, length-tab f row_costs) in get_or-tab f 0 row_costs j within ∙ same j within ∙ sym (padded-at d cs count j within))

@@ -2,7 +2,7 @@
 use borrow.Author.Rules.{rules}
 use mathlib.Core.Path.{refl, sym}
 use lib.Seq.{length-take-le}
-use Rattle.model.specs.Calls.{memoryNeed}
+use Rattle.model.specs.Calls.{memory_need}
 use Rattle.frame_lines.specs.State.{unloaded}
 use Rattle.framing.specs.Serving.{StateIn, HoldsState, Lent}
 use native.Mathlib.Omega.{arith}
@@ -16,18 +16,18 @@ abbrev decreases-loop : tie.decreases-loop
 decreases-loop m₀ out₀ p₀ turns₀ m out p turns = turns
 
 loop-holds : tie.Need-loop-init invariant-loop decreases-loop
-unfolding StateIn memoryNeed
+unfolding StateIn memory_need
 loop-holds c = (
   record { state = unloaded; holds = c.start.ensures.dimension },
   record { memory = refl; text = refl },
 )
 
 slice-aggregate-answer-read : tie.Need-slice-aggregate-answer-read invariant-loop decreases-loop
-unfolding memoryNeed
+unfolding memory_need
 slice-aggregate-answer-read c = omega arith
 
 slice-aggregate-finish : tie.Need-slice-aggregate-finish invariant-loop decreases-loop
-unfolding memoryNeed
+unfolding memory_need
 slice-aggregate-finish c = omega arith
 
 finish-requires : tie.Need-finish-requires invariant-loop decreases-loop

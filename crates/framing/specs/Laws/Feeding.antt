@@ -11,7 +11,7 @@ use Rattle.frame_lines.specs.Reading.{Judged, LastLine, LineRead}
 use Rattle.frame_lines.specs.Laws.Lines.{lines_end, drop_more}
 use Rattle.frame_lines.specs.declared.reading.Line.{Line}
 use Rattle.frame_lines.specs.declared.reading.Read.{Read}
-use Rattle.framing.specs.Session.{answerTo, after, answersTo, printed, output}
+use Rattle.framing.specs.Session.{answer_to, after, answers_to, printed, output}
 use Rattle.framing.specs.Serving.{StateIn, HoldsState, Answers}
 use Rattle.framing.specs.Feeding.{At, AtStart, Feeds, Finishes, ProgramRun, feed, read, finish}
 use Rattle.framing.specs.declared.serving.Response.{Response}
@@ -31,7 +31,7 @@ module _ (p : Point) (bytes m : List ℕ) (x : Read) (reads : LineRead p.line by
               state = s;
               begun = line ++ take x.taken bytes;
               at = record { held = at.held; read = reads.read.line line at.read };
-              prints = λ more. ap (answersTo s) (reads.read.lines line more);
+              prints = λ more. ap (answers_to s) (reads.read.lines line more);
             };
         taken = reads.read.within;
         some = λ h. omega (arith, reads.whole e);
@@ -48,7 +48,7 @@ module _ (p : Point) (bytes m : List ℕ) (x : Read) (reads : LineRead p.line by
         ∙ lines_end (line ++ take x.taken bytes) (get_or bytes x.taken 0) (drop (x.taken + 1) bytes ++ more) (reads.ended e).1
 
     pub feeds-line : Feeds p bytes m (record { point = record { line = l; dimension = a.dimension }; taken = x.taken + 1; answered = a.answered }) m' out'
-    unfolding printed answersTo
+    unfolding printed answers_to
     feeds-line =
         record {
           onward = λ s line at.
@@ -59,8 +59,8 @@ module _ (p : Point) (bytes m : List ℕ) (x : Read) (reads : LineRead p.line by
                 begun = [];
                 at = record { held = answers.left s whole at.held judged; read = fresh };
                 prints = λ more.
-                    ap (answersTo s) (ended-lines line more)
-                    ∙ ap (λ (y : List ℕ). y ++ answersTo (after s whole) (lines_from [] (drop (x.taken + 1) bytes ++ more)))
+                    ap (answers_to s) (ended-lines line more)
+                    ∙ ap (λ (y : List ℕ). y ++ answers_to (after s whole) (lines_from [] (drop (x.taken + 1) bytes ++ more)))
                     (sym (answers.text s whole at.held judged));
               };
           taken = omega (arith, (reads.ended e).0);
@@ -73,22 +73,22 @@ module _ (p : Point) (bytes m : List ℕ) (x : Read) (reads : LineRead p.line by
 
 module _ (p : Point) (m : List ℕ) {r : Bool} (last : LastLine p.line r) where
   pub finishes-none : (out : List ℕ) → r ≡ false → Finishes p m 0 out
-  unfolding LastLine printed answersTo
+  unfolding LastLine printed answers_to
   finishes-none out e =
       record {
         prints = λ s line at.
-            ap (answersTo s) (sym (last line at.read ∙ ap (λ (b : Bool). cond b (line ∷ []) []) e));
+            ap (answers_to s) (sym (last line at.read ∙ ap (λ (b : Bool). cond b (line ∷ []) []) e));
         within = omega arith;
       }
 
   pub finishes-line : (a : Response) (m' out' : List ℕ) → r ≡ true → Answers p.dimension p.line m a m' out' → Finishes p m a.answered out'
-  unfolding LastLine printed answersTo
+  unfolding LastLine printed answers_to
   finishes-line a m' out' e answers =
       record {
         prints = λ s line at.
             answers.text s line at.held at.read
-            ∙ sym (append-nil (answerTo s line))
-            ∙ ap (answersTo s) (sym (last line at.read ∙ ap (λ (b : Bool). cond b (line ∷ []) []) e));
+            ∙ sym (append-nil (answer_to s line))
+            ∙ ap (answers_to s) (sym (last line at.read ∙ ap (λ (b : Bool). cond b (line ∷ []) []) e));
         within = answers.within;
       }
 

@@ -8,14 +8,14 @@ use Rattle.std.proofs.Math.Nat.{suc_inj}
 use Rattle.std.proofs.Math.ListN.{length, length-append}
 use Rattle.std.proofs.lemmas.List.{length-map}
 use Rattle.model.specs.Basics.{Each, select, count, last_or}
-use Rattle.model.specs.Moves.{Move, noMove}
-use Rattle.model.specs.Tree.{Entry, movesUnder, firstMove, last_move}
+use Rattle.model.specs.Moves.{Move, no_move}
+use Rattle.model.specs.Tree.{Entry, moves_under, first_move, last_move}
 use Rattle.model.specs.Laws.Basics.{each_append, count-append, count-cons}
-use Rattle.model.specs.Laws.Tree.{flatMap-append}
-use Rattle.line.specs.Line.{Placed, line_at, movesIn, heightsIn}
-use Rattle.line.specs.Places.{move_at, heightAt, nodeStart, nodeEnd, entryAmong, entry_at, setHeight}
+use Rattle.model.specs.Laws.Tree.{flat_map-append}
+use Rattle.line.specs.Line.{Placed, line_at, moves_in, heights_in}
+use Rattle.line.specs.Places.{move_at, height_at, node_start, node_end, entry_among, entry_at, set_height}
 use Rattle.line.specs.Laws.Line.{row, Whole, rest_at, rest-low, line-cons, line-moves}
-use Rattle.line.specs.Laws.Places.{FirstAtLeast, at_least, move-left, move-right, set-seam, node-start, node_end, count_low, entry_next}
+use Rattle.line.specs.Laws.Places.{FirstAtLeast, at_least, move-left, move-right, set-seam, node-start, node-end, count_low, entry_next}
 
 -- ---- entries one after another
 
@@ -42,7 +42,7 @@ module _ (h : ℕ) where
   unfolding line_at
   line-append k [] fs = refl
   line-append k (e ∷ es) fs =
-      ap (λ (rs : List Placed). line_at h k e ++ rs) (flatMap-append (line_at h h) es fs)
+      ap (λ (rs : List Placed). line_at h k e ++ rs) (flat_map-append (line_at h h) es fs)
       ∙ sym (append_assoc (line_at h k e) (flat_map (line_at h h) es) (flat_map (line_at h h) fs))
       ∙ ap (λ (rs : List Placed). line_at h k e ++ flat_map (line_at h h) es ++ rs) (sym (line-flat fs))
 
@@ -75,25 +75,25 @@ regroup {A} xs us ms vs ys =
 pub line-pos : (l k : ℕ) (c : Entry l) → Whole l c → 0 < length (line_at l k c)
 line-pos l k c w = subst (λ (rs : List Placed). 0 < length rs) (sym (line-cons l k c w)) (omega arith)
 
-pub line-size : (h k : ℕ) (e : Entry h) → length (line_at h k e) ≡ length (movesUnder h e)
-unfolding movesIn
+pub line-size : (h k : ℕ) (e : Entry h) → length (line_at h k e) ≡ length (moves_under h e)
+unfolding moves_in
 line-size h k e = sym (length-map (line_at h k e) (λ r. r.move)) ∙ ap length (line-moves h k e)
 
 pub line-starts : (h k l : ℕ) (c : Entry h) (ys : List Placed) → Whole h c → l ≤ k → FirstAtLeast l (line_at h k c ++ ys)
 line-starts h k l c ys w t = subst (λ (rs : List Placed). FirstAtLeast l (rs ++ ys)) (sym (line-cons h k c w)) t
 
-pub set_first : (l j k : ℕ) (c : Entry l) (ys : List Placed) → Whole l c → setHeight 0 j (line_at l k c ++ ys) ≡ line_at l j c ++ ys
+pub set_first : (l j k : ℕ) (c : Entry l) (ys : List Placed) → Whole l c → set_height 0 j (line_at l k c ++ ys) ≡ line_at l j c ++ ys
 set_first l j k c ys w =
-    ap (λ (rs : List Placed). setHeight 0 j (rs ++ ys)) (line-cons l k c w)
-    ∙ set-seam [] (rest_at l c ++ ys) (row (firstMove l c) k) j
+    ap (λ (rs : List Placed). set_height 0 j (rs ++ ys)) (line-cons l k c w)
+    ∙ set-seam [] (rest_at l c ++ ys) (row (first_move l c) k) j
     ∙ ap (λ (rs : List Placed). rs ++ ys) (sym (line-cons l j c w))
 
-pub height-first : (l k : ℕ) (c : Entry l) (ys : List Placed) → Whole l c → heightAt (line_at l k c ++ ys) 0 ≡ k
-unfolding heightAt
-height-first l k c ys w = ap (λ (rs : List Placed). heightAt (rs ++ ys) 0) (line-cons l k c w)
+pub height-first : (l k : ℕ) (c : Entry l) (ys : List Placed) → Whole l c → height_at (line_at l k c ++ ys) 0 ≡ k
+unfolding height_at
+height-first l k c ys w = ap (λ (rs : List Placed). height_at (rs ++ ys) 0) (line-cons l k c w)
 
-last_row : (z : Move) (rs : List Placed) (n : ℕ) → length rs ≡ suc n → move_at rs n ≡ last_or z (movesIn rs)
-unfolding move_at movesIn last_or
+last_row : (z : Move) (rs : List Placed) (n : ℕ) → length rs ≡ suc n → move_at rs n ≡ last_or z (moves_in rs)
+unfolding move_at moves_in last_or
 last_row z [] n e = absurd (omega arith)
 last_row z (r ∷ []) zero e = refl
 last_row z (r ∷ []) (suc n) e = absurd (omega arith)
@@ -102,20 +102,20 @@ last_row z (r ∷ s ∷ rs) (suc n) e = last_row r.move (s ∷ rs) n (suc_inj e)
 
 -- An entry between the rows before and after it.
 module _ (l k : ℕ) (c : Entry l) (w : Whole l c) (xs ys : List Placed) where
-  pub node-start-at : (q : ℕ) → q < length (line_at l k c) → l ≤ k → nodeStart l (length xs + q) (xs ++ (line_at l k c ++ ys)) ≡ length xs
+  pub node-start-at : (q : ℕ) → q < length (line_at l k c) → l ≤ k → node_start l (length xs + q) (xs ++ (line_at l k c ++ ys)) ≡ length xs
   node-start-at =
-      subst (λ (rs : List Placed). (q : ℕ) → q < length rs → l ≤ k → nodeStart l (length xs + q) (xs ++ (rs ++ ys)) ≡ length xs)
+      subst (λ (rs : List Placed). (q : ℕ) → q < length rs → l ≤ k → node_start l (length xs + q) (xs ++ (rs ++ ys)) ≡ length xs)
       (sym (line-cons l k c w))
-      (λ q h t. node-start l xs (row (firstMove l c) k) (rest_at l c) ys q (rest-low l c) (omega arith) t)
+      (λ q h t. node-start l xs (row (first_move l c) k) (rest_at l c) ys q (rest-low l c) (omega arith) t)
 
   pub node-end-at : (q : ℕ) → q < length (line_at l k c) → FirstAtLeast l ys
-      → nodeEnd l (length xs + q) (xs ++ (line_at l k c ++ ys)) ≡ length xs + length (line_at l k c)
+      → node_end l (length xs + q) (xs ++ (line_at l k c ++ ys)) ≡ length xs + length (line_at l k c)
   node-end-at =
-      subst (λ (rs : List Placed). (q : ℕ) → q < length rs → FirstAtLeast l ys → nodeEnd l (length xs + q) (xs ++ (rs ++ ys)) ≡ length xs + length rs)
+      subst (λ (rs : List Placed). (q : ℕ) → q < length rs → FirstAtLeast l ys → node_end l (length xs + q) (xs ++ (rs ++ ys)) ≡ length xs + length rs)
       (sym (line-cons l k c w))
-      (λ q h s. node_end l xs (row (firstMove l c) k) (rest_at l c) ys q (rest-low l c) (omega arith) s)
+      (λ q h s. node-end l xs (row (first_move l c) k) (rest_at l c) ys q (rest-low l c) (omega arith) s)
 
-  pub first-at : move_at (xs ++ (line_at l k c ++ ys)) (length xs) ≡ firstMove l c
+  pub first-at : move_at (xs ++ (line_at l k c ++ ys)) (length xs) ≡ first_move l c
   unfolding move_at
   first-at =
       ap (move_at (xs ++ (line_at l k c ++ ys))) (sym (add-zero (length xs)))
@@ -131,8 +131,8 @@ module _ (l k : ℕ) (c : Entry l) (w : Whole l c) (xs ys : List Placed) where
       ap (move_at (xs ++ (u ++ ys))) (omega arith)
       ∙ move-right xs (u ++ ys) n
       ∙ move-left u ys n (omega arith)
-      ∙ last_row noMove u n e
-      ∙ ap (last_or noMove) (line-moves l k c)
+      ∙ last_row no_move u n e
+      ∙ ap (last_or no_move) (line-moves l k c)
 
 -- ---- the entries of a node
 
@@ -147,7 +147,7 @@ module _ (h : ℕ) where
   count-entry : (k : ℕ) (e : Entry h) → Whole h e → h ≤ k → count (at_least h) (line_at h k e) ≡ 1
   count-entry k e w t =
       ap (count (at_least h)) (line-cons h k e w)
-      ∙ count-cons (at_least h) (row (firstMove h e) k) (rest_at h e)
+      ∙ count-cons (at_least h) (row (first_move h e) k) (rest_at h e)
       ∙ ap₂ (λ (b : Bool) (n : ℕ). cond b (suc n) n) (le-leb h k t) (count_low h (rest_at h e) (rest-low h e))
 
   pub count_entries : (k : ℕ) (es : List (Entry h)) → Each (Whole h) es → h ≤ k → count (at_least h) (line_at (suc h) k es) ≡ length es
@@ -161,7 +161,7 @@ module _ (h : ℕ) where
 
   pub entry-at : (xs : List Placed) (k : ℕ) (es fs : List (Entry h)) (ys : List Placed) → Each (Whole h) es → Each (Whole h) fs → FirstAtLeast h ys
       → entry_at h (length xs) (length es) (xs ++ (line_at (suc h) k (es ++ fs) ++ ys)) ≡ length xs + length (line_at (suc h) k es)
-  unfolding entryAmong line_at
+  unfolding entry_among line_at
   entry-at xs k [] fs ys w v s = sym (add-zero (length xs))
   entry-at xs k (e ∷ es) fs ys w v s =
       let u = line_at h k e in
@@ -169,9 +169,9 @@ module _ (h : ℕ) where
       let shape = ap (λ (rs : List Placed). rs ++ ys) (line-more h k e (es ++ fs)) ∙ append_assoc u (line_at (suc h) h (es ++ fs)) ys in
       let next = lines_start h h (es ++ fs) ys (each_append (Whole h) es fs w.1 v) (le_refl h) s in
       ap (λ (rs : List Placed). entry_at h (length xs) (suc (length es)) (xs ++ rs)) shape
-      ∙ entry_next h (length xs) (length es) (heightsIn (xs ++ (u ++ rest)))
+      ∙ entry_next h (length xs) (length es) (heights_in (xs ++ (u ++ rest)))
       ∙ ap (λ (i : ℕ). entry_at h i (length es) (xs ++ (u ++ rest)))
-      (ap (λ (i : ℕ). nodeEnd h i (xs ++ (u ++ rest))) (sym (add-zero (length xs)))
+      (ap (λ (i : ℕ). node_end h i (xs ++ (u ++ rest))) (sym (add-zero (length xs)))
       ∙ node-end-at h k e w.0 xs rest 0 (line-pos h k e w.0) next
       ∙ sym (length-append xs u))
       ∙ ap (entry_at h (length (xs ++ u)) (length es)) (sym (append_assoc xs u rest))

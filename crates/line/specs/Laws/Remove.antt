@@ -8,20 +8,20 @@ use Rattle.std.proofs.Math.Path.{ap, ap₂, subst}
 use Rattle.std.proofs.Math.ListN.{length}
 use Rattle.model.specs.Basics.{Each}
 use Rattle.model.specs.Moves.{Move}
-use Rattle.model.specs.Tree.{Entry, movesUnder}
-use Rattle.model.specs.Withdrawing.{without, withdrawNode}
-use Rattle.model.specs.Laws.Bool.{byCases}
+use Rattle.model.specs.Tree.{Entry, moves_under}
+use Rattle.model.specs.Withdrawing.{without, withdraw_node}
+use Rattle.model.specs.Laws.Bool.{by_cases}
 use Rattle.model.specs.Laws.Basics.{each_append, each_left, each_right}
 use Rattle.model.specs.Laws.Tree.{Filled, filled-full, full-filled}
-use Rattle.line.specs.Line.{Placed, line_at, movesIn, heightsIn}
-use Rattle.line.specs.Places.{heightAt}
+use Rattle.line.specs.Line.{Placed, line_at, moves_in, heights_in}
+use Rattle.line.specs.Places.{height_at}
 use Rattle.line.specs.Withdraw.{place_of, Range, widened, lifted}
 use Rattle.line.specs.Laws.Places.{FirstAtLeast, starts-lower, height-among}
 use Rattle.line.specs.Laws.Taken.{numbered, holds, none-numbered, Becomes, others-stay, one-becomes, node-goes, node_stays, leaf-numbered, leaf-goes, leaf-without, gone-moves, Holding, holding}
 use Rattle.line.specs.Laws.Line.{filled-whole, line-moves}
 use Rattle.line.specs.Laws.Entries.{following, following-least, regroup, line-pos, lines_start}
 use Rattle.line.specs.Laws.Cascade.{filled-each}
-use Rattle.line.specs.Laws.Rows.{movesIn-append, line-height, node-parts, node-without}
+use Rattle.line.specs.Laws.Rows.{moves_in-append, line-height, node-parts, node-without}
 use Rattle.line.specs.Laws.Widened.{place-seam, stops-at-root, node-stops, node-grows}
 
 module _ (n : ℕ) (rs : List Placed) where
@@ -36,8 +36,8 @@ module _ (n : ℕ) (rs : List Placed) where
     pub back : List Placed
     pub parts : line ≡ front ++ (range ++ back)
     pub some : 0 < length range
-    pub closed : front ++ lifted (heightAt range 0) (back ++ post) ≡ left ++ post
-    pub moves : Permᴰ ms (without n (movesIn range))
+    pub closed : front ++ lifted (height_at range 0) (back ++ post) ≡ left ++ post
+    pub moves : Permᴰ ms (without n (moves_in range))
     pub widens : (f : ℕ) → widened (turns + f) 0 own rs ≡ record { from = length (pre ++ front); to = length (pre ++ front) + length range }
 
   -- An entry below the root that holds the move, with the rows before and after its own.
@@ -46,8 +46,8 @@ module _ (n : ℕ) (rs : List Placed) where
     pub full : Filled h e
     pub high : h ≤ k
     pub follows : FirstAtLeast h post
-    pub under : h < heightAt rs 0
-    pub none : Each (λ m. numbered n m ≡ false) (movesIn pre)
+    pub under : h < height_at rs 0
+    pub none : Each (λ m. numbered n m ≡ false) (moves_in pre)
     pub one : holds n h e ≡ 1
 
   -- An entry's line is the range at its level.
@@ -56,7 +56,7 @@ module _ (n : ℕ) (rs : List Placed) where
       (f : ℕ) → widened (h + f) 0 own rs ≡ widened f h (record { from = length pre; to = length pre + length (line_at h k e) }) rs
 
   pub data Outcome (h k : ℕ) (e : Entry h) (pre post : List Placed) : Type 0 where
-    goes : (ms : List Move) → Becomes n h e [] ms → Permᴰ ms (without n (movesUnder h e)) → Reached h k e pre → Outcome h k e pre post
+    goes : (ms : List Move) → Becomes n h e [] ms → Permᴰ ms (without n (moves_under h e)) → Reached h k e pre → Outcome h k e pre post
     changes : (e' : Entry h) (ms : List Move) → Becomes n h e (e' ∷ []) ms → Filled h e'
         → Cut h (line_at h k e) (line_at h k e') pre post ms → Outcome h k e pre post
 
@@ -64,7 +64,7 @@ module _ (n : ℕ) (rs : List Placed) where
   pub record NodeCut (h k : ℕ) (es : List (Entry h)) (pre post : List Placed) : Type 0 where
     pub left : List (Entry h)
     pub ms : List Move
-    pub withdrawn : withdrawNode n h es ≡ record { entries = left; moves = ms }
+    pub withdrawn : withdraw_node n h es ≡ record { entries = left; moves = ms }
     pub full : Each (Filled h) left
     pub cut : Cut (suc h) (line_at (suc h) k es) (line_at (suc h) k left) pre post ms
 
@@ -93,7 +93,7 @@ module _ (n : ℕ) (rs : List Placed) where
 
     -- An entry that goes, if the widening stops there.
     cut-entry : (ms : List Move) → h ≤ k → Filled h e → Each (Filled h) back → FirstAtLeast h post → (length (front ++ back) ≡ 0 → post ≡ [])
-        → Permᴰ ms (without n (movesUnder h e)) → Reached h height e before
+        → Permᴰ ms (without n (moves_under h e)) → Reached h height e before
         → ((f to : ℕ) → widened (suc f) h (record { from = length before; to = to }) rs ≡ record { from = length before; to = to })
         → Cut (suc h) (line_at (suc h) k node) (line_at (suc h) k (front ++ back)) pre post ms
     cut-entry ms l f a s z p r stop =
@@ -124,8 +124,8 @@ module _ (n : ℕ) (rs : List Placed) where
               ∙ simp append_assoc;
           some = c.some;
           closed =
-              append_assoc (line_at (suc h) k front) c.front (lifted (heightAt c.range 0) (c.back ++ line_at (suc h) h back ++ post))
-              ∙ ap (λ (line : List Placed). line_at (suc h) k front ++ (c.front ++ lifted (heightAt c.range 0) line))
+              append_assoc (line_at (suc h) k front) c.front (lifted (height_at c.range 0) (c.back ++ line_at (suc h) h back ++ post))
+              ∙ ap (λ (line : List Placed). line_at (suc h) k front ++ (c.front ++ lifted (height_at c.range 0) line))
               (append_assoc c.back (line_at (suc h) h back) post)
               ∙ ap (λ (line : List Placed). line_at (suc h) k front ++ line) c.closed
               ∙ sym (regroup [] (line_at (suc h) k front) (line_at h height e') (line_at (suc h) h back) post)
@@ -149,7 +149,7 @@ module _ (n : ℕ) (rs : List Placed) where
       back_full = (each_right (Filled h) front (e ∷ back) a).1
 
       node-becomes : (c : List (Entry h)) (ms : List Move) → Becomes n h e c ms
-          → withdrawNode n h node ≡ record { entries = front ++ (c ++ back); moves = ms }
+          → withdraw_node n h node ≡ record { entries = front ++ (c ++ back); moves = ms }
       node-becomes c ms = one-becomes n h front back c e ms (others-stay n h front front-full z) (others-stay n h back back_full y)
 
       left-full : (c : List (Entry h)) → Each (Filled h) c → Each (Filled h) (front ++ (c ++ back))
@@ -187,13 +187,13 @@ module _ (n : ℕ) (rs : List Placed) where
           let q = length (line_at (suc h) k front) in
           let at = length-append pre (line_at (suc h) k front) in
           let f = p.full in
-          byCases (ltb 3 (length node))
+          by_cases (ltb 3 (length node))
           (λ c. let d = ltb-true 3 (length node) c in
           kept [] ms g tt (omega arith) (filled-full h node f).most (omega (arith, left-length []))
           (cut-entry ms l entry-full back_full (starts-lower h (suc h) post (omega arith) p.follows) (λ o. absurd (omega (arith, left-length []))) m r
           (node-stops h k node (filled-whole (suc h) node f) pre post rs p.whole p.high p.follows i q at inside d)))
           (λ c. let d = ltb-false 3 (length node) c in
-          goes (movesUnder (suc h) (front ++ back) ++ ms)
+          goes (moves_under (suc h) (front ++ back) ++ ms)
           (node-goes n h node (front ++ back) ms (node-becomes [] ms g) (omega (arith, left-length [])))
           (gone-moves n h front back e z y ms m)
           (λ x.
@@ -205,7 +205,7 @@ module _ (n : ℕ) (rs : List Placed) where
           kept (e' ∷ []) ms g (v, tt) (omega arith) u.most (omega (arith, left-length (e' ∷ []), u.least)) (cut-within e' ms c)
 
       -- The root loses any entry.
-      root-cut : heightAt rs 0 ≡ suc h → post ≡ [] → Outcome h height e before after → NodeCut h k node pre post
+      root-cut : height_at rs 0 ≡ suc h → post ≡ [] → Outcome h height e before after → NodeCut h k node pre post
       root-cut t z (goes ms g m r) =
           record {
             left = front ++ back;
@@ -214,7 +214,7 @@ module _ (n : ℕ) (rs : List Placed) where
             full = left-full [] tt;
             cut =
                 cut-entry ms l entry-full back_full (subst (FirstAtLeast h) (sym z) tt) (λ o. z) m r
-                (λ f to. stops-at-root f h (record { from = length before; to = to }) (heightsIn rs) (height-among rs 0 ∙ t));
+                (λ f to. stops-at-root f h (record { from = length before; to = to }) (heights_in rs) (height-among rs 0 ∙ t));
           }
       root-cut t z (changes e' ms g v c) =
           record {
@@ -226,7 +226,7 @@ module _ (n : ℕ) (rs : List Placed) where
           }
 
       -- The entry in its own place.
-      entry-placed : rs ≡ pre ++ (line_at (suc h) k node ++ post) → h < heightAt rs 0 → FirstAtLeast h post → Each (λ m. numbered n m ≡ false) (movesIn pre)
+      entry-placed : rs ≡ pre ++ (line_at (suc h) k node ++ post) → h < height_at rs 0 → FirstAtLeast h post → Each (λ m. numbered n m ≡ false) (moves_in pre)
           → holds n h e ≡ 1 → Placement h height e before after
       unfolding holds
       entry-placed w u s v o =
@@ -238,8 +238,8 @@ module _ (n : ℕ) (rs : List Placed) where
             under = u;
             none =
                 subst (Each (λ m. numbered n m ≡ false))
-                (sym (movesIn-append pre (line_at (suc h) k front) ∙ ap (λ (ms : List Move). movesIn pre ++ ms) (line-moves (suc h) k front)))
-                (each_append (λ m. numbered n m ≡ false) (movesIn pre) (movesUnder (suc h) front) v (none-numbered n (movesUnder (suc h) front) z));
+                (sym (moves_in-append pre (line_at (suc h) k front) ∙ ap (λ (ms : List Move). moves_in pre ++ ms) (line-moves (suc h) k front)))
+                (each_append (λ m. numbered n m ≡ false) (moves_in pre) (moves_under (suc h) front) v (none-numbered n (moves_under (suc h) front) z));
             one = o;
           }
 
@@ -276,7 +276,7 @@ module _ (n : ℕ) (rs : List Placed) where
 root-parts : (n h : ℕ) (front back : List (Entry h)) (e : Entry h) → Each (Filled h) (front ++ e ∷ back)
     → holds n (suc h) front ≡ 0 → holds n h e ≡ 1 → holds n (suc h) back ≡ 0
     → NodeCut n (line_at (suc h) (suc h) (front ++ e ∷ back)) h (suc h) (front ++ e ∷ back) [] []
-unfolding movesIn
+unfolding moves_in
 root-parts n h front back e a z o y =
     let es = front ++ e ∷ back in
     let rs = line_at (suc h) (suc h) es in

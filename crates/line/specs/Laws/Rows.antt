@@ -3,21 +3,21 @@ use Rattle.std.specs.Prelude.{ℕ, suc, ◌≤◌, List, [], ◌∷◌, ◌++◌
 use Rattle.std.proofs.lemmas.List.{map-append}
 use Rattle.std.proofs.Common.{append_assoc, sym, ap, ◌∙◌, subst, le_refl, arith}
 use Rattle.model.specs.Basics.{Each}
-use Rattle.model.specs.Tree.{Entry, firstMove}
-use Rattle.line.specs.Line.{Placed, line_at, movesIn}
-use Rattle.line.specs.Places.{heightAt}
+use Rattle.model.specs.Tree.{Entry, first_move}
+use Rattle.line.specs.Line.{Placed, line_at, moves_in}
+use Rattle.line.specs.Places.{height_at}
 use Rattle.line.specs.Withdraw.{lifted}
 use Rattle.line.specs.Laws.Line.{row, Whole, rest_at, line-cons}
 use Rattle.line.specs.Laws.Places.{FirstAtLeast}
 use Rattle.line.specs.Laws.Entries.{following, line-append, line-more, lines_start}
 
-pub movesIn-append : (rs ss : List Placed) → movesIn (rs ++ ss) ≡ movesIn rs ++ movesIn ss
-unfolding movesIn
-movesIn-append = map-append (λ r. r.move)
+pub moves_in-append : (rs ss : List Placed) → moves_in (rs ++ ss) ≡ moves_in rs ++ moves_in ss
+unfolding moves_in
+moves_in-append = map-append (λ r. r.move)
 
-pub line-height : (h k : ℕ) (e : Entry h) → Whole h e → heightAt (line_at h k e) 0 ≡ k
-unfolding heightAt
-line-height h k e w = ap (λ (rs : List Placed). heightAt rs 0) (line-cons h k e w)
+pub line-height : (h k : ℕ) (e : Entry h) → Whole h e → height_at (line_at h k e) 0 ≡ k
+unfolding height_at
+line-height h k e w = ap (λ (rs : List Placed). height_at rs 0) (line-cons h k e w)
 
 pub node-parts : (h k : ℕ) (front : List (Entry h)) (e : Entry h) (back : List (Entry h))
     → line_at (suc h) k (front ++ e ∷ back) ≡ line_at (suc h) k front ++ (line_at h (following k h front) e ++ line_at (suc h) h back)
@@ -35,7 +35,7 @@ lifted-line : (h j k : ℕ) (e : Entry h) (rs : List Placed) → Whole h e → j
 unfolding lifted
 lifted-line h j k e rs w l =
     ap (λ (ss : List Placed). lifted k (ss ++ rs)) (line-cons h j e w)
-    ∙ ap (λ (i : ℕ). row (firstMove h e) i ∷ (rest_at h e ++ rs)) (omega arith)
+    ∙ ap (λ (i : ℕ). row (first_move h e) i ∷ (rest_at h e ++ rs)) (omega arith)
     ∙ ap (λ (ss : List Placed). ss ++ rs) (sym (line-cons h k e w))
 
 pub node-without : (h k : ℕ) → h ≤ k → (front back : List (Entry h)) (post : List Placed) → Each (Whole h) back → FirstAtLeast h post

@@ -8,9 +8,9 @@ use mathlib.Core.List.{List, [], ◌∷◌, ◌++◌, flat_map}
 use Rattle.std.proofs.Math.Nat.{add-zero}
 use Rattle.std.proofs.Math.Seq.{append_snoc}
 use Rattle.model.specs.Basics.{Each, first_or, last_or}
-use Rattle.model.specs.Moves.{Move, noMove, moveBefore}
-use Rattle.model.specs.Tree.{Entry, movesUnder, firstMove, last_move}
-use Rattle.model.specs.Entering.{earlierInGap, goesInto, childPlace}
+use Rattle.model.specs.Moves.{Move, no_move, move_before}
+use Rattle.model.specs.Tree.{Entry, moves_under, first_move, last_move}
+use Rattle.model.specs.Entering.{earlier_in_gap, goes_into, child_place}
 use Rattle.model.specs.Laws.Basics.{each_append, each_left, each_right}
 use Rattle.model.specs.Laws.Entering.{each_first}
 use Rattle.line.specs.Laws.Line.{Whole, whole-moves}
@@ -38,10 +38,10 @@ module _ {A B : Type 0} (P : B → Type 0) (f : A → List B) where
 
 module _ (d : ℕ) (x : Move) where
   abbrev pub Before : Move → Type 0
-  Before m = (moveBefore d m x ≡ true) × (moveBefore d x m ≡ false)
+  Before m = (move_before d m x ≡ true) × (move_before d x m ≡ false)
 
   abbrev pub After : Move → Type 0
-  After m = (moveBefore d m x ≡ false) × (moveBefore d x m ≡ true)
+  After m = (move_before d m x ≡ false) × (move_before d x m ≡ true)
 
   -- Those before the new one come first.
   abbrev pub Front : List Move → Type 0
@@ -70,7 +70,7 @@ module _ (d : ℕ) (x : Move) where
   front-parts z (m ∷ ms) ns (inr f) =
       inr ((each_last After z (m ∷ ms) (omega arith) (f.0, each_left After ms ns f.1), inr (f.0, each_left After ms ns f.1)), each_right After ms ns f.1)
 
-  front-first : (ms : List Move) → 0 < length ms → Front ms → Before (first_or noMove ms) ⊎ Each After ms
+  front-first : (ms : List Move) → 0 < length ms → Front ms → Before (first_or no_move ms) ⊎ Each After ms
   unfolding first_or
   front-first [] g f = absurd (omega arith)
   front-first (m ∷ ms) g (inl f) = inl f.0
@@ -80,16 +80,16 @@ module _ (d : ℕ) (x : Move) where
 
 module _ (d : ℕ) (x : Move) (h : ℕ) where
   abbrev pub AllBefore : Entry h → Type 0
-  AllBefore e = Each (Before d x) (movesUnder h e)
+  AllBefore e = Each (Before d x) (moves_under h e)
 
   abbrev pub AllAfter : Entry h → Type 0
-  AllAfter e = Each (After d x) (movesUnder h e)
+  AllAfter e = Each (After d x) (moves_under h e)
 
   -- The new move lies between the entry's first and its last.
   pub record Around (e : Entry h) : Type 0 where
-    pub first : Before d x (firstMove h e)
+    pub first : Before d x (first_move h e)
     pub last : After d x (last_move h e)
-    pub front : Front d x (movesUnder h e)
+    pub front : Front d x (moves_under h e)
 
   -- One entry's moves, then others.
   pub data Stand (e : Entry h) (ns : List Move) : Type 0 where
@@ -97,94 +97,94 @@ module _ (d : ℕ) (x : Move) (h : ℕ) where
     around : Around e → Each (After d x) ns → Stand e ns
     after : AllAfter e → Each (After d x) ns → Stand e ns
 
-  pub stand : (e : Entry h) (ns : List Move) → Whole h e → Front d x (movesUnder h e ++ ns) → Stand e ns
-  unfolding firstMove last_move
-  stand e ns w f = go (front-parts d x noMove (movesUnder h e) ns f)
+  pub stand : (e : Entry h) (ns : List Move) → Whole h e → Front d x (moves_under h e ++ ns) → Stand e ns
+  unfolding first_move last_move
+  stand e ns w f = go (front-parts d x no_move (moves_under h e) ns f)
     where
-      go : (AllBefore e × Front d x ns) ⊎ ((After d x (last_or noMove (movesUnder h e)) × Front d x (movesUnder h e)) × Each (After d x) ns) → Stand e ns
+      go : (AllBefore e × Front d x ns) ⊎ ((After d x (last_or no_move (moves_under h e)) × Front d x (moves_under h e)) × Each (After d x) ns) → Stand e ns
       go (inl g) = before g.0 g.1
-      go (inr g) = last (front-first d x (movesUnder h e) (whole-moves h e w) g.0.1)
+      go (inr g) = last (front-first d x (moves_under h e) (whole-moves h e w) g.0.1)
         where
-          last : Before d x (first_or noMove (movesUnder h e)) ⊎ AllAfter e → Stand e ns
+          last : Before d x (first_or no_move (moves_under h e)) ⊎ AllAfter e → Stand e ns
           last (inl b) = around (record { first = b; last = g.0.0; front = g.0.1 }) g.1
           last (inr a) = after a g.1
 
   -- The entries of a node: the new move after all, before all, within one, or in the gap between two.
   pub data Standing : List (Entry h) → Type 0 where
-    allBefore : (es : List (Entry h)) → Each AllBefore es → Standing es
-    allAfter : (es : List (Entry h)) → Each AllAfter es → Standing es
+    all_before : (es : List (Entry h)) → Each AllBefore es → Standing es
+    all_after : (es : List (Entry h)) → Each AllAfter es → Standing es
     within : (us : List (Entry h)) (c : Entry h) (vs : List (Entry h)) → Each AllBefore us → Around c → Each AllAfter vs → Standing (us ++ c ∷ vs)
     between : (us : List (Entry h)) (e f : Entry h) (vs : List (Entry h)) → Each AllBefore us → AllBefore e → AllAfter f → Each AllAfter vs → Standing (us ++ e ∷ f ∷ vs)
 
   more-after : (e : Entry h) (es : List (Entry h)) → AllBefore e → Each AllAfter es → Standing (e ∷ es)
-  more-after e [] b rs = allBefore (e ∷ []) (b, tt)
+  more-after e [] b rs = all_before (e ∷ []) (b, tt)
   more-after e (f ∷ fs) b rs = between [] e f fs tt b rs.0 rs.1
 
   more : (e : Entry h) (es : List (Entry h)) → AllBefore e → Standing es → Standing (e ∷ es)
-  more e es b (allBefore fs bs) = allBefore (e ∷ fs) (b, bs)
-  more e es b (allAfter fs rs) = more-after e fs b rs
+  more e es b (all_before fs bs) = all_before (e ∷ fs) (b, bs)
+  more e es b (all_after fs rs) = more-after e fs b rs
   more e es b (within us c vs bs m rs) = within (e ∷ us) c vs (b, bs) m rs
   more e es b (between us g f vs bs p q rs) = between (e ∷ us) g f vs (b, bs) p q rs
 
-  pub standing : (es : List (Entry h)) → Each (Whole h) es → Front d x (movesUnder (suc h) es) → Standing es
-  unfolding movesUnder flat_map
-  standing [] w f = allBefore [] tt
-  standing (e ∷ es) w f = go (stand e (flat_map (movesUnder h) es) w.0 f) (standing es w.1)
+  pub standing : (es : List (Entry h)) → Each (Whole h) es → Front d x (moves_under (suc h) es) → Standing es
+  unfolding moves_under flat_map
+  standing [] w f = all_before [] tt
+  standing (e ∷ es) w f = go (stand e (flat_map (moves_under h) es) w.0 f) (standing es w.1)
     where
-      go : Stand e (flat_map (movesUnder h) es) → (Front d x (movesUnder (suc h) es) → Standing es) → Standing (e ∷ es)
+      go : Stand e (flat_map (moves_under h) es) → (Front d x (moves_under (suc h) es) → Standing es) → Standing (e ∷ es)
       go (before b f) rest = more e es b (rest f)
-      go (around m r) rest = within [] e es tt m (each-parts (After d x) (movesUnder h) es r)
-      go (after a r) rest = allAfter (e ∷ es) (a, each-parts (After d x) (movesUnder h) es r)
+      go (around m r) rest = within [] e es tt m (each-parts (After d x) (moves_under h) es r)
+      go (after a r) rest = all_after (e ∷ es) (a, each-parts (After d x) (moves_under h) es r)
 
 -- ---- the child that the descent takes
 
 module _ (d h : ℕ) (x : Move) where
-  past : (e f : Entry h) (fs : List (Entry h)) → moveBefore d x (firstMove h f) ≡ false
-      → childPlace d h x (e ∷ f ∷ fs) ≡ suc (childPlace d h x (f ∷ fs))
-  unfolding childPlace goesInto
+  past : (e f : Entry h) (fs : List (Entry h)) → move_before d x (first_move h f) ≡ false
+      → child_place d h x (e ∷ f ∷ fs) ≡ suc (child_place d h x (f ∷ fs))
+  unfolding child_place goes_into
   past e f fs n =
-      ap (λ (b : Bool). cond (cond b (cond (moveBefore d (last_move h e) x) (earlierInGap d h x e f) true) false) 0 (suc (childPlace d h x (f ∷ fs)))) n
+      ap (λ (b : Bool). cond (cond b (cond (move_before d (last_move h e) x) (earlier_in_gap d h x e f) true) false) 0 (suc (child_place d h x (f ∷ fs)))) n
 
-  skip : (us : List (Entry h)) (c : Entry h) (vs : List (Entry h)) → Each (λ u. moveBefore d x (firstMove h u) ≡ false) us
-      → moveBefore d x (firstMove h c) ≡ false → childPlace d h x (us ++ c ∷ vs) ≡ length us + childPlace d h x (c ∷ vs)
-  skip [] c vs bs b = sym (zero-add (childPlace d h x (c ∷ vs)))
+  skip : (us : List (Entry h)) (c : Entry h) (vs : List (Entry h)) → Each (λ u. move_before d x (first_move h u) ≡ false) us
+      → move_before d x (first_move h c) ≡ false → child_place d h x (us ++ c ∷ vs) ≡ length us + child_place d h x (c ∷ vs)
+  skip [] c vs bs b = sym (zero-add (child_place d h x (c ∷ vs)))
   skip (u ∷ []) c vs bs b = omega (arith, past u c vs b)
   skip (u ∷ v ∷ us) c vs bs b = omega (arith, past u v (us ++ c ∷ vs) bs.1.0, skip (v ∷ us) c vs bs.1 b)
 
-  stop : (c : Entry h) (vs : List (Entry h)) → moveBefore d (last_move h c) x ≡ false → Each (λ v. moveBefore d x (firstMove h v) ≡ true) vs
-      → childPlace d h x (c ∷ vs) ≡ 0
-  unfolding childPlace goesInto
+  stop : (c : Entry h) (vs : List (Entry h)) → move_before d (last_move h c) x ≡ false → Each (λ v. move_before d x (first_move h v) ≡ true) vs
+      → child_place d h x (c ∷ vs) ≡ 0
+  unfolding child_place goes_into
   stop c [] n rs = refl
   stop c (v ∷ vs) n rs =
-      ap₂ (λ (a b : Bool). cond (cond a (cond b (earlierInGap d h x c v) true) false) 0 (suc (childPlace d h x (v ∷ vs)))) rs.0 n
+      ap₂ (λ (a b : Bool). cond (cond a (cond b (earlier_in_gap d h x c v) true) false) 0 (suc (child_place d h x (v ∷ vs)))) rs.0 n
 
-  gap : (e f : Entry h) (fs : List (Entry h)) → moveBefore d x (firstMove h f) ≡ true → moveBefore d (last_move h e) x ≡ true
-      → childPlace d h x (e ∷ f ∷ fs) ≡ cond (earlierInGap d h x e f) 0 (suc (childPlace d h x (f ∷ fs)))
-  unfolding childPlace goesInto
+  gap : (e f : Entry h) (fs : List (Entry h)) → move_before d x (first_move h f) ≡ true → move_before d (last_move h e) x ≡ true
+      → child_place d h x (e ∷ f ∷ fs) ≡ cond (earlier_in_gap d h x e f) 0 (suc (child_place d h x (f ∷ fs)))
+  unfolding child_place goes_into
   gap e f fs m n =
-      ap₂ (λ (a b : Bool). cond (cond a (cond b (earlierInGap d h x e f) true) false) 0 (suc (childPlace d h x (f ∷ fs)))) m n
+      ap₂ (λ (a b : Bool). cond (cond a (cond b (earlier_in_gap d h x e f) true) false) 0 (suc (child_place d h x (f ∷ fs)))) m n
 
-  pub first-before : (e : Entry h) → Whole h e → AllBefore d x h e → Before d x (firstMove h e)
-  unfolding firstMove
-  first-before e w = each_first (Before d x) noMove (movesUnder h e) (whole-moves h e w)
+  pub first-before : (e : Entry h) → Whole h e → AllBefore d x h e → Before d x (first_move h e)
+  unfolding first_move
+  first-before e w = each_first (Before d x) no_move (moves_under h e) (whole-moves h e w)
 
   pub last-before : (e : Entry h) → Whole h e → AllBefore d x h e → Before d x (last_move h e)
   unfolding last_move
-  last-before e w = each_last (Before d x) noMove (movesUnder h e) (whole-moves h e w)
+  last-before e w = each_last (Before d x) no_move (moves_under h e) (whole-moves h e w)
 
-  pub first-after : (e : Entry h) → Whole h e → AllAfter d x h e → After d x (firstMove h e)
-  unfolding firstMove
-  first-after e w = each_first (After d x) noMove (movesUnder h e) (whole-moves h e w)
+  pub first-after : (e : Entry h) → Whole h e → AllAfter d x h e → After d x (first_move h e)
+  unfolding first_move
+  first-after e w = each_first (After d x) no_move (moves_under h e) (whole-moves h e w)
 
   pub last-after : (e : Entry h) → Whole h e → AllAfter d x h e → After d x (last_move h e)
   unfolding last_move
-  last-after e w = each_last (After d x) noMove (movesUnder h e) (whole-moves h e w)
+  last-after e w = each_last (After d x) no_move (moves_under h e) (whole-moves h e w)
 
-  befores : (us : List (Entry h)) → Each (Whole h) us → Each (AllBefore d x h) us → Each (λ u. moveBefore d x (firstMove h u) ≡ false) us
+  befores : (us : List (Entry h)) → Each (Whole h) us → Each (AllBefore d x h) us → Each (λ u. move_before d x (first_move h u) ≡ false) us
   befores [] w bs = tt
   befores (u ∷ us) w bs = ((first-before u w.0 bs.0).1, befores us w.1 bs.1)
 
-  afters : (us : List (Entry h)) → Each (Whole h) us → Each (AllAfter d x h) us → Each (λ u. moveBefore d x (firstMove h u) ≡ true) us
+  afters : (us : List (Entry h)) → Each (Whole h) us → Each (AllAfter d x h) us → Each (λ u. move_before d x (first_move h u) ≡ true) us
   afters [] w bs = tt
   afters (u ∷ us) w bs = ((first-after u w.0 bs.0).1, afters us w.1 bs.1)
 
@@ -198,40 +198,40 @@ module _ (d h : ℕ) (x : Move) where
     whole-after : Each (Whole h) vs
     whole-after = (each_right (Whole h) us (c ∷ vs) w).1
 
-    pub child-within : Each (AllBefore d x h) us → Before d x (firstMove h c) → After d x (last_move h c) → Each (AllAfter d x h) vs
-        → childPlace d h x (us ++ c ∷ vs) ≡ length us
+    pub child-within : Each (AllBefore d x h) us → Before d x (first_move h c) → After d x (last_move h c) → Each (AllAfter d x h) vs
+        → child_place d h x (us ++ c ∷ vs) ≡ length us
     child-within bs b a rs =
         skip us c vs (befores us whole_before bs) b.1
         ∙ ap (λ (n : ℕ). length us + n) (stop c vs a.0 (afters vs whole-after rs))
         ∙ add-zero (length us)
 
-    before_here : Each (AllBefore d x h) us → AllBefore d x h c → childPlace d h x (us ++ c ∷ vs) ≡ length us + childPlace d h x (c ∷ vs)
+    before_here : Each (AllBefore d x h) us → AllBefore d x h c → child_place d h x (us ++ c ∷ vs) ≡ length us + child_place d h x (c ∷ vs)
     before_here bs b = skip us c vs (befores us whole_before bs) (first-before c whole_here b).1
 
-  pub child-first : (c : Entry h) (vs : List (Entry h)) → Each (Whole h) (c ∷ vs) → Each (AllAfter d x h) (c ∷ vs) → childPlace d h x (c ∷ vs) ≡ 0
+  pub child-first : (c : Entry h) (vs : List (Entry h)) → Each (Whole h) (c ∷ vs) → Each (AllAfter d x h) (c ∷ vs) → child_place d h x (c ∷ vs) ≡ 0
   child-first c vs w rs = stop c vs (last-after c w.0 rs.0).0 (afters vs w.1 rs.1)
 
   pub child-last : (us : List (Entry h)) (c : Entry h) → Each (Whole h) (us ++ c ∷ []) → Each (AllBefore d x h) us → AllBefore d x h c
-      → childPlace d h x (us ++ c ∷ []) ≡ length us
-  unfolding childPlace
+      → child_place d h x (us ++ c ∷ []) ≡ length us
+  unfolding child_place
   child-last us c w bs b = before_here us c [] w bs b ∙ add-zero (length us)
 
   module _ (us : List (Entry h)) (e f : Entry h) (vs : List (Entry h)) (w : Each (Whole h) (us ++ e ∷ f ∷ vs))
       (bs : Each (AllBefore d x h) us) (b : AllBefore d x h e) (a : AllAfter d x h f) (rs : Each (AllAfter d x h) vs) where
-    child-gap : childPlace d h x (us ++ e ∷ f ∷ vs) ≡ length us + cond (earlierInGap d h x e f) 0 1
+    child-gap : child_place d h x (us ++ e ∷ f ∷ vs) ≡ length us + cond (earlier_in_gap d h x e f) 0 1
     child-gap =
         let v = whole-after us e (f ∷ vs) w in
         before_here us e (f ∷ vs) w bs b
         ∙ ap (λ (n : ℕ). length us + n)
         (gap e f vs (first-after f v.0 a).1 (last-before e (whole_here us e (f ∷ vs) w) b).0
-        ∙ ap (λ (n : ℕ). cond (earlierInGap d h x e f) 0 (suc n)) (child-first f vs v (a, rs)))
+        ∙ ap (λ (n : ℕ). cond (earlier_in_gap d h x e f) 0 (suc n)) (child-first f vs v (a, rs)))
 
-    pub child-earlier : earlierInGap d h x e f ≡ true → childPlace d h x (us ++ e ∷ f ∷ vs) ≡ length us
+    pub child-earlier : earlier_in_gap d h x e f ≡ true → child_place d h x (us ++ e ∷ f ∷ vs) ≡ length us
     child-earlier t = child-gap ∙ ap (λ (c : Bool). length us + cond c 0 1) t ∙ add-zero (length us)
 
-    pub child-later : earlierInGap d h x e f ≡ false → childPlace d h x ((us ++ e ∷ []) ++ f ∷ vs) ≡ length (us ++ e ∷ [])
+    pub child-later : earlier_in_gap d h x e f ≡ false → child_place d h x ((us ++ e ∷ []) ++ f ∷ vs) ≡ length (us ++ e ∷ [])
     child-later t =
-        ap (childPlace d h x) (append_snoc us e (f ∷ vs))
+        ap (child_place d h x) (append_snoc us e (f ∷ vs))
         ∙ child-gap
         ∙ ap (λ (c : Bool). length us + cond c 0 1) t
         ∙ sym (length-append us (e ∷ []))

@@ -8,12 +8,12 @@ use Rattle.std.proofs.Math.Logic.{⊎_elim}
 use Rattle.std.proofs.Math.Path.{refl, ap, ap₂, subst}
 use Rattle.std.proofs.Common.{sym, ◌∙◌, eqb-true}
 use Rattle.model.specs.Basics.{Each, select, any, has, distinct, count, rising}
-use Rattle.model.specs.Moves.{Move, moveBefore, insert, inZOrder, ordered}
-use Rattle.model.specs.Tree.{Entry, Tree, empty, rooted, moves_of, filledTree, ruled}
-use Rattle.model.specs.Calls.{onBoard}
-use Rattle.model.specs.Entering.{enterTree}
-use Rattle.model.specs.Withdrawing.{without, withdrawNode, settled, enterAll, withdrawTree}
-use Rattle.model.specs.Laws.Bool.{byCases, and_left, and_right, not_back, both_ways}
+use Rattle.model.specs.Moves.{Move, move_before, insert, in_z_order, ordered}
+use Rattle.model.specs.Tree.{Entry, Tree, empty, rooted, moves_of, filled_tree, ruled}
+use Rattle.model.specs.Calls.{on_board}
+use Rattle.model.specs.Entering.{enter_tree}
+use Rattle.model.specs.Withdrawing.{without, withdraw_node, settled, enter_all, withdraw_tree}
+use Rattle.model.specs.Laws.Bool.{by_cases, and_left, and_right, not_back, both_ways}
 use Rattle.model.specs.Laws.Basics.{Once, each-mono, each-mem, mem-each, each_left, each_right, each_append, select-mem, each-select, count-cons, count_none, any_false}
 use Rattle.model.specs.Laws.Sorting.{StrictOrder, BeforeEach, rising-left, rising-right, rising-across, rising-append, rising-select, rising-once, sort-rising, insert-mem, each-insert}
 use Rattle.model.specs.Laws.Permuted.{sort-perm, each-perm}
@@ -21,11 +21,11 @@ use Rattle.model.specs.Laws.Order.{has-numbers}
 use Rattle.model.specs.Laws.Tree.{ruled-filled, ruled-ordered, both-ruled}
 use Rattle.model.specs.Laws.Entering.{enter-moves, enter-ruled}
 use Rattle.model.specs.Laws.Withdrawing.{left-filled}
-use Rattle.line.specs.Line.{line_of, movesIn}
-use Rattle.line.specs.Withdraw.{flatEnterAll, flatWithdraw}
+use Rattle.line.specs.Line.{line_of, moves_in}
+use Rattle.line.specs.Withdraw.{flat_enter_all, flat_withdraw}
 use Rattle.line.specs.Laws.Enter.{flat-enter-ordered}
 use Rattle.line.specs.Laws.Taken.{numbered, holds}
-use Rattle.line.specs.Laws.Removed.{range_of, rangeRows, flat-remove, Parted, parted}
+use Rattle.line.specs.Laws.Removed.{range_of, range_rows, flat-remove, Parted, parted}
 
 -- ---- a list in order without some of a part of it
 
@@ -66,48 +66,48 @@ module _ {A : Type 0} (P : A → Type 0) (lt : A → A → Bool) (r : StrictOrde
 
 -- ---- the number of the move
 
-pub one-numbered : (n : ℕ) (ms : List Move) → distinct (map (λ m. m.number) ms) ≡ true → onBoard n ms ≡ true → count (numbered n) ms ≡ 1
-unfolding onBoard any distinct
+pub one-numbered : (n : ℕ) (ms : List Move) → distinct (map (λ m. m.number) ms) ≡ true → on_board n ms ≡ true → count (numbered n) ms ≡ 1
+unfolding on_board any distinct
 one-numbered n [] u b = both_ways b refl
 one-numbered n (m ∷ ms) u b =
     let numbers = map (λ m. m.number) ms in
     let c = count (numbered n) ms in
     count-cons (numbered n) m ms
-    ∙ byCases (numbered n m)
+    ∙ by_cases (numbered n m)
     (λ e.
-    let off : onBoard m.number ms ≡ false = sym (has-numbers m.number ms) ∙ not_back (has m.number numbers) (and_left (not (has m.number numbers)) (distinct numbers) u) in
+    let off : on_board m.number ms ≡ false = sym (has-numbers m.number ms) ∙ not_back (has m.number numbers) (and_left (not (has m.number numbers)) (distinct numbers) u) in
     ap (λ (t : Bool). cond t (suc c) c) e
-    ∙ ap suc (count_none (numbered n) ms (any_false (numbered n) ms (subst (λ (k : ℕ). onBoard k ms ≡ false) (eqb-true m.number n e) off))))
+    ∙ ap suc (count_none (numbered n) ms (any_false (numbered n) ms (subst (λ (k : ℕ). on_board k ms ≡ false) (eqb-true m.number n e) off))))
     (λ e.
     ap (λ (t : Bool). cond t (suc c) c) e
     ∙ one-numbered n ms (and_right (not (has m.number numbers)) (distinct numbers) u) (sym (ap (λ (t : Bool). t || any (numbered n) ms) e) ∙ b))
 
 -- ---- moves entered again
 
-module _ (d : ℕ) (P : Move → Type 0) (r : StrictOrder P (moveBefore d)) where
+module _ (d : ℕ) (P : Move → Type 0) (r : StrictOrder P (move_before d)) where
   abbrev lt : Move → Move → Bool
-  lt = moveBefore d
+  lt = move_before d
 
   flat-enter-all : (ms : List Move) (t : Tree) → ruled d t ≡ true → Each P ms → Each P (moves_of t) → Once ms
-      → Each (λ m. ¬ Memᴰ m (moves_of t)) ms → line_of (enterAll d ms t) ≡ flatEnterAll d ms (line_of t)
-  unfolding enterAll flatEnterAll insert
+      → Each (λ m. ¬ Memᴰ m (moves_of t)) ms → line_of (enter_all d ms t) ≡ flat_enter_all d ms (line_of t)
+  unfolding enter_all flat_enter_all insert
   flat-enter-all [] t k p q o new = refl
   flat-enter-all (m ∷ ms) t k p q o new =
       let e = enter-moves d P r m p.0 t k q in
-      flat-enter-all ms (enterTree d m t) (enter-ruled d P r m p.0 t k q new.0) p.1
+      flat-enter-all ms (enter_tree d m t) (enter-ruled d P r m p.0 t k q new.0) p.1
       (subst (Each P) (sym e) (each-insert lt P m (moves_of t) p.0 q)) o.1
-      (mem-each (λ x. ¬ Memᴰ x (moves_of (enterTree d m t))) ms
+      (mem-each (λ x. ¬ Memᴰ x (moves_of (enter_tree d m t))) ms
       (λ x i j.
       ⊎_elim (λ a. o.0 (Memᴰ.cast (sym a) i)) (each-mem (λ y. ¬ Memᴰ y (moves_of t)) new.1 i)
       (insert-mem lt m (moves_of t) (subst (Memᴰ x) e j))))
-      ∙ ap (flatEnterAll d ms) (flat-enter-ordered d P r m p.0 t (ruled-filled d t k) (ruled-ordered d t k) q new.0)
+      ∙ ap (flat_enter_all d ms) (flat-enter-ordered d P r m p.0 t (ruled-filled d t k) (ruled-ordered d t k) q new.0)
 
   module _ (n h : ℕ) (es : List (Entry h)) (w : Parted n h es) (q : Each P (moves_of (rooted h es))) (v : ordered d (moves_of (rooted h es)) ≡ true) where
     abbrev again : List Move
     again = without n w.between
 
     abbrev tree : Tree
-    tree = settled h (withdrawNode n h es).entries
+    tree = settled h (withdraw_node n h es).entries
 
     each-whole : Each P (w.before ++ (w.between ++ w.after))
     each-whole = subst (Each P) w.whole q
@@ -128,14 +128,14 @@ module _ (d : ℕ) (P : Move → Type 0) (r : StrictOrder P (moveBefore d)) wher
         (middle-rising P lt r w.before w.between w.after each-whole rising_whole)
 
     -- The moves of removed nodes, in order, are those of the range but the one.
-    pub moves-in-order : inZOrder d (withdrawNode n h es).moves ≡ without n (movesIn (rangeRows n (line_of (rooted h es))))
-    unfolding inZOrder
+    pub moves-in-order : in_z_order d (withdraw_node n h es).moves ≡ without n (moves_in (range_rows n (line_of (rooted h es))))
+    unfolding in_z_order
     moves-in-order =
         sort-perm lt P r w.taken (each-perm P (Permᴰ.symm w.taken) each_again)
         ∙ sort-rising lt again rising-again
         ∙ ap (without n) (sym w.range)
 
-    entered-again : filledTree tree ≡ true → line_of (enterAll d again tree) ≡ flatEnterAll d again (line_of tree)
+    entered-again : filled_tree tree ≡ true → line_of (enter_all d again tree) ≡ flat_enter_all d again (line_of tree)
     unfolding ordered without
     entered-again f =
         flat-enter-all again tree
@@ -150,8 +150,8 @@ module _ (d : ℕ) (P : Move → Type 0) (r : StrictOrder P (moveBefore d)) wher
   -- ---- withdrawing
 
   pub flat-withdraw : (n : ℕ) (t : Tree) → ruled d t ≡ true → Each P (moves_of t) → distinct (map (λ m. m.number) (moves_of t)) ≡ true
-      → onBoard n (moves_of t) ≡ true → line_of (withdrawTree d n t) ≡ flatWithdraw d n (line_of t)
-  unfolding line_of withdrawTree flatWithdraw moves_of holds onBoard any rangeRows range_of
+      → on_board n (moves_of t) ≡ true → line_of (withdraw_tree d n t) ≡ flat_withdraw d n (line_of t)
+  unfolding line_of withdraw_tree flat_withdraw moves_of holds on_board any range_rows range_of
   flat-withdraw n empty k q u b = both_ways b refl
   flat-withdraw n (rooted h es) k q u b =
       let f = ruled-filled d (rooted h es) k in
@@ -159,7 +159,7 @@ module _ (d : ℕ) (P : Move → Type 0) (r : StrictOrder P (moveBefore d)) wher
       let o : holds n (suc h) es ≡ 1 = one-numbered n (moves_of (rooted h es)) u b in
       let w = parted n h es f o in
       let e = ap (without n) w.range in
-      let tree = settled h (withdrawNode n h es).entries in
-      ap (λ (ms : List Move). line_of (enterAll d ms tree)) (moves-in-order n h es w q v ∙ e)
+      let tree = settled h (withdraw_node n h es).entries in
+      ap (λ (ms : List Move). line_of (enter_all d ms tree)) (moves-in-order n h es w q v ∙ e)
       ∙ entered-again n h es w q v (left-filled d n h es f)
-      ∙ ap₂ (flatEnterAll d) (sym e) (flat-remove n h es f o)
+      ∙ ap₂ (flat_enter_all d) (sym e) (flat-remove n h es f o)

@@ -1,12 +1,12 @@
 -- Rows that a load accepts: their numbers are below C and different, so there are at most C of them, and their blocks are bytes.
 use Rattle.std.specs.Prelude.{ℕ, suc, ◌≤◌, ◌<◌, true, false, List, [], ◌∷◌, map, ◌≡◌, refl, leb, eqb, length}
 use Rattle.std.proofs.Common.{ap, ◌∙◌, arith, leb-false}
-use Rattle.zorder.specs.Refusal.{costPastBad}
+use Rattle.zorder.specs.Refusal.{cost_past_bad}
 use Rattle.zorder.specs.Laws.Refusal.{first_passes, rest-passes}
 use Rattle.zorder.specs.Between.{RowCosts}
 use Rattle.model.specs.Basics.{Each, any, has, distinct}
 use Rattle.model.specs.Moves.{InputRow, move_of}
-use Rattle.model.specs.Calls.{blockBad, rowRefusal, rowsRefusal, accepted}
+use Rattle.model.specs.Calls.{block_bad, row_refusal, rows_refusal, accepted}
 use Rattle.model.specs.Sound.{Fit}
 use Rattle.model.specs.Laws.Bool.{or-false-left, or-false-right}
 use Rattle.model.specs.Laws.Basics.{each-mono, each_both, each_map}
@@ -18,15 +18,15 @@ use Rattle.loading.specs.File.{Acceptable}
 
 -- ---- one row
 
-row-right : (c d : ℕ) (earlier : List ℕ) (r : InputRow) → rowRefusal c d earlier r ≡ 0
-    → (r.number < c) × (blockBad r.block ≡ false) × (has r.number earlier ≡ false)
-unfolding rowRefusal
+row-right : (c d : ℕ) (earlier : List ℕ) (r : InputRow) → row_refusal c d earlier r ≡ 0
+    → (r.number < c) × (block_bad r.block ≡ false) × (has r.number earlier ≡ false)
+unfolding row_refusal
 row-right c d earlier r h =
     let after4 = rest-passes (leb c r.number) 3 _ h in
-    let after11 = rest-passes (blockBad r.block) 10 _ after4 in
-    let after7 = rest-passes (costPastBad d r.costs) 6 _ after11 in (
+    let after11 = rest-passes (block_bad r.block) 10 _ after4 in
+    let after7 = rest-passes (cost_past_bad d r.costs) 6 _ after11 in (
       leb-false c r.number (first_passes (leb c r.number) 3 _ h),
-      first_passes (blockBad r.block) 10 _ after4,
+      first_passes (block_bad r.block) 10 _ after4,
       first_passes (has r.number earlier) 4 _ after7,
     )
 
@@ -34,11 +34,11 @@ row-right c d earlier r h =
 
 pub record Right (c : ℕ) (earlier : List ℕ) (rows : List InputRow) : Type 0 where
   pub below : Each (λ r. r.number < c) rows
-  pub small : Each (λ r. blockBad r.block ≡ false) rows
+  pub small : Each (λ r. block_bad r.block ≡ false) rows
   pub once : distinct (map (λ r. r.number) rows) ≡ true
   pub new : Each (λ r. has r.number earlier ≡ false) rows
 
-pub rows_right : (c d place : ℕ) (earlier : List ℕ) (rows : List InputRow) → rowsRefusal c d place earlier rows ≡ accepted → Right c earlier rows
+pub rows_right : (c d place : ℕ) (earlier : List ℕ) (rows : List InputRow) → rows_refusal c d place earlier rows ≡ accepted → Right c earlier rows
 unfolding distinct has any
 rows_right c d place earlier [] h = record { below = tt; small = tt; once = refl; new = tt }
 rows_right c d place earlier (r ∷ rs) h =
@@ -85,6 +85,6 @@ module _ (c d : ℕ) (rows : List InputRow) (a : Acceptable c d rows) where
 
   pub rows-storable : Storable c rows
   rows-storable =
-      each-mono (λ r. (r.number < c) × (blockBad r.block ≡ false)) (λ r. (r.number < c) × (r.block < 256)) rows
+      each-mono (λ r. (r.number < c) × (block_bad r.block ≡ false)) (λ r. (r.number < c) × (r.block < 256)) rows
       (λ r k. (k.0, omega (arith, block-most r.block k.1)))
-      (each_both (λ r. r.number < c) (λ r. blockBad r.block ≡ false) rows right.below right.small)
+      (each_both (λ r. r.number < c) (λ r. block_bad r.block ≡ false) rows right.below right.small)

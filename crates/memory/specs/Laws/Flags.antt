@@ -7,9 +7,9 @@ use Rattle.std.proofs.lemmas.Bool.{false≢true}
 use mathlib.Core.List.{List, [], ◌∷◌, ◌++◌, append_cancel_right}
 use Rattle.std.proofs.Math.Path.{refl, sym, ap, ap₂}
 use Rattle.std.proofs.Common.{◌∙◌}
-use Rattle.zorder.specs.Between.{rowCosts}
-use Rattle.model.specs.Basics.{Each, consIf, select}
-use Rattle.model.specs.Moves.{Move, moveBefore, ordered}
+use Rattle.zorder.specs.Between.{row_costs}
+use Rattle.model.specs.Basics.{Each, cons_if, select}
+use Rattle.model.specs.Moves.{Move, move_before, ordered}
 use Rattle.model.specs.Dominance.{hides}
 use Rattle.model.specs.Lists.{hidden, skyline}
 use Rattle.model.specs.Sound.{Fit}
@@ -18,7 +18,7 @@ use Rattle.model.specs.Laws.Basics.{select-same, each_left, each_right, select-a
 use Rattle.model.specs.Laws.Sorting.{rising-left}
 use Rattle.model.specs.Laws.Skyline.{skyline-append, skyline-earlier-listed}
 use Rattle.promises.specs.Layout.{tab}
-use Rattle.memory.specs.Tests.{allTo, anyTo}
+use Rattle.memory.specs.Tests.{all_to, any_to}
 use Rattle.memory.specs.Laws.Places.{any-tab}
 
 beq_same : (a b : Bool) → beq a b ≡ true → a ≡ b
@@ -31,7 +31,7 @@ same-beq : (a b : Bool) → a ≡ b → beq a b ≡ true
 same-beq true b e = ap (beq true) (sym e)
 same-beq false b e = ap (beq false) (sym e)
 
-module _ (d c : ℕ) (l : d ≤ rowCosts) (listed : Move → Bool) where
+module _ (d c : ℕ) (l : d ≤ row_costs) (listed : Move → Bool) where
   -- ---- one move more, which stands last
 
   module _ (xs : List Move) (x : Move) (es : Each (Fit c d) (xs ++ x ∷ [])) (r : ordered d (xs ++ x ∷ []) ≡ true) where
@@ -46,7 +46,7 @@ module _ (d c : ℕ) (l : d ≤ rowCosts) (listed : Move → Bool) where
     unfolding shown select
     kept_more e h =
         select-append listed xs (x ∷ [])
-        ∙ ap₂ (λ (ys : List Move) (b : Bool). ys ++ consIf b x []) e (h ∙ ap (λ (ys : List Move). not (hidden d ys x)) e ∙ sym shown-last)
+        ∙ ap₂ (λ (ys : List Move) (b : Bool). ys ++ cons_if b x []) e (h ∙ ap (λ (ys : List Move). not (hidden d ys x)) e ∙ sym shown-last)
         ∙ sym (skyline-append d c l xs (x ∷ []) es r)
 
     kept_less : select listed (xs ++ x ∷ []) ≡ skyline d (xs ++ x ∷ []) → (select listed xs ≡ skyline d xs) × (listed x ≡ not (hidden d (select listed xs) x))
@@ -69,26 +69,26 @@ module _ (d c : ℕ) (l : d ≤ rowCosts) (listed : Move → Bool) where
 
   module _ (f : ℕ → Move) where
     -- The move at place i is listed exactly if no listed move before it hides it.
-    abbrev rightAt : ℕ → Bool
-    rightAt i = beq (listed (f i)) (not (anyTo (λ j. listed (f j) && hides d (f j) (f i)) i))
+    abbrev right_at : ℕ → Bool
+    right_at i = beq (listed (f i)) (not (any_to (λ j. listed (f j) && hides d (f j) (f i)) i))
 
-    pub hidden-listed : (i : ℕ) (x : Move) → anyTo (λ j. listed (f j) && hides d (f j) x) i ≡ hidden d (select listed (tab f i)) x
+    pub hidden-listed : (i : ℕ) (x : Move) → any_to (λ j. listed (f j) && hides d (f j) x) i ≡ hidden d (select listed (tab f i)) x
     unfolding hidden
     hidden-listed i x = sym (any-tab f (λ y. listed y && hides d y x) i) ∙ sym (any-select (λ y. hides d y x) listed (tab f i))
 
-    pub flags-kept : (n : ℕ) → Each (Fit c d) (tab f n) → ordered d (tab f n) ≡ true → allTo rightAt n ≡ true → select listed (tab f n) ≡ skyline d (tab f n)
-    unfolding tab allTo ordered select skyline
+    pub flags-kept : (n : ℕ) → Each (Fit c d) (tab f n) → ordered d (tab f n) ≡ true → all_to right_at n ≡ true → select listed (tab f n) ≡ skyline d (tab f n)
+    unfolding tab all_to ordered select skyline
     flags-kept zero es r h = refl
     flags-kept (suc n) es r h =
         kept_more (tab f n) (f n) es r
-        (flags-kept n (each_left (Fit c d) (tab f n) (f n ∷ []) es) (rising-left (moveBefore d) (tab f n) (f n ∷ []) r) (and_left (allTo rightAt n) (rightAt n) h))
-        (beq_same (listed (f n)) _ (and_right (allTo rightAt n) (rightAt n) h) ∙ ap not (hidden-listed n (f n)))
+        (flags-kept n (each_left (Fit c d) (tab f n) (f n ∷ []) es) (rising-left (move_before d) (tab f n) (f n ∷ []) r) (and_left (all_to right_at n) (right_at n) h))
+        (beq_same (listed (f n)) _ (and_right (all_to right_at n) (right_at n) h) ∙ ap not (hidden-listed n (f n)))
 
-    pub kept-flags : (n : ℕ) → Each (Fit c d) (tab f n) → ordered d (tab f n) ≡ true → select listed (tab f n) ≡ skyline d (tab f n) → allTo rightAt n ≡ true
-    unfolding tab allTo ordered
+    pub kept-flags : (n : ℕ) → Each (Fit c d) (tab f n) → ordered d (tab f n) ≡ true → select listed (tab f n) ≡ skyline d (tab f n) → all_to right_at n ≡ true
+    unfolding tab all_to ordered
     kept-flags zero es r e = refl
     kept-flags (suc n) es r e =
         let k = kept_less (tab f n) (f n) es r e in
-        and_both (allTo rightAt n) (rightAt n)
-        (kept-flags n (each_left (Fit c d) (tab f n) (f n ∷ []) es) (rising-left (moveBefore d) (tab f n) (f n ∷ []) r) k.0)
+        and_both (all_to right_at n) (right_at n)
+        (kept-flags n (each_left (Fit c d) (tab f n) (f n ∷ []) es) (rising-left (move_before d) (tab f n) (f n ∷ []) r) k.0)
         (same-beq (listed (f n)) _ (k.1 ∙ ap not (sym (hidden-listed n (f n)))))

@@ -3,7 +3,7 @@ use Rattle.std.specs.Prelude.{ℕ, ◌+◌, ◌*◌, ◌/◌, ◌%◌, ◌≤◌
 use Rattle.std.proofs.Common.{⊎_elim, ◌∙◌, div-add-mod', arith, length-set, get_or-set_same, get_or-set_other}
 use Rattle.std.proofs.Math.Logic.{⊎_map}
 use Rattle.std.proofs.Math.Path.{ap₂}
-use Rattle.promises.specs.Layout.{word_at, setWord}
+use Rattle.promises.specs.Layout.{word_at, set_word}
 use Rattle.memory.specs.Room.{Room}
 use Rattle.memory.specs.Frame.{DifferWithin}
 
@@ -34,8 +34,8 @@ byte-frame o v m =
       same = λ i h. get_or-set_other m o i v 0 (λ e. ⊎_elim (λ k. omega arith) (λ k. omega arith) h);
     }
 
-pub word-frame : (o v : ℕ) (m : List ℕ) → DifferWithin o (o + 2) m (setWord o v m)
-unfolding setWord
+pub word-frame : (o v : ℕ) (m : List ℕ) → DifferWithin o (o + 2) m (set_word o v m)
+unfolding set_word
 word-frame o v m =
     frame-trans (frame-widen (omega arith) (omega arith) (byte-frame o (v % 256) m))
     (frame-widen (omega arith) (omega arith) (byte-frame (o + 1) (v / 256) (set m o (v % 256))))
@@ -51,11 +51,11 @@ module _ {a b : ℕ} {m m' : List ℕ} (f : DifferWithin a b m m') where
       (byte-across o (⊎_map (λ k. omega arith) (λ k. k) h))
       (byte-across (o + 1) (⊎_map (λ k. omega arith) (λ k. omega arith) h))
 
-pub word-length : (o v : ℕ) (m : List ℕ) → length (setWord o v m) ≡ length m
+pub word-length : (o v : ℕ) (m : List ℕ) → length (set_word o v m) ≡ length m
 word-length o v m = (word-frame o v m).length
 
-pub word-stored : (o v : ℕ) (m : List ℕ) → o + 1 < length m → word_at o (setWord o v m) ≡ v
-unfolding word_at setWord
+pub word-stored : (o v : ℕ) (m : List ℕ) → o + 1 < length m → word_at o (set_word o v m) ≡ v
+unfolding word_at set_word
 word-stored o v m fits = ap₂ (λ (x y : ℕ). x + 256 * y) low high ∙ omega (arith, div-add-mod' v 256)
   where
     m' : List ℕ

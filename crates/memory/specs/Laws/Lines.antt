@@ -4,68 +4,68 @@ use mathlib.Core.List.{List}
 use Rattle.std.specs.Prelude.{◌≢◌, ◌≡◌, length, get_or}
 use Rattle.std.proofs.Math.Path.{sym, ap, ap₂}
 use Rattle.std.proofs.Common.{◌∙◌, arith}
-use Rattle.zorder.specs.Address.{rowCosts}
+use Rattle.zorder.specs.Address.{row_costs}
 use Rattle.model.specs.Basics.{Each}
 use Rattle.model.specs.Moves.{Move}
-use Rattle.line.specs.Line.{Placed, none, movesIn, heightsIn}
+use Rattle.line.specs.Line.{Placed, none, moves_in, heights_in}
 use Rattle.line.specs.Places as places
-use Rattle.line.specs.Places.{move_at, heightAt, insertAt}
-use Rattle.promises.specs.Layout.{sizeIn, dimensionIn, countIn, number_in, heightIn, costsIn, moveIn, placedIn, tab, heightsFrom, lineFrom, lineIn}
+use Rattle.line.specs.Places.{move_at, height_at, insert_at}
+use Rattle.promises.specs.Layout.{size_in, dimension_in, count_in, number_in, height_in, costs_in, move_in, placed_in, tab, heights_from, line_from, line_in}
 use Rattle.memory.specs.Room.{Room, Numbers}
-use Rattle.memory.specs.Stores.{setHeight, setCosts}
+use Rattle.memory.specs.Stores.{set_height, set_costs}
 use Rattle.memory.specs.Frame.{DifferWithin, FlagsOnly, WorkOnly}
-use Rattle.promises.specs.Laws.Tab.{each-tab, length-tab, getD-tab, tab-ext, tab-set, tab-insert, map-tab}
+use Rattle.promises.specs.Laws.Tab.{each-tab, length-tab, get_or-tab, tab-ext, tab-set, tab-insert, map-tab}
 use Rattle.memory.specs.Laws.Places.{tab-each}
 use Rattle.memory.specs.Laws.Fields.{number-over-head, height-over-head, costs-over-head, costs-over-rows, number-over-flags, height-over-flags, costs-over-flags, number-over-costs, height-over-costs, number-over-work, height-over-work, costs-over-work}
-use Rattle.memory.specs.Laws.Stored.{setHeight-rows, setCosts-costs, number-setHeight, height-setHeight, height-setHeight-other, costs-setCosts-other}
+use Rattle.memory.specs.Laws.Stored.{set_height-rows, set_costs-costs, number-set_height, height-set_height, height-set_height-other, costs-set_costs-other}
 
 -- ---- place by place
 
 module _ (c n : ℕ) (m : List ℕ) where
-  pub length-heightsFrom : length (heightsFrom c n m) ≡ n
-  unfolding heightsFrom
-  length-heightsFrom = length-tab (heightIn c m) n
+  pub length-heights_from : length (heights_from c n m) ≡ n
+  unfolding heights_from
+  length-heights_from = length-tab (height_in c m) n
 
-  pub getD-heightsFrom : (i : ℕ) → i < n → get_or (heightsFrom c n m) i 0 ≡ heightIn c m i
-  unfolding heightsFrom
-  getD-heightsFrom i h = getD-tab (heightIn c m) 0 n i h
+  pub get_or-heights_from : (i : ℕ) → i < n → get_or (heights_from c n m) i 0 ≡ height_in c m i
+  unfolding heights_from
+  get_or-heights_from i h = get_or-tab (height_in c m) 0 n i h
 
 module _ (c d n : ℕ) (m : List ℕ) where
-  pub length-line : length (lineFrom c d n m) ≡ n
-  unfolding lineFrom
-  length-line = length-tab (placedIn c d m) n
+  pub length-line : length (line_from c d n m) ≡ n
+  unfolding line_from
+  length-line = length-tab (placed_in c d m) n
 
-  pub getD-line : (i : ℕ) → i < n → get_or (lineFrom c d n m) i none ≡ placedIn c d m i
-  unfolding lineFrom
-  getD-line i h = getD-tab (placedIn c d m) none n i h
+  pub get_or-line : (i : ℕ) → i < n → get_or (line_from c d n m) i none ≡ placed_in c d m i
+  unfolding line_from
+  get_or-line i h = get_or-tab (placed_in c d m) none n i h
 
-  pub moveAt-line : (i : ℕ) → i < n → move_at (lineFrom c d n m) i ≡ moveIn c d m i
-  unfolding move_at placedIn
-  moveAt-line i h = ap (λ (r : Placed). r.move) (getD-line i h)
+  pub move_at-line : (i : ℕ) → i < n → move_at (line_from c d n m) i ≡ move_in c d m i
+  unfolding move_at placed_in
+  move_at-line i h = ap (λ (r : Placed). r.move) (get_or-line i h)
 
-  pub heightAt-line : (i : ℕ) → i < n → heightAt (lineFrom c d n m) i ≡ heightIn c m i
-  unfolding heightAt placedIn
-  heightAt-line i h = ap (λ (r : Placed). r.height) (getD-line i h)
+  pub height_at-line : (i : ℕ) → i < n → height_at (line_from c d n m) i ≡ height_in c m i
+  unfolding height_at placed_in
+  height_at-line i h = ap (λ (r : Placed). r.height) (get_or-line i h)
 
-  pub movesIn-line : movesIn (lineFrom c d n m) ≡ tab (moveIn c d m) n
-  unfolding lineFrom movesIn placedIn
-  movesIn-line = map-tab (λ (r : Placed). r.move) (placedIn c d m) n
+  pub moves_in-line : moves_in (line_from c d n m) ≡ tab (move_in c d m) n
+  unfolding line_from moves_in placed_in
+  moves_in-line = map-tab (λ (r : Placed). r.move) (placed_in c d m) n
 
-  pub heightsIn-line : heightsIn (lineFrom c d n m) ≡ heightsFrom c n m
-  unfolding lineFrom heightsIn heightsFrom placedIn
-  heightsIn-line = map-tab (λ (r : Placed). r.height) (placedIn c d m) n
+  pub heights_in-line : heights_in (line_from c d n m) ≡ heights_from c n m
+  unfolding line_from heights_in heights_from placed_in
+  heights_in-line = map-tab (λ (r : Placed). r.height) (placed_in c d m) n
 
-  pub numbers-each : Numbers c n m → Each (λ r. r.move.number < c) (lineFrom c d n m)
-  unfolding lineFrom placedIn moveIn
-  numbers-each h = each-tab (placedIn c d m) (λ r. r.move.number < c) n h
+  pub numbers-each : Numbers c n m → Each (λ r. r.move.number < c) (line_from c d n m)
+  unfolding line_from placed_in move_in
+  numbers-each h = each-tab (placed_in c d m) (λ r. r.move.number < c) n h
 
-  pub each-numbers : Each (λ r. r.move.number < c) (lineFrom c d n m) → Numbers c n m
-  unfolding lineFrom placedIn moveIn
-  each-numbers es i l = tab-each (placedIn c d m) (λ r. r.move.number < c) n i l es
+  pub each-numbers : Each (λ r. r.move.number < c) (line_from c d n m) → Numbers c n m
+  unfolding line_from placed_in move_in
+  each-numbers es i l = tab-each (placed_in c d m) (λ r. r.move.number < c) n i l es
 
-  pub lineIn-line : sizeIn m ≡ c → dimensionIn m ≡ d → countIn m ≡ n → lineIn m ≡ lineFrom c d n m
-  unfolding lineIn
-  lineIn-line e f g = λ i. lineFrom (e i) (f i) (g i) m
+  pub line_in-line : size_in m ≡ c → dimension_in m ≡ d → count_in m ≡ n → line_in m ≡ line_from c d n m
+  unfolding line_in
+  line_in-line e f g = λ i. line_from (e i) (f i) (g i) m
 
 -- ---- equal fields, equal lines
 
@@ -76,36 +76,36 @@ abbrev placed : Move → ℕ → Placed
 placed x h = record { move = x; height = h }
 
 module _ (c d : ℕ) (m m' : List ℕ) where
-  module _ (i j : ℕ) (number : number_in c m' j ≡ number_in c m i) (costs : costsIn c d m' (number_in c m i) ≡ costsIn c d m (number_in c m i)) where
-    pub move-ext : moveIn c d m' j ≡ moveIn c d m i
-    unfolding moveIn
-    move-ext = ap₂ made number (ap (costsIn c d m') number ∙ costs)
+  module _ (i j : ℕ) (number : number_in c m' j ≡ number_in c m i) (costs : costs_in c d m' (number_in c m i) ≡ costs_in c d m (number_in c m i)) where
+    pub move-ext : move_in c d m' j ≡ move_in c d m i
+    unfolding move_in
+    move-ext = ap₂ made number (ap (costs_in c d m') number ∙ costs)
 
-    pub placed-ext : heightIn c m' j ≡ heightIn c m i → placedIn c d m' j ≡ placedIn c d m i
-    unfolding placedIn
+    pub placed-ext : height_in c m' j ≡ height_in c m i → placed_in c d m' j ≡ placed_in c d m i
+    unfolding placed_in
     placed-ext height = ap₂ placed move-ext height
 
-  pub line-ext : (n : ℕ) → ((i : ℕ) → i < n → number_in c m' i ≡ number_in c m i) → ((i : ℕ) → i < n → heightIn c m' i ≡ heightIn c m i) → ((i : ℕ) → i < n → costsIn c d m' (number_in c m i) ≡ costsIn c d m (number_in c m i)) → lineFrom c d n m' ≡ lineFrom c d n m
-  unfolding lineFrom
-  line-ext n number height costs = tab-ext (placedIn c d m') (placedIn c d m) n (λ i h. placed-ext i i (number i h) (costs i h) (height i h))
+  pub line-ext : (n : ℕ) → ((i : ℕ) → i < n → number_in c m' i ≡ number_in c m i) → ((i : ℕ) → i < n → height_in c m' i ≡ height_in c m i) → ((i : ℕ) → i < n → costs_in c d m' (number_in c m i) ≡ costs_in c d m (number_in c m i)) → line_from c d n m' ≡ line_from c d n m
+  unfolding line_from
+  line-ext n number height costs = tab-ext (placed_in c d m') (placed_in c d m) n (λ i h. placed-ext i i (number i h) (costs i h) (height i h))
 
   -- A row put in at place p.
-  pub line-insert : (n p : ℕ) (r : Placed) → p ≤ n → ((i : ℕ) → i < p → placedIn c d m' i ≡ placedIn c d m i) → placedIn c d m' p ≡ r → ((i : ℕ) → p ≤ i → i < n → placedIn c d m' (suc i) ≡ placedIn c d m i) → lineFrom c d (suc n) m' ≡ insertAt p r (lineFrom c d n m)
-  unfolding lineFrom insertAt
-  line-insert = tab-insert (placedIn c d m) (placedIn c d m')
+  pub line-insert : (n p : ℕ) (r : Placed) → p ≤ n → ((i : ℕ) → i < p → placed_in c d m' i ≡ placed_in c d m i) → placed_in c d m' p ≡ r → ((i : ℕ) → p ≤ i → i < n → placed_in c d m' (suc i) ≡ placed_in c d m i) → line_from c d (suc n) m' ≡ insert_at p r (line_from c d n m)
+  unfolding line_from insert_at
+  line-insert = tab-insert (placed_in c d m) (placed_in c d m')
 
 module _ (c d n : ℕ) {m m' : List ℕ} where
-  pub line-over-head : DifferWithin 0 16 m m' → lineFrom c d n m' ≡ lineFrom c d n m
+  pub line-over-head : DifferWithin 0 16 m m' → line_from c d n m' ≡ line_from c d n m
   line-over-head f = line-ext c d m m' n (λ i h. number-over-head c f i) (λ i h. height-over-head c f i) (λ i h. costs-over-head c f d _)
 
-  pub line-over-flags : FlagsOnly c m m' → n ≤ c → lineFrom c d n m' ≡ lineFrom c d n m
+  pub line-over-flags : FlagsOnly c m m' → n ≤ c → line_from c d n m' ≡ line_from c d n m
   line-over-flags f few =
       line-ext c d m m' n
       (λ i h. number-over-flags c f i (omega arith))
       (λ i h. height-over-flags c f i (omega arith))
       (λ i h. costs-over-flags c f d _)
 
-  pub line-over-work : WorkOnly c m m' → n ≤ c → d ≤ rowCosts → Numbers c n m → lineFrom c d n m' ≡ lineFrom c d n m
+  pub line-over-work : WorkOnly c m m' → n ≤ c → d ≤ row_costs → Numbers c n m → line_from c d n m' ≡ line_from c d n m
   line-over-work f few l numbers =
       line-ext c d m m' n
       (λ i h. number-over-work c f i (omega arith))
@@ -116,26 +116,26 @@ module _ (c d n : ℕ) {m m' : List ℕ} where
 
 module _ (c d n : ℕ) (m : List ℕ) where
   -- The costs of a number that stands at none of the places.
-  pub line-setCosts : (k : ℕ) (costs : List ℕ) → k < c → length costs ≤ rowCosts → n ≤ c → d ≤ rowCosts → ((i : ℕ) → i < n → number_in c m i ≢ k) → lineFrom c d n (setCosts c k costs m) ≡ lineFrom c d n m
-  line-setCosts k costs h count few l absent =
-      let f = setCosts-costs c k m h costs count in
-      line-ext c d m (setCosts c k costs m) n
+  pub line-set_costs : (k : ℕ) (costs : List ℕ) → k < c → length costs ≤ row_costs → n ≤ c → d ≤ row_costs → ((i : ℕ) → i < n → number_in c m i ≢ k) → line_from c d n (set_costs c k costs m) ≡ line_from c d n m
+  line-set_costs k costs h count few l absent =
+      let f = set_costs-costs c k m h costs count in
+      line-ext c d m (set_costs c k costs m) n
       (λ i b. number-over-costs c f i (omega arith))
       (λ i b. height-over-costs c f i (omega arith))
-      (λ i b. costs-setCosts-other c k m (number_in c m i) (absent i b) d costs l count)
+      (λ i b. costs-set_costs-other c k m (number_in c m i) (absent i b) d costs l count)
 
-  pub line-setHeight : (i k : ℕ) → Room c m → i < n → n ≤ c → lineFrom c d n (setHeight c i k m) ≡ places.setHeight i k (lineFrom c d n m)
-  unfolding lineFrom placedIn places.setHeight
-  line-setHeight i k room h few =
-      tab-set (placedIn c d m) (placedIn c d m') n i (placed (move_at (lineFrom c d n m) i) k) h
-      (ap₂ placed (move-ext c d m m' i i (number i (omega arith)) (costs i) ∙ sym (moveAt-line c d n m i h)) (height-setHeight c i m room (omega arith) k))
-      (λ j b ne. placed-ext c d m m' j j (number j (omega arith)) (costs j) (height-setHeight-other c i m j ne k))
+  pub line-set_height : (i k : ℕ) → Room c m → i < n → n ≤ c → line_from c d n (set_height c i k m) ≡ places.set_height i k (line_from c d n m)
+  unfolding line_from placed_in places.set_height
+  line-set_height i k room h few =
+      tab-set (placed_in c d m) (placed_in c d m') n i (placed (move_at (line_from c d n m) i) k) h
+      (ap₂ placed (move-ext c d m m' i i (number i (omega arith)) (costs i) ∙ sym (move_at-line c d n m i h)) (height-set_height c i m room (omega arith) k))
+      (λ j b ne. placed-ext c d m m' j j (number j (omega arith)) (costs j) (height-set_height-other c i m j ne k))
     where
       m' : List ℕ
-      m' = setHeight c i k m
+      m' = set_height c i k m
 
       number : (j : ℕ) → j < c → number_in c m' j ≡ number_in c m j
-      number j b = number-setHeight c i m j k b
+      number j b = number-set_height c i m j k b
 
-      costs : (j : ℕ) → costsIn c d m' (number_in c m j) ≡ costsIn c d m (number_in c m j)
-      costs j = costs-over-rows c (setHeight-rows c i m (omega arith) k) d (number_in c m j)
+      costs : (j : ℕ) → costs_in c d m' (number_in c m j) ≡ costs_in c d m (number_in c m j)
+      costs j = costs-over-rows c (set_height-rows c i m (omega arith) k) d (number_in c m j)

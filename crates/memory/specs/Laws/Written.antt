@@ -7,11 +7,11 @@ use Rattle.std.proofs.Math.Path.{ap₂}
 use Rattle.std.proofs.Math.Decide.{dec_lt}
 use Rattle.std.proofs.Math.ListN.{length, set}
 use Rattle.model.specs.Laws.Bool.{both_ways, or_left, or_right, or-false-left, or-false-right}
-use Rattle.promises.specs.Layout.{word_at, setWord, blockPlace, costPlace, formatNumber, sizeIn, dimensionIn, format_in, blockIn}
-use Rattle.promises.specs.Written.{in_area, movesWrite, loadWrites, Only}
+use Rattle.promises.specs.Layout.{word_at, set_word, block_place, cost_place, format_number, size_in, dimension_in, format_in, block_in}
+use Rattle.promises.specs.Written.{in_area, moves_write, load_writes, Only}
 use Rattle.promises.specs.Laws.Written.{in-area, writes-count, writes-rows, writes-costs, leaves-head, leaves-blocks}
 use Rattle.memory.specs.Room.{Room}
-use Rattle.memory.specs.Stores.{setHead, setCount}
+use Rattle.memory.specs.Stores.{set_head, set_count}
 use Rattle.memory.specs.Frame.{DifferWithin, MovesOnly, RowsOnly, FlagsOnly, BlocksOnly, CostsOnly, WorkOnly}
 use Rattle.memory.specs.Laws.Frames.{byte-frame, word-frame}
 
@@ -39,29 +39,29 @@ range-only {a} {b} {m} {m'} writes written f = record { length = f.length; same 
 
 module _ (c : ℕ) {m m' : List ℕ} where
   pub rows_written : RowsOnly c m m' → MovesOnly c m m'
-  rows_written = range-only (movesWrite c) (λ i l u. writes-rows c i l (omega arith))
+  rows_written = range-only (moves_write c) (λ i l u. writes-rows c i l (omega arith))
 
   pub flags-written : FlagsOnly c m m' → MovesOnly c m m'
-  flags-written = range-only (movesWrite c) (λ i l u. writes-rows c i (omega arith) u)
+  flags-written = range-only (moves_write c) (λ i l u. writes-rows c i (omega arith) u)
 
   pub costs-written : CostsOnly c m m' → MovesOnly c m m'
-  costs-written = range-only (movesWrite c) (λ i l u. writes-costs c i l (omega arith))
+  costs-written = range-only (moves_write c) (λ i l u. writes-costs c i l (omega arith))
 
   pub work-written : WorkOnly c m m' → MovesOnly c m m'
-  work-written = range-only (movesWrite c) (λ i l u. writes-costs c i (omega arith) u)
+  work-written = range-only (moves_write c) (λ i l u. writes-costs c i (omega arith) u)
 
-pub count-written : (c n : ℕ) (m : List ℕ) → MovesOnly c m (setCount n m)
-unfolding setCount
-count-written c n m = range-only (movesWrite c) (writes-count c) (word-frame 4 n m)
+pub count-written : (c n : ℕ) (m : List ℕ) → MovesOnly c m (set_count n m)
+unfolding set_count
+count-written c n m = range-only (moves_write c) (writes-count c) (word-frame 4 n m)
 
 module _ (c : ℕ) {m m' : List ℕ} (f : MovesOnly c m m') where
-  pub size-left : sizeIn m' ≡ sizeIn m
-  unfolding sizeIn word_at
+  pub size-left : size_in m' ≡ size_in m
+  unfolding size_in word_at
   size-left =
       ap₂ (λ (x y : ℕ). x + 256 * y) (f.same 0 (leaves-head c 0 (omega arith))) (f.same 1 (leaves-head c 1 (omega arith)))
 
-  pub dimension-left : dimensionIn m' ≡ dimensionIn m
-  unfolding dimensionIn
+  pub dimension-left : dimension_in m' ≡ dimension_in m
+  unfolding dimension_in
   dimension-left = f.same 2 (leaves-head c 2 (omega arith))
 
   pub format-left : format_in m' ≡ format_in m
@@ -69,42 +69,42 @@ module _ (c : ℕ) {m m' : List ℕ} (f : MovesOnly c m m') where
   format-left = f.same 3 (leaves-head c 3 (omega arith))
 
   -- Blocks stay.
-  pub block-left : (n : ℕ) → n < c → blockIn c m' n ≡ blockIn c m n
-  unfolding blockIn
-  block-left n h = f.same (blockPlace c n) (leaves-blocks c (blockPlace c n) (omega arith) (omega arith))
+  pub block-left : (n : ℕ) → n < c → block_in c m' n ≡ block_in c m n
+  unfolding block_in
+  block-left n h = f.same (block_place c n) (leaves-blocks c (block_place c n) (omega arith) (omega arith))
 
 -- ---- what a load writes
 
 module _ (c : ℕ) where
   abbrev blocks : ℕ → Bool
-  blocks i = in_area (blockPlace c 0) (blockPlace c c) i
+  blocks i = in_area (block_place c 0) (block_place c c) i
 
-  pub moves-load : {m m' : List ℕ} → MovesOnly c m m' → Only (loadWrites c) m m'
-  unfolding loadWrites
+  pub moves-load : {m m' : List ℕ} → MovesOnly c m m' → Only (load_writes c) m m'
+  unfolding load_writes
   moves-load f =
       record {
         length = f.length;
         same = λ i free.
-            f.same i (or-false-right (in_area 0 4 i) (movesWrite c i) (or-false-left (in_area 0 4 i || movesWrite c i) (blocks i) free));
+            f.same i (or-false-right (in_area 0 4 i) (moves_write c i) (or-false-left (in_area 0 4 i || moves_write c i) (blocks i) free));
       }
 
-  writes-head : (i : ℕ) → i < 4 → loadWrites c i ≡ true
-  unfolding loadWrites
-  writes-head i u = or_left (in_area 0 4 i || movesWrite c i) (blocks i) (or_left (in_area 0 4 i) (movesWrite c i) (in-area 0 4 i (omega arith) u))
+  writes-head : (i : ℕ) → i < 4 → load_writes c i ≡ true
+  unfolding load_writes
+  writes-head i u = or_left (in_area 0 4 i || moves_write c i) (blocks i) (or_left (in_area 0 4 i) (moves_write c i) (in-area 0 4 i (omega arith) u))
 
-  writes-blocks : (i : ℕ) → blockPlace c 0 ≤ i → i < costPlace c 0 0 → loadWrites c i ≡ true
-  unfolding loadWrites
-  writes-blocks i l u = or_right (in_area 0 4 i || movesWrite c i) (blocks i) (in-area (blockPlace c 0) (blockPlace c c) i l (omega arith))
+  writes-blocks : (i : ℕ) → block_place c 0 ≤ i → i < cost_place c 0 0 → load_writes c i ≡ true
+  unfolding load_writes
+  writes-blocks i l u = or_right (in_area 0 4 i || moves_write c i) (blocks i) (in-area (block_place c 0) (block_place c c) i l (omega arith))
 
-  pub blocks-load : {m m' : List ℕ} → BlocksOnly c m m' → Only (loadWrites c) m m'
-  blocks-load = range-only (loadWrites c) writes-blocks
+  pub blocks-load : {m m' : List ℕ} → BlocksOnly c m m' → Only (load_writes c) m m'
+  blocks-load = range-only (load_writes c) writes-blocks
 
-  pub head-written : (d n : ℕ) (m : List ℕ) → Only (loadWrites c) m (setHead c d n m)
-  unfolding setHead
+  pub head-written : (d n : ℕ) (m : List ℕ) → Only (load_writes c) m (set_head c d n m)
+  unfolding set_head
   head-written d n m =
-      let m₁ : List ℕ = setWord 0 c m in
+      let m₁ : List ℕ = set_word 0 c m in
       let m₂ : List ℕ = set m₁ 2 d in
-      let m₃ : List ℕ = set m₂ 3 formatNumber in
-      only-trans (range-only (loadWrites c) (λ i l u. writes-head i (omega arith)) (word-frame 0 c m))
-      (only-trans (range-only (loadWrites c) (λ i l u. writes-head i (omega arith)) (byte-frame 2 d m₁))
-      (only-trans (range-only (loadWrites c) (λ i l u. writes-head i (omega arith)) (byte-frame 3 formatNumber m₂)) (moves-load (range-only (movesWrite c) (writes-count c) (word-frame 4 n m₃)))))
+      let m₃ : List ℕ = set m₂ 3 format_number in
+      only-trans (range-only (load_writes c) (λ i l u. writes-head i (omega arith)) (word-frame 0 c m))
+      (only-trans (range-only (load_writes c) (λ i l u. writes-head i (omega arith)) (byte-frame 2 d m₁))
+      (only-trans (range-only (load_writes c) (λ i l u. writes-head i (omega arith)) (byte-frame 3 format_number m₂)) (moves-load (range-only (moves_write c) (writes-count c) (word-frame 4 n m₃)))))

@@ -8,7 +8,7 @@ use Rattle.std.proofs.Math.Logic.{⊎_elim}
 use Rattle.std.proofs.Math.Path.{refl, sym, ap, ap₂}
 use native.Mathlib.Omega.{arith}
 use Rattle.std.proofs.Math.ListN.{length, length-append, length-map}
-use Rattle.model.specs.Basics.{Each, consIf, select, any, all, count, parts, last_or, equal}
+use Rattle.model.specs.Basics.{Each, cons_if, select, any, all, count, parts, last_or, equal}
 use Rattle.model.specs.Laws.Bool.{and_left, and_right, and_both, or_cases, or_left, or_right, or-false-left, or-false-right, or-false-both, same_test, both_ways}
 
 module _ {A : Type 0} where
@@ -67,37 +67,37 @@ module _ {A : Type 0} where
 
   -- ---- an entry that is kept or left out
 
-  each-consIf : (P : A → Type 0) (b : Bool) (x : A) (xs : List A) → P x → Each P xs → Each P (consIf b x xs)
-  each-consIf P true x xs h es = (h, es)
-  each-consIf P false x xs h es = es
+  each-cons_if : (P : A → Type 0) (b : Bool) (x : A) (xs : List A) → P x → Each P xs → Each P (cons_if b x xs)
+  each-cons_if P true x xs h es = (h, es)
+  each-cons_if P false x xs h es = es
 
-  consIf-cases : {y : A} (b : Bool) (x : A) (xs : List A) → Memᴰ y (consIf b x xs) → ((y ≡ x) × (b ≡ true)) ⊎ Memᴰ y xs
-  consIf-cases true x xs m = ⊎_elim (λ e. inl (e, refl)) inr (Memᴰ.cases_cons m)
-  consIf-cases false x xs m = inr m
+  cons_if-cases : {y : A} (b : Bool) (x : A) (xs : List A) → Memᴰ y (cons_if b x xs) → ((y ≡ x) × (b ≡ true)) ⊎ Memᴰ y xs
+  cons_if-cases true x xs m = ⊎_elim (λ e. inl (e, refl)) inr (Memᴰ.cases_cons m)
+  cons_if-cases false x xs m = inr m
 
-  consIf-head : {y : A} (b : Bool) (x : A) (xs : List A) → y ≡ x → b ≡ true → Memᴰ y (consIf b x xs)
-  consIf-head true x xs e h = Memᴰ.head e
-  consIf-head false x xs e h = both_ways h refl
+  cons_if-head : {y : A} (b : Bool) (x : A) (xs : List A) → y ≡ x → b ≡ true → Memᴰ y (cons_if b x xs)
+  cons_if-head true x xs e h = Memᴰ.head e
+  cons_if-head false x xs e h = both_ways h refl
 
-  consIf-tail : {y : A} (b : Bool) (x : A) (xs : List A) → Memᴰ y xs → Memᴰ y (consIf b x xs)
-  consIf-tail true x xs m = Memᴰ.tail m
-  consIf-tail false x xs m = m
+  cons_if-tail : {y : A} (b : Bool) (x : A) (xs : List A) → Memᴰ y xs → Memᴰ y (cons_if b x xs)
+  cons_if-tail true x xs m = Memᴰ.tail m
+  cons_if-tail false x xs m = m
 
-  once-consIf : (b : Bool) (x : A) (xs : List A) → ¬ Memᴰ x xs → Once xs → Once (consIf b x xs)
-  once-consIf true x xs n o = (n, o)
-  once-consIf false x xs n o = o
+  once-cons_if : (b : Bool) (x : A) (xs : List A) → ¬ Memᴰ x xs → Once xs → Once (cons_if b x xs)
+  once-cons_if true x xs n o = (n, o)
+  once-cons_if false x xs n o = o
 
-  consIf-append : (b : Bool) (x : A) (xs ys : List A) → consIf b x (xs ++ ys) ≡ consIf b x xs ++ ys
-  consIf-append true x xs ys = refl
-  consIf-append false x xs ys = refl
+  cons_if-append : (b : Bool) (x : A) (xs ys : List A) → cons_if b x (xs ++ ys) ≡ cons_if b x xs ++ ys
+  cons_if-append true x xs ys = refl
+  cons_if-append false x xs ys = refl
 
   pub mem-pos : {x : A} {xs : List A} → Memᴰ x xs → 0 < length xs
   mem-pos (Memᴰ.head e) = zero-lt-suc _
   mem-pos (Memᴰ.tail m) = zero-lt-suc _
 
-  length-consIf : (b : Bool) (x : A) (xs : List A) → length (consIf b x xs) ≡ cond b (suc (length xs)) (length xs)
-  length-consIf true x xs = refl
-  length-consIf false x xs = refl
+  length-cons_if : (b : Bool) (x : A) (xs : List A) → length (cons_if b x xs) ≡ cond b (suc (length xs)) (length xs)
+  length-cons_if true x xs = refl
+  length-cons_if false x xs = refl
 
   -- ---- the entries that pass a test
 
@@ -105,7 +105,7 @@ module _ {A : Type 0} where
     pub select-append : (xs ys : List A) → select p (xs ++ ys) ≡ select p xs ++ select p ys
     unfolding select
     select-append [] ys = refl
-    select-append (x ∷ xs) ys = ap (consIf (p x) x) (select-append xs ys) ∙ consIf-append (p x) x (select p xs) (select p ys)
+    select-append (x ∷ xs) ys = ap (cons_if (p x) x) (select-append xs ys) ∙ cons_if-append (p x) x (select p xs) (select p ys)
 
     pub select-mem : {x : A} (xs : List A) → Memᴰ x (select p xs) → Memᴰ x xs × (p x ≡ true)
     unfolding select
@@ -114,32 +114,32 @@ module _ {A : Type 0} where
         ⊎_elim
         (λ t. (Memᴰ.head t.0, ap p t.0 ∙ t.1))
         (λ n. let r = select-mem ys n in (Memᴰ.tail r.0, r.1))
-        (consIf-cases (p y) y (select p ys) m)
+        (cons_if-cases (p y) y (select p ys) m)
 
     pub mem-select : {x : A} {xs : List A} → Memᴰ x xs → p x ≡ true → Memᴰ x (select p xs)
     unfolding select
-    mem-select {xs = y ∷ ys} (Memᴰ.head e) h = consIf-head (p y) y (select p ys) e (ap p (sym e) ∙ h)
-    mem-select {xs = y ∷ ys} (Memᴰ.tail m) h = consIf-tail (p y) y (select p ys) (mem-select m h)
+    mem-select {xs = y ∷ ys} (Memᴰ.head e) h = cons_if-head (p y) y (select p ys) e (ap p (sym e) ∙ h)
+    mem-select {xs = y ∷ ys} (Memᴰ.tail m) h = cons_if-tail (p y) y (select p ys) (mem-select m h)
 
     pub each-select : (P : A → Type 0) (xs : List A) → Each P xs → Each P (select p xs)
     unfolding select
     each-select P [] es = tt
-    each-select P (x ∷ xs) es = each-consIf P (p x) x (select p xs) es.0 (each-select P xs es.1)
+    each-select P (x ∷ xs) es = each-cons_if P (p x) x (select p xs) es.0 (each-select P xs es.1)
 
     pub once-select : (xs : List A) → Once xs → Once (select p xs)
     unfolding select
     once-select [] o = tt
-    once-select (x ∷ xs) o = once-consIf (p x) x (select p xs) (λ m. o.0 (select-mem xs m).0) (once-select xs o.1)
+    once-select (x ∷ xs) o = once-cons_if (p x) x (select p xs) (λ m. o.0 (select-mem xs m).0) (once-select xs o.1)
 
     pub select-all : (xs : List A) → Each (λ x. p x ≡ true) xs → select p xs ≡ xs
     unfolding select
     select-all [] es = refl
-    select-all (x ∷ xs) es = ap₂ (λ (b : Bool) (ys : List A). consIf b x ys) es.0 (select-all xs es.1)
+    select-all (x ∷ xs) es = ap₂ (λ (b : Bool) (ys : List A). cons_if b x ys) es.0 (select-all xs es.1)
 
     pub select-none : (xs : List A) → Each (λ x. p x ≡ false) xs → select p xs ≡ []
     unfolding select
     select-none [] es = refl
-    select-none (x ∷ xs) es = ap₂ (λ (b : Bool) (ys : List A). consIf b x ys) es.0 (select-none xs es.1)
+    select-none (x ∷ xs) es = ap₂ (λ (b : Bool) (ys : List A). cons_if b x ys) es.0 (select-none xs es.1)
 
     -- ---- whether one passes, whether all pass
 
@@ -195,7 +195,7 @@ module _ {A : Type 0} where
     unfolding count
     count_none xs es = ap length (select-none xs es)
 
-    few-kept : (b : Bool) (x : A) (xs : List A) → length (consIf b x xs) ≤ suc (length xs)
+    few-kept : (b : Bool) (x : A) (xs : List A) → length (cons_if b x xs) ≤ suc (length xs)
     few-kept true x xs = omega arith
     few-kept false x xs = omega arith
 
@@ -206,21 +206,21 @@ module _ {A : Type 0} where
 
     pub count-cons : (x : A) (xs : List A) → count p (x ∷ xs) ≡ cond (p x) (suc (count p xs)) (count p xs)
     unfolding count select
-    count-cons x xs = length-consIf (p x) x (select p xs)
+    count-cons x xs = length-cons_if (p x) x (select p xs)
 
     pub count-pos : {x : A} {xs : List A} → Memᴰ x xs → p x ≡ true → 0 < count p xs
     unfolding count
     count-pos m h = mem-pos (mem-select m h)
 
-  any-consIf : (p : A → Bool) (b : Bool) (x : A) (xs : List A) → any p (consIf b x xs) ≡ (b && p x || any p xs)
+  any-cons_if : (p : A → Bool) (b : Bool) (x : A) (xs : List A) → any p (cons_if b x xs) ≡ (b && p x || any p xs)
   unfolding any
-  any-consIf p true x xs = refl
-  any-consIf p false x xs = refl
+  any-cons_if p true x xs = refl
+  any-cons_if p false x xs = refl
 
-  select-consIf : (p : A → Bool) (b : Bool) (x : A) (xs : List A) → select p (consIf b x xs) ≡ consIf (b && p x) x (select p xs)
+  select-cons_if : (p : A → Bool) (b : Bool) (x : A) (xs : List A) → select p (cons_if b x xs) ≡ cons_if (b && p x) x (select p xs)
   unfolding select
-  select-consIf p true x xs = refl
-  select-consIf p false x xs = refl
+  select-cons_if p true x xs = refl
+  select-cons_if p false x xs = refl
 
   -- ---- two tests
 
@@ -228,7 +228,7 @@ module _ {A : Type 0} where
     pub select-ext : (xs : List A) → Each (λ x. p x ≡ q x) xs → select p xs ≡ select q xs
     unfolding select
     select-ext [] es = refl
-    select-ext (x ∷ xs) es = ap₂ (λ (b : Bool) (ys : List A). consIf b x ys) es.0 (select-ext xs es.1)
+    select-ext (x ∷ xs) es = ap₂ (λ (b : Bool) (ys : List A). cons_if b x ys) es.0 (select-ext xs es.1)
 
     -- Two tests that select the same entries agree at each.
     pub select-same : (xs : List A) → select p xs ≡ select q xs → Each (λ x. p x ≡ q x) xs
@@ -263,21 +263,21 @@ module _ {A : Type 0} where
     pub any-select : (xs : List A) → any p (select q xs) ≡ any (λ x. q x && p x) xs
     unfolding any select
     any-select [] = refl
-    any-select (x ∷ xs) = any-consIf p (q x) x (select q xs) ∙ ap (λ (b : Bool). q x && p x || b) (any-select xs)
+    any-select (x ∷ xs) = any-cons_if p (q x) x (select q xs) ∙ ap (λ (b : Bool). q x && p x || b) (any-select xs)
 
     pub select-select : (xs : List A) → select p (select q xs) ≡ select (λ x. q x && p x) xs
     unfolding select
     select-select [] = refl
-    select-select (x ∷ xs) = select-consIf p (q x) x (select q xs) ∙ ap (consIf (q x && p x) x) (select-select xs)
+    select-select (x ∷ xs) = select-cons_if p (q x) x (select q xs) ∙ ap (cons_if (q x && p x) x) (select-select xs)
 
 module _ {A B : Type 0} where
   pub each_map : (Q : B → Type 0) (f : A → B) (xs : List A) → Each (λ x. Q (f x)) xs → Each Q (map f xs)
   each_map Q f [] es = tt
   each_map Q f (x ∷ xs) es = (es.0, each_map Q f xs es.1)
 
-  map-consIf : (f : A → B) (b : Bool) (x : A) (xs : List A) → map f (consIf b x xs) ≡ consIf b (f x) (map f xs)
-  map-consIf f true x xs = refl
-  map-consIf f false x xs = refl
+  map-cons_if : (f : A → B) (b : Bool) (x : A) (xs : List A) → map f (cons_if b x xs) ≡ cons_if b (f x) (map f xs)
+  map-cons_if f true x xs = refl
+  map-cons_if f false x xs = refl
 
   module _ (p : B → Bool) (f : A → B) where
     pub any-map : (xs : List A) → any p (map f xs) ≡ any (λ x. p (f x)) xs
@@ -288,7 +288,7 @@ module _ {A B : Type 0} where
     pub select-map : (xs : List A) → select p (map f xs) ≡ map f (select (λ x. p (f x)) xs)
     unfolding select
     select-map [] = refl
-    select-map (x ∷ xs) = ap (consIf (p (f x)) (f x)) (select-map xs) ∙ sym (map-consIf f (p (f x)) x (select (λ x. p (f x)) xs))
+    select-map (x ∷ xs) = ap (cons_if (p (f x)) (f x)) (select-map xs) ∙ sym (map-cons_if f (p (f x)) x (select (λ x. p (f x)) xs))
 
     pub count_map : (xs : List A) → count p (map f xs) ≡ count (λ x. p (f x)) xs
     unfolding count

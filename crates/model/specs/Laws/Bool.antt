@@ -4,14 +4,14 @@ use Rattle.std.proofs.Common.{true≢false, sym, ◌∙◌}
 use Rattle.std.proofs.lemmas.Bool.{false≢true}
 
 -- Case analysis on a test that a definition makes, with what the test says.
-pub byCases {ℓ} : {A : Type ℓ} (b : Bool) → (b ≡ true → A) → (b ≡ false → A) → A
-byCases true f g = f refl
-byCases false f g = g refl
+pub by_cases {ℓ} : {A : Type ℓ} (b : Bool) → (b ≡ true → A) → (b ≡ false → A) → A
+by_cases true f g = f refl
+by_cases false f g = g refl
 
 -- The same, where the test stands anywhere in a goal.
-pub testCases {ℓ} : (P : Bool → Type ℓ) (b : Bool) → (b ≡ true → P true) → (b ≡ false → P false) → P b
-testCases P true f g = f refl
-testCases P false f g = g refl
+pub test_cases {ℓ} : (P : Bool → Type ℓ) (b : Bool) → (b ≡ true → P true) → (b ≡ false → P false) → P b
+test_cases P true f g = f refl
+test_cases P false f g = g refl
 
 pub and_left : (a b : Bool) → (a && b) ≡ true → a ≡ true
 and_left true b e = refl
@@ -68,9 +68,9 @@ pub both_ways {ℓ} : {A : Type ℓ} {b : Bool} → b ≡ true → b ≡ false �
 both_ways e f = absurd (true≢false (sym e ∙ f))
 
 -- Case analysis on what `cond` gives.
-pub condCases {ℓ ℓ'} : {A : Type ℓ} (Q : A → Type ℓ') (b : Bool) {u v : A} → (b ≡ true → Q u) → (b ≡ false → Q v) → Q (cond b u v)
-condCases Q true f g = f refl
-condCases Q false f g = g refl
+pub cond_cases {ℓ ℓ'} : {A : Type ℓ} (Q : A → Type ℓ') (b : Bool) {u v : A} → (b ≡ true → Q u) → (b ≡ false → Q v) → Q (cond b u v)
+cond_cases Q true f g = f refl
+cond_cases Q false f g = g refl
 
 pub cond_map {ℓ ℓ'} : {A : Type ℓ} {B : Type ℓ'} (f : A → B) (b : Bool) (u v : A) → f (cond b u v) ≡ cond b (f u) (f v)
 cond_map f true u v = refl

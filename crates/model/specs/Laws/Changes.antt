@@ -4,29 +4,29 @@ use mathlib.Core.List.Memᴰ
 use mathlib.Core.List.{List, [], ◌∷◌, map, Memᴰ}
 use Rattle.std.proofs.Common.{⊎_elim, ap, ◌∙◌, arith, leb-false, le-ltb, eqb-true}
 use Rattle.std.proofs.lemmas.Bool.{lt-leb, eqb-false, not-true}
-use Rattle.zorder.specs.Refusal.{Check, refusal, costPastBad}
+use Rattle.zorder.specs.Refusal.{Check, refusal, cost_past_bad}
 use Rattle.zorder.specs.Laws.Refusal.{first_passes, rest-passes}
 use Rattle.model.specs.Basics.{Each, any, has, distinct}
-use Rattle.model.specs.Moves.{Move, moveBefore, insert}
+use Rattle.model.specs.Moves.{Move, move_before, insert}
 use Rattle.model.specs.Lists.{hidden, skyline}
-use Rattle.model.specs.Notice.{noticeOf}
+use Rattle.model.specs.Notice.{notice_of}
 use Rattle.model.specs.Withdrawing.{without, unchanged}
-use Rattle.model.specs.Calls.{Answer, accepted, refusedWith, or_else, rowsAnswer, Board, Change, enter, withdraw, recost, blockBad, onBoard, changeRefusal, changedMoves, changed, keepsMoves, changesNothing, list_of, changeNotice, changeAnswer}
+use Rattle.model.specs.Calls.{Answer, accepted, refused_with, or_else, rows_answer, Board, Change, enter, withdraw, recost, block_bad, on_board, change_refusal, changed_moves, changed, keeps_moves, changes_nothing, list_of, change_notice, change_answer}
 use Rattle.model.specs.Sound.{Fit, SoundBoard}
-use Rattle.model.specs.Laws.Bool.{byCases, condCases, not-flip, and_left, or-false-left}
+use Rattle.model.specs.Laws.Bool.{by_cases, cond_cases, not-flip, and_left, or-false-left}
 use Rattle.model.specs.Laws.Basics.{each-mem, mem-each, each-mono, select-mem, mem-select, any_none}
 use Rattle.model.specs.Laws.Sorting.{insert-mem}
 use Rattle.model.specs.Laws.Order.{has-numbers, distinct-insert, distinct-select, mem-number}
 use Rattle.model.specs.Laws.Numbers.{distinct-length, two-lists}
 use Rattle.model.specs.Laws.Notice.{among, gone, gone_mem, notice-length}
 
-unfoldable pub changeNumber : Change → ℕ
-changeNumber (enter n block costs) = n
-changeNumber (withdraw n) = n
-changeNumber (recost n block costs) = n
+unfoldable pub change_number : Change → ℕ
+change_number (enter n block costs) = n
+change_number (withdraw n) = n
+change_number (recost n block costs) = n
 
-pub change-number : (b : Board) (x : Change) → changeRefusal b x ≡ 0 → changeNumber x < b.size
-unfolding changeNumber changeRefusal
+pub change-number : (b : Board) (x : Change) → change_refusal b x ≡ 0 → change_number x < b.size
+unfolding change_number change_refusal
 change-number b (enter n block costs) h = leb-false b.size n (first_passes (leb b.size n) 3 _ h)
 change-number b (withdraw n) h = leb-false b.size n (first_passes (leb b.size n) 3 _ h)
 change-number b (recost n block costs) h = leb-false b.size n (first_passes (leb b.size n) 3 _ h)
@@ -43,8 +43,8 @@ pub mem-without : {m : Move} (n : ℕ) {ms : List Move} → Memᴰ m ms → eqb 
 unfolding without
 mem-without {m} n k e = mem-select (λ m. not (eqb m.number n)) k (not-flip (eqb m.number n) e)
 
-pub off-without : (n : ℕ) (ms : List Move) → onBoard n (without n ms) ≡ false
-unfolding onBoard
+pub off-without : (n : ℕ) (ms : List Move) → on_board n (without n ms) ≡ false
+unfolding on_board
 off-without n ms =
     any_none (λ m. eqb m.number n) (without n ms)
     (mem-each (λ m. eqb m.number n ≡ false) (without n ms) (λ m k. (without-number n ms k).1))
@@ -53,22 +53,22 @@ pub distinct_without : (n : ℕ) (ms : List Move) → distinct (map (λ m. m.num
 unfolding without
 distinct_without n ms = distinct-select (λ m. m.number) (λ m. not (eqb m.number n)) ms
 
-distinct-put : (d n : ℕ) (costs : List ℕ) (ms : List Move) → onBoard n ms ≡ false → distinct (map (λ m. m.number) ms) ≡ true
+distinct-put : (d n : ℕ) (costs : List ℕ) (ms : List Move) → on_board n ms ≡ false → distinct (map (λ m. m.number) ms) ≡ true
     → distinct (map (λ m. m.number) (insert d (record { number = n; costs = costs }) ms)) ≡ true
 unfolding insert
 distinct-put d n costs ms o =
-    distinct-insert (λ m. m.number) (moveBefore d) (record { number = n; costs = costs }) ms (has-numbers n ms ∙ o)
+    distinct-insert (λ m. m.number) (move_before d) (record { number = n; costs = costs }) ms (has-numbers n ms ∙ o)
 
 -- The number of a move that may enter is free.
-pub enter-off : (b : Board) (n block : ℕ) (costs : List ℕ) → changeRefusal b (enter n block costs) ≡ 0 → onBoard n b.moves ≡ false
-unfolding changeRefusal
+pub enter-off : (b : Board) (n block : ℕ) (costs : List ℕ) → change_refusal b (enter n block costs) ≡ 0 → on_board n b.moves ≡ false
+unfolding change_refusal
 enter-off b n block costs h =
-    first_passes (onBoard n b.moves) 4 []
-    (rest-passes (costPastBad b.dimension costs) 6 _ (rest-passes (blockBad block) 10 _ (rest-passes (leb b.size n) 3 _ h)))
+    first_passes (on_board n b.moves) 4 []
+    (rest-passes (cost_past_bad b.dimension costs) 6 _ (rest-passes (block_bad block) 10 _ (rest-passes (leb b.size n) 3 _ h)))
 
-pub changed-distinct : (b : Board) (x : Change) → distinct (map (λ m. m.number) b.moves) ≡ true → changeRefusal b x ≡ 0
+pub changed-distinct : (b : Board) (x : Change) → distinct (map (λ m. m.number) b.moves) ≡ true → change_refusal b x ≡ 0
     → distinct (map (λ m. m.number) (changed b x).moves) ≡ true
-unfolding changed changedMoves
+unfolding changed changed_moves
 changed-distinct b (enter n block costs) s h = distinct-put b.dimension n costs b.moves (enter-off b n block costs h) s
 changed-distinct b (withdraw n) s h = distinct_without n b.moves s
 changed-distinct b (recost n block costs) s h =
@@ -79,11 +79,11 @@ put-mem : {m : Move} (d n : ℕ) (costs : List ℕ) (ms : List Move) → Memᴰ 
 unfolding insert
 put-mem d n costs ms k f =
     ⊎_elim (λ e. absurd (f (ap (λ (m : Move). m.number) e))) (λ j. j)
-    (insert-mem (moveBefore d) (record { number = n; costs = costs }) ms k)
+    (insert-mem (move_before d) (record { number = n; costs = costs }) ms k)
 
 -- a move of another number was there before
-pub changed-mem : {m : Move} (b : Board) (x : Change) → Memᴰ m (changed b x).moves → (¬ (m.number ≡ changeNumber x)) → Memᴰ m b.moves
-unfolding changed changedMoves changeNumber
+pub changed-mem : {m : Move} (b : Board) (x : Change) → Memᴰ m (changed b x).moves → (¬ (m.number ≡ change_number x)) → Memᴰ m b.moves
+unfolding changed changed_moves change_number
 changed-mem b (enter n block costs) k f = put-mem b.dimension n costs b.moves k f
 changed-mem b (withdraw n) k f = (without-number n b.moves k).0
 changed-mem b (recost n block costs) k f =
@@ -133,7 +133,7 @@ module _ (c : ℕ) (old new : Board) (d : distinct (map number old.moves) ≡ tr
   ins-below = gone-below c new old fs
 
   -- No number leaves twice or enters twice.
-  pub notice-double : length (noticeOf (list_of old) (list_of new)) ≤ c + c
+  pub notice-double : length (notice_of (list_of old) (list_of new)) ≤ c + c
   notice-double =
       omega (
         arith,
@@ -148,10 +148,10 @@ module _ (c : ℕ) (old new : Board) (d : distinct (map number old.moves) ≡ tr
     told-twice x y j k same =
         let g = gone_mem (list_of old) (list_of new) j in
         let i = gone_mem (list_of new) (list_of old) k in
-        byCases (has y.number ns) (λ t. t)
+        by_cases (has y.number ns) (λ t. t)
         (λ t. absurd (g.1 (Memᴰ.cast (mem-number number old.moves d (list-mem old g.0) (stays y (list-mem new i.0) t) same) i.0)))
 
-    pub notice-few : length (noticeOf (list_of old) (list_of new)) ≤ c + length ns
+    pub notice-few : length (notice_of (list_of old) (list_of new)) ≤ c + length ns
     notice-few =
         omega (
           arith,
@@ -162,33 +162,33 @@ module _ (c : ℕ) (old new : Board) (d : distinct (map number old.moves) ≡ tr
 pub numbers-below : (b : Board) → SoundBoard b → Each (λ m. m.number < b.size) b.moves
 numbers-below b s = each-mono (Fit b.size b.dimension) (λ m. m.number < b.size) b.moves (λ m f. f.number) s.fit
 
-pub changed-below : (b : Board) (x : Change) → changeRefusal b x ≡ 0 → Each (λ m. m.number < b.size) b.moves → Each (λ m. m.number < b.size) (changed b x).moves
+pub changed-below : (b : Board) (x : Change) → change_refusal b x ≡ 0 → Each (λ m. m.number < b.size) b.moves → Each (λ m. m.number < b.size) (changed b x).moves
 changed-below b x h es =
     mem-each (λ m. m.number < b.size) (changed b x).moves
-    (λ m k. byCases (eqb m.number (changeNumber x))
-    (λ e. omega (arith, eqb-true m.number (changeNumber x) e, change-number b x h))
-    (λ e. each-mem (λ m. m.number < b.size) es (changed-mem b x k (eqb-false m.number (changeNumber x) e))))
+    (λ m k. by_cases (eqb m.number (change_number x))
+    (λ e. omega (arith, eqb-true m.number (change_number x) e, change-number b x h))
+    (λ e. each-mem (λ m. m.number < b.size) es (changed-mem b x k (eqb-false m.number (change_number x) e))))
 
 not-one : (k n : ℕ) → has k (n ∷ []) ≡ false → ¬ (k ≡ n)
 unfolding has any
 not-one k n h = eqb-false k n (or-false-left (eqb k n) false h)
 
 -- "For these three C + 1 rows always suffice."
-pub notice-short : (b : Board) (x : Change) → SoundBoard b → changeRefusal b x ≡ 0 → length (changeNotice b x) ≤ b.size + 1
-unfolding changeNotice
+pub notice-short : (b : Board) (x : Change) → SoundBoard b → change_refusal b x ≡ 0 → length (change_notice b x) ≤ b.size + 1
+unfolding change_notice
 notice-short b x s h =
     notice-few b.size b (changed b x) s.once (changed-distinct b x s.once h) (numbers-below b s) (changed-below b x h (numbers-below b s))
-    (changeNumber x ∷ []) (λ m k f. changed-mem b x k (not-one m.number (changeNumber x) f))
+    (change_number x ∷ []) (λ m k f. changed-mem b x k (not-one m.number (change_number x) f))
 
 -- ---- answers
 
 refusal-other : (n : ℕ) (cs : List Check) → ¬ (0 ≡ n) → Each (λ c. ¬ (c.1 ≡ n)) cs → ¬ (refusal cs ≡ n)
 unfolding refusal
 refusal-other n [] z es = z
-refusal-other n (c ∷ cs) z es = condCases (λ (k : ℕ). ¬ (k ≡ n)) c.0 (λ _. es.0) (λ _. refusal-other n cs z es.1)
+refusal-other n (c ∷ cs) z es = cond_cases (λ (k : ℕ). ¬ (k ≡ n)) c.0 (λ _. es.0) (λ _. refusal-other n cs z es.1)
 
-change-refusal-other : (b : Board) (x : Change) → ¬ (changeRefusal b x ≡ 8)
-unfolding changeRefusal
+change-refusal-other : (b : Board) (x : Change) → ¬ (change_refusal b x ≡ 8)
+unfolding change_refusal
 change-refusal-other b (enter n block costs) =
     refusal-other 8 _ (λ e. omega arith) (λ e. omega arith, (λ e. omega arith, (λ e. omega arith, (λ e. omega arith, tt))))
 change-refusal-other b (withdraw n) = refusal-other 8 _ (λ e. omega arith) (λ e. omega arith, (λ e. omega arith, tt))
@@ -196,41 +196,41 @@ change-refusal-other b (recost n block costs) =
     refusal-other 8 _ (λ e. omega arith) (λ e. omega arith, (λ e. omega arith, (λ e. omega arith, (λ e. omega arith, tt))))
 
 -- enough rows lent: the answer is what the checks say
-enough-rows : (b : Board) (x : Change) (lent : ℕ) → length (changeNotice b x) ≤ lent → rowsAnswer (length (changeNotice b x)) lent ≡ accepted
-unfolding rowsAnswer
+enough-rows : (b : Board) (x : Change) (lent : ℕ) → length (change_notice b x) ≤ lent → rows_answer (length (change_notice b x)) lent ≡ accepted
+unfolding rows_answer
 enough-rows b x lent l =
-    ap (λ (t : Bool). cond t (record { number = 8; detail = length (changeNotice b x) }) accepted) (le-ltb lent (length (changeNotice b x)) l)
+    ap (λ (t : Bool). cond t (record { number = 8; detail = length (change_notice b x) }) accepted) (le-ltb lent (length (change_notice b x)) l)
 
-pub changes-accepted : (b : Board) (x : Change) (lent : ℕ) → changeRefusal b x ≡ 0 → length (changeNotice b x) ≤ lent → changeAnswer b x lent ≡ accepted
-unfolding changeAnswer or_else refusedWith
+pub changes-accepted : (b : Board) (x : Change) (lent : ℕ) → change_refusal b x ≡ 0 → length (change_notice b x) ≤ lent → change_answer b x lent ≡ accepted
+unfolding change_answer or_else refused_with
 changes-accepted b x lent h l =
-    ap (λ (k : ℕ). cond (eqb k 0) (rowsAnswer (length (changeNotice b x)) lent) (record { number = k; detail = 0 })) h
+    ap (λ (k : ℕ). cond (eqb k 0) (rows_answer (length (change_notice b x)) lent) (record { number = k; detail = 0 })) h
     ∙ enough-rows b x lent l
 
 -- what changes nothing changes no move
-pub nothing-keeps : (b : Board) (x : Change) → changesNothing b x ≡ true → keepsMoves b x ≡ true
-unfolding changesNothing keepsMoves
+pub nothing-keeps : (b : Board) (x : Change) → changes_nothing b x ≡ true → keeps_moves b x ≡ true
+unfolding changes_nothing keeps_moves
 nothing-keeps b (enter n block costs) e = e
 nothing-keeps b (withdraw n) e = e
 nothing-keeps b (recost n block costs) e = and_left (unchanged n costs b.moves) (eqb block (b.blocks n)) e
 
 -- an accepted change passed every check
-pub accepted-passes : (b : Board) (x : Change) (lent : ℕ) → (changeAnswer b x lent).number ≡ 0 → changeRefusal b x ≡ 0
-unfolding changeAnswer or_else refusedWith
+pub accepted-passes : (b : Board) (x : Change) (lent : ℕ) → (change_answer b x lent).number ≡ 0 → change_refusal b x ≡ 0
+unfolding change_answer or_else refused_with
 accepted-passes b x lent =
-    condCases (λ (a : Answer). a.number ≡ 0 → changeRefusal b x ≡ 0) (eqb (changeRefusal b x) 0) (λ h _. eqb-true (changeRefusal b x) 0 h) (λ _ e. e)
+    cond_cases (λ (a : Answer). a.number ≡ 0 → change_refusal b x ≡ 0) (eqb (change_refusal b x) 0) (λ h _. eqb-true (change_refusal b x) 0 h) (λ _ e. e)
 
 -- "8 is given exactly if more rows are needed than lent", and C + 1 suffice.
-pub never-eight : (b : Board) (x : Change) (lent : ℕ) → SoundBoard b → b.size + 1 ≤ lent → ¬ ((changeAnswer b x lent).number ≡ 8)
-unfolding changeAnswer or_else refusedWith accepted
+pub never-eight : (b : Board) (x : Change) (lent : ℕ) → SoundBoard b → b.size + 1 ≤ lent → ¬ ((change_answer b x lent).number ≡ 8)
+unfolding change_answer or_else refused_with accepted
 never-eight b x lent s l =
-    condCases (λ (a : Answer). ¬ (a.number ≡ 8)) (eqb (changeRefusal b x) 0)
-    (λ h e. let z = ap (λ (a : Answer). a.number) (enough-rows b x lent (omega (arith, notice-short b x s (eqb-true (changeRefusal b x) 0 h)))) in omega arith)
+    cond_cases (λ (a : Answer). ¬ (a.number ≡ 8)) (eqb (change_refusal b x) 0)
+    (λ h e. let z = ap (λ (a : Answer). a.number) (enough-rows b x lent (omega (arith, notice-short b x s (eqb-true (change_refusal b x) 0 h)))) in omega arith)
     (λ _. change-refusal-other b x)
 
 -- "A board with a free number always takes one more move, given costs past d of zero" and a block of 0 to 63 (Card 8): no check
 -- turns it down.
-pub enter-passes : (b : Board) (n block : ℕ) (costs : List ℕ) → n < b.size → blockBad block ≡ false → costPastBad b.dimension costs ≡ false → onBoard n b.moves ≡ false
-    → changeRefusal b (enter n block costs) ≡ 0
-unfolding changeRefusal refusal
+pub enter-passes : (b : Board) (n block : ℕ) (costs : List ℕ) → n < b.size → block_bad block ≡ false → cost_past_bad b.dimension costs ≡ false → on_board n b.moves ≡ false
+    → change_refusal b (enter n block costs) ≡ 0
+unfolding change_refusal refusal
 enter-passes b n block costs l k p o = rw (lt-leb b.size n l, k, p, o)

@@ -3,8 +3,8 @@ use Rattle.std.specs.Prelude.{ℕ, ◌+◌, ◌-◌, ◌/◌, ◌%◌, ◌^◌, 
 use Rattle.std.proofs.Common.{append-nil, sym, ap, ap₂, ◌∙◌, mod-eq_of_lt, mod-lt, lt_of_lt_of_le, arith, eq-eqb, pow_pos, pow_mono}
 use Rattle.std.proofs.Math.Nat.{div-eq_of_lt}
 use Rattle.std.proofs.Math.Pow.{field, mod-mod-pow, ones_lt, ones_split, high, low}
-use Rattle.model.specs.Basics.{Each, select, numbersFrom}
-use Rattle.model.specs.Lists.{chosenCosts}
+use Rattle.model.specs.Basics.{Each, select, numbers_from}
+use Rattle.model.specs.Lists.{chosen_costs}
 use Rattle.model.specs.Laws.Basics.{each-select, select-append, select-ext, select-all, select-none}
 use Rattle.model.specs.Laws.Range.{each-numbers, each-place, numbers-append}
 
@@ -40,28 +40,28 @@ bit-past-first d i h = ap (λ (n : ℕ). n / 2 ^ i % 2) (sym (mod-eq_of_lt (ones
 -- ---- the costs of a set
 
 -- They are among the first d.
-pub chosen-below : (d set : ℕ) → Each (λ i. i < d) (chosenCosts d set)
-unfolding chosenCosts
-chosen-below d set = each-select _ (λ i. i < d) (numbersFrom 0 d) (each-place (λ i. i < d) d (λ i l. l))
+pub chosen-below : (d set : ℕ) → Each (λ i. i < d) (chosen_costs d set)
+unfolding chosen_costs
+chosen-below d set = each-select _ (λ i. i < d) (numbers_from 0 d) (each-place (λ i. i < d) d (λ i l. l))
 
-pub chosen-within : (n d set : ℕ) → d ≤ n → chosenCosts n (set % 2 ^ d) ≡ chosenCosts d set
-unfolding chosenCosts
+pub chosen-within : (n d set : ℕ) → d ≤ n → chosen_costs n (set % 2 ^ d) ≡ chosen_costs d set
+unfolding chosen_costs
 chosen-within n d set h =
     let e : n ≡ d + (n - d) = omega arith in
-    ap (λ (k : ℕ). select within (numbersFrom 0 k)) e
+    ap (λ (k : ℕ). select within (numbers_from 0 k)) e
     ∙ ap (select within) (numbers-append 0 d (n - d))
-    ∙ select-append within (numbersFrom 0 d) (numbersFrom (0 + d) (n - d))
+    ∙ select-append within (numbers_from 0 d) (numbers_from (0 + d) (n - d))
     ∙ ap₂ ◌++◌
-    (select-ext within (λ i. eqb (set / 2 ^ i % 2) 1) (numbersFrom 0 d) (each-place _ d (λ i l. ap (λ (b : ℕ). eqb b 1) (bit-within set d i l))))
-    (select-none within (numbersFrom (0 + d) (n - d)) (each-numbers _ (0 + d) (n - d) (λ i l _. ap (λ (b : ℕ). eqb b 1) (bit_past set d i (omega arith)))))
-    ∙ append-nil (select (λ i. eqb (set / 2 ^ i % 2) 1) (numbersFrom 0 d))
+    (select-ext within (λ i. eqb (set / 2 ^ i % 2) 1) (numbers_from 0 d) (each-place _ d (λ i l. ap (λ (b : ℕ). eqb b 1) (bit-within set d i l))))
+    (select-none within (numbers_from (0 + d) (n - d)) (each-numbers _ (0 + d) (n - d) (λ i l _. ap (λ (b : ℕ). eqb b 1) (bit_past set d i (omega arith)))))
+    ∙ append-nil (select (λ i. eqb (set / 2 ^ i % 2) 1) (numbers_from 0 d))
   where
     within : ℕ → Bool
     within i = eqb (set % 2 ^ d / 2 ^ i % 2) 1
 
-all-chosen : (d : ℕ) → chosenCosts d (2 ^ d - 1) ≡ numbersFrom 0 d
-unfolding chosenCosts
-all-chosen d = select-all (λ i. eqb ((2 ^ d - 1) / 2 ^ i % 2) 1) (numbersFrom 0 d) (each-place _ d (λ i l. eq-eqb _ 1 (bit-first d i l)))
+all-chosen : (d : ℕ) → chosen_costs d (2 ^ d - 1) ≡ numbers_from 0 d
+unfolding chosen_costs
+all-chosen d = select-all (λ i. eqb ((2 ^ d - 1) / 2 ^ i % 2) 1) (numbers_from 0 d) (each-place _ d (λ i l. eq-eqb _ 1 (bit-first d i l)))
 
-pub chosen-first : (n d : ℕ) → d ≤ n → chosenCosts n (2 ^ d - 1) ≡ numbersFrom 0 d
-chosen-first n d h = ap (chosenCosts n) (sym (mod-eq_of_lt (ones_lt d))) ∙ chosen-within n d (2 ^ d - 1) h ∙ all-chosen d
+pub chosen-first : (n d : ℕ) → d ≤ n → chosen_costs n (2 ^ d - 1) ≡ numbers_from 0 d
+chosen-first n d h = ap (chosen_costs n) (sym (mod-eq_of_lt (ones_lt d))) ∙ chosen-within n d (2 ^ d - 1) h ∙ all-chosen d

@@ -6,48 +6,48 @@ use Rattle.std.proofs.Common.{sym, ◌∙◌, ap, le_refl, le_trans, lt_irrefl, 
 use Rattle.std.proofs.Math.Nat.{suc_inj}
 use Rattle.std.proofs.Math.ListN.{get_or-eq_default}
 use Rattle.std.proofs.Math.Seq.{get_or-take}
-use Rattle.zorder.specs.Between.{RowCosts, rowCosts, before}
+use Rattle.zorder.specs.Between.{RowCosts, row_costs, before}
 use Rattle.zorder.specs.Laws.Between.{earlier}
-use Rattle.model.specs.Basics.{parts, numbersFrom}
-use Rattle.model.specs.Dominance.{less, nowhereGreater, somewhereLess, better, dominates, at, dominatesAt, dominatesOn}
-use Rattle.model.specs.Laws.Bool.{byCases, and_left, and_right, and_both, not-flip, not_back, or_cases, or_left, or_right}
+use Rattle.model.specs.Basics.{parts, numbers_from}
+use Rattle.model.specs.Dominance.{less, nowhere_greater, somewhere_less, better, dominates, at, dominates_at, dominates_on}
+use Rattle.model.specs.Laws.Bool.{by_cases, and_left, and_right, and_both, not-flip, not_back, or_cases, or_left, or_right}
 use Rattle.model.specs.Laws.Basics.{mem-each, any_none}
 
 -- ---- two lists of costs, place by place
 
-pub nowhere-greater-places : (p q : List ℕ) → length p ≡ length q → nowhereGreater p q ≡ true → (i : ℕ) → get_or p i 0 ≤ get_or q i 0
-unfolding nowhereGreater less
+pub nowhere-greater-places : (p q : List ℕ) → length p ≡ length q → nowhere_greater p q ≡ true → (i : ℕ) → get_or p i 0 ≤ get_or q i 0
+unfolding nowhere_greater less
 nowhere-greater-places [] [] n e i = le_refl 0
 nowhere-greater-places [] (b ∷ q) n e i = absurd (omega arith)
 nowhere-greater-places (a ∷ p) [] n e i = absurd (omega arith)
-nowhere-greater-places (a ∷ p) (b ∷ q) n e zero = ltb-false b a (not_back (ltb b a) (and_left (not (ltb b a)) (nowhereGreater p q) e))
+nowhere-greater-places (a ∷ p) (b ∷ q) n e zero = ltb-false b a (not_back (ltb b a) (and_left (not (ltb b a)) (nowhere_greater p q) e))
 nowhere-greater-places (a ∷ p) (b ∷ q) n e (suc i) =
-    nowhere-greater-places p q (suc_inj n) (and_right (not (ltb b a)) (nowhereGreater p q) e) i
+    nowhere-greater-places p q (suc_inj n) (and_right (not (ltb b a)) (nowhere_greater p q) e) i
 
-pub places-nowhere-greater : (p q : List ℕ) → ((i : ℕ) → get_or p i 0 ≤ get_or q i 0) → nowhereGreater p q ≡ true
-unfolding nowhereGreater less
+pub places-nowhere-greater : (p q : List ℕ) → ((i : ℕ) → get_or p i 0 ≤ get_or q i 0) → nowhere_greater p q ≡ true
+unfolding nowhere_greater less
 places-nowhere-greater [] q f = refl
 places-nowhere-greater (a ∷ p) [] f = refl
 places-nowhere-greater (a ∷ p) (b ∷ q) f =
-    and_both (not (ltb b a)) (nowhereGreater p q) (not-flip (ltb b a) (le-ltb b a (f 0))) (places-nowhere-greater p q (λ i. f (suc i)))
+    and_both (not (ltb b a)) (nowhere_greater p q) (not-flip (ltb b a) (le-ltb b a (f 0))) (places-nowhere-greater p q (λ i. f (suc i)))
 
-pub somewhere-less-place : (p q : List ℕ) → somewhereLess p q ≡ true → (i : ℕ) × (i < length p) × (get_or p i 0 < get_or q i 0)
-unfolding somewhereLess less
+pub somewhere-less-place : (p q : List ℕ) → somewhere_less p q ≡ true → (i : ℕ) × (i < length p) × (get_or p i 0 < get_or q i 0)
+unfolding somewhere_less less
 somewhere-less-place [] q e = absurd (false≢true e)
 somewhere-less-place (a ∷ p) [] e = absurd (false≢true e)
 somewhere-less-place (a ∷ p) (b ∷ q) e =
-    or_cases (ltb a b) (somewhereLess p q) e
+    or_cases (ltb a b) (somewhere_less p q) e
     (λ h. (0, omega arith, ltb-true a b h))
     (λ h. let l = somewhere-less-place p q h in (suc l.0, omega arith, l.2))
 
-pub place-somewhere-less : (p q : List ℕ) → length p ≡ length q → (i : ℕ) → get_or p i 0 < get_or q i 0 → somewhereLess p q ≡ true
-unfolding somewhereLess less
+pub place-somewhere-less : (p q : List ℕ) → length p ≡ length q → (i : ℕ) → get_or p i 0 < get_or q i 0 → somewhere_less p q ≡ true
+unfolding somewhere_less less
 place-somewhere-less [] [] n i h = absurd (lt_irrefl 0 h)
 place-somewhere-less [] (b ∷ q) n i h = absurd (omega arith)
 place-somewhere-less (a ∷ p) [] n i h = absurd (omega arith)
-place-somewhere-less (a ∷ p) (b ∷ q) n zero h = or_left (ltb a b) (somewhereLess p q) (lt-ltb a b h)
+place-somewhere-less (a ∷ p) (b ∷ q) n zero h = or_left (ltb a b) (somewhere_less p q) (lt-ltb a b h)
 place-somewhere-less (a ∷ p) (b ∷ q) n (suc i) h =
-    or_right (ltb a b) (somewhereLess p q) (place-somewhere-less p q (suc_inj n) i h)
+    or_right (ltb a b) (somewhere_less p q) (place-somewhere-less p q (suc_inj n) i h)
 
 -- ---- the first d costs
 
@@ -64,7 +64,7 @@ take_past d p i h = get_or-eq_default (take d p) 0 (omega (arith, length-take d 
 
 pub take-le : (d : ℕ) (p q : List ℕ) → ((i : ℕ) → i < d → get_or p i 0 ≤ get_or q i 0) → (i : ℕ) → get_or (take d p) i 0 ≤ get_or (take d q) i 0
 take-le d p q f i =
-    byCases (ltb i d)
+    by_cases (ltb i d)
     (λ e. let h = ltb-true i d e in omega (arith, get_or-take d p i 0 h, get_or-take d q i 0 h, f i h))
     (λ e. omega (arith, take_past d p i (ltb-false i d e)))
 
@@ -83,10 +83,10 @@ module _ (d : ℕ) (p q : List ℕ) (n : length p ≡ length q) where
       }
     where
       nowhere : Bool
-      nowhere = nowhereGreater (take d p) (take d q)
+      nowhere = nowhere_greater (take d p) (take d q)
 
       somewhere : Bool
-      somewhere = somewhereLess (take d p) (take d q)
+      somewhere = somewhere_less (take d p) (take d q)
 
       found : (i : ℕ) × (i < length (take d p)) × (get_or (take d p) i 0 < get_or (take d q) i 0)
       found = somewhere-less-place (take d p) (take d q) (and_right nowhere somewhere e)
@@ -97,45 +97,45 @@ module _ (d : ℕ) (p q : List ℕ) (n : length p ≡ length q) where
   pub places-dominates : Dominates d p q → dominates d p q ≡ true
   unfolding dominates better
   places-dominates h =
-      and_both (nowhereGreater (take d p) (take d q)) (somewhereLess (take d p) (take d q))
+      and_both (nowhere_greater (take d p) (take d q)) (somewhere_less (take d p) (take d q))
       (places-nowhere-greater (take d p) (take d q) (take-le d p q h.nowhere))
       (place-somewhere-less (take d p) (take d q) (take-same-length d p q n) h.place
       (omega (arith, get_or-take d p h.place 0 h.inside, get_or-take d q h.place 0 h.inside)))
 
 -- ---- laws
 
-somewhere-less-irrefl : (p : List ℕ) → somewhereLess p p ≡ false
-unfolding somewhereLess less
+somewhere-less-irrefl : (p : List ℕ) → somewhere_less p p ≡ false
+unfolding somewhere_less less
 somewhere-less-irrefl [] = refl
-somewhere-less-irrefl (a ∷ p) = ap (λ (b : Bool). b || somewhereLess p p) (le-ltb a a (le_refl a)) ∙ somewhere-less-irrefl p
+somewhere-less-irrefl (a ∷ p) = ap (λ (b : Bool). b || somewhere_less p p) (le-ltb a a (le_refl a)) ∙ somewhere-less-irrefl p
 
 -- Nothing dominates itself: on its first d costs, on chosen ones, or on some k of them.
 better-irrefl : (p : List ℕ) → better p p ≡ false
 unfolding better
-better-irrefl p = ap (λ (b : Bool). nowhereGreater p p && b) (somewhere-less-irrefl p) ∙ and-false (nowhereGreater p p)
+better-irrefl p = ap (λ (b : Bool). nowhere_greater p p && b) (somewhere-less-irrefl p) ∙ and-false (nowhere_greater p p)
 
 pub dominates-irrefl : (d : ℕ) (p : List ℕ) → dominates d p p ≡ false
 unfolding dominates
 dominates-irrefl d p = better-irrefl (take d p)
 
-pub dominatesAt-irrefl : (s p : List ℕ) → dominatesAt s p p ≡ false
-unfolding dominatesAt
-dominatesAt-irrefl s p = better-irrefl (at s p)
+pub dominates_at-irrefl : (s p : List ℕ) → dominates_at s p p ≡ false
+unfolding dominates_at
+dominates_at-irrefl s p = better-irrefl (at s p)
 
-pub dominatesOn-irrefl : (d k : ℕ) (p : List ℕ) → dominatesOn d k p p ≡ false
-unfolding dominatesOn
-dominatesOn-irrefl d k p = any_none (λ s. dominatesAt s p p) ways (mem-each _ ways (λ s m. dominatesAt-irrefl s p))
+pub dominates_on-irrefl : (d k : ℕ) (p : List ℕ) → dominates_on d k p p ≡ false
+unfolding dominates_on
+dominates_on-irrefl d k p = any_none (λ s. dominates_at s p p) ways (mem-each _ ways (λ s m. dominates_at-irrefl s p))
   where
     ways : List (List ℕ)
-    ways = parts k (numbersFrom 0 d)
+    ways = parts k (numbers_from 0 d)
 
 -- "Equal costs do not dominate each other."
 pub equal-not-dominates : (d : ℕ) (p q : List ℕ) → take d p ≡ take d q → dominates d p q ≡ false
 unfolding dominates
 equal-not-dominates d p q e = ap (λ (r : List ℕ). better (take d p) r) (sym e) ∙ dominates-irrefl d p
 
-pub nowhere-below : (d : ℕ) (p q r : List ℕ) → length p ≡ length q → nowhereGreater (take d p) (take d q) ≡ true
-    → ((i : ℕ) → i < d → get_or q i 0 ≤ get_or r i 0) → nowhereGreater (take d p) (take d r) ≡ true
+pub nowhere-below : (d : ℕ) (p q r : List ℕ) → length p ≡ length q → nowhere_greater (take d p) (take d q) ≡ true
+    → ((i : ℕ) → i < d → get_or q i 0 ≤ get_or r i 0) → nowhere_greater (take d p) (take d r) ≡ true
 nowhere-below d p q r n e f =
     places-nowhere-greater (take d p) (take d r)
     (λ i. le_trans (nowhere-greater-places (take d p) (take d q) (take-same-length d p q n) e i) (take-le d q r f i))
@@ -174,7 +174,7 @@ pub row-lengths : {d : ℕ} {p q : List ℕ} → RowCosts d p → RowCosts d q �
 row-lengths h k = h.count ∙ sym k.count
 
 -- A row that dominates stands earlier.
-pub dominates-before : (d : ℕ) (p q : List ℕ) → d ≤ rowCosts → RowCosts d p → RowCosts d q → dominates d p q ≡ true → before d p q ≡ true
+pub dominates-before : (d : ℕ) (p q : List ℕ) → d ≤ row_costs → RowCosts d p → RowCosts d q → dominates d p q ≡ true → before d p q ≡ true
 dominates-before d p q l h k e =
     let g = dominates-places d p q (row-lengths h k) e in
     earlier d p q l h k g.nowhere g.place g.inside g.lower

@@ -11,75 +11,75 @@ use Rattle.std.proofs.Math.Dec.{ltb}
 use Rattle.std.proofs.Math.ListN.{take}
 use borrow.Author.Tests.{ltb-true, ltb-false, lt-ltb, le-ltb, eq-eqb}
 use Rattle.zorder.specs.Address.{address, padded}
-use Rattle.zorder.specs.Between.{RowCosts, rowCosts, before, samePlace}
+use Rattle.zorder.specs.Between.{RowCosts, row_costs, before, same_place}
 use Rattle.zorder.specs.Laws.Between.{row-padded, before-irrefl}
 use Rattle.zorder.specs.Laws.FirstCosts.{before-alike}
 use Rattle.model.specs.Basics.{equal}
-use Rattle.model.specs.Moves.{Move, moveBefore, zBefore}
-use Rattle.model.specs.Dominance.{less, nowhereGreater, somewhereLess, better, dominates, equalCosts, lowerTwin, hides}
+use Rattle.model.specs.Moves.{Move, move_before, z_before}
+use Rattle.model.specs.Dominance.{less, nowhere_greater, somewhere_less, better, dominates, equal_costs, lower_twin, hides}
 use Rattle.model.specs.Sound.{Fit}
-use Rattle.model.specs.Laws.Bool.{byCases, both_ways, and_left, and_right, and_both, and-given, not_back, or_cases, or_left, or_right, or-false-left, or-false-right, or-false-both, and-false-right}
+use Rattle.model.specs.Laws.Bool.{by_cases, both_ways, and_left, and_right, and_both, and-given, not_back, or_cases, or_left, or_right, or-false-left, or-false-right, or-false-both, and-false-right}
 use Rattle.model.specs.Laws.Basics.{equal-refl, equal-true}
 use Rattle.model.specs.Laws.Dominance.{places-nowhere-greater, dominates-places, dominates-irrefl, dominates-trans, row-lengths, dominates-before, take-same-length}
 
 -- ---- equal costs
 
-pub equal-first : (d : ℕ) (p q : List ℕ) → equalCosts d p q ≡ true → take d p ≡ take d q
-unfolding equalCosts
+pub equal-first : (d : ℕ) (p q : List ℕ) → equal_costs d p q ≡ true → take d p ≡ take d q
+unfolding equal_costs
 equal-first d p q = equal-true (take d p) (take d q)
 
-first-equal : (d : ℕ) (p q : List ℕ) → take d p ≡ take d q → equalCosts d p q ≡ true
-unfolding equalCosts
+first-equal : (d : ℕ) (p q : List ℕ) → take d p ≡ take d q → equal_costs d p q ≡ true
+unfolding equal_costs
 first-equal d p q e = ap (equal (take d p)) (sym e) ∙ equal-refl (take d p)
 
-pub equal-self : (d : ℕ) (p : List ℕ) → equalCosts d p p ≡ true
+pub equal-self : (d : ℕ) (p : List ℕ) → equal_costs d p p ≡ true
 equal-self d p = first-equal d p p refl
 
-pub equal-sym : (d : ℕ) (p q : List ℕ) → equalCosts d p q ≡ true → equalCosts d q p ≡ true
+pub equal-sym : (d : ℕ) (p q : List ℕ) → equal_costs d p q ≡ true → equal_costs d q p ≡ true
 equal-sym d p q e = first-equal d q p (sym (equal-first d p q e))
 
-pub equal-trans : (d : ℕ) (p q r : List ℕ) → equalCosts d p q ≡ true → equalCosts d q r ≡ true → equalCosts d p r ≡ true
+pub equal-trans : (d : ℕ) (p q r : List ℕ) → equal_costs d p q ≡ true → equal_costs d q r ≡ true → equal_costs d p r ≡ true
 equal-trans d p q r e f = first-equal d p r (equal-first d p q e ∙ equal-first d q r f)
 
 -- What has equal costs is dominated by the same, and dominates the same.
-pub equal-dominated : (d : ℕ) (x p q : List ℕ) → equalCosts d p q ≡ true → dominates d x p ≡ dominates d x q
+pub equal-dominated : (d : ℕ) (x p q : List ℕ) → equal_costs d p q ≡ true → dominates d x p ≡ dominates d x q
 unfolding dominates
 equal-dominated d x p q e = ap (better (take d x)) (equal-first d p q e)
 
-pub equal-dominates : (d : ℕ) (x p q : List ℕ) → equalCosts d p q ≡ true → dominates d p x ≡ dominates d q x
+pub equal-dominates : (d : ℕ) (x p q : List ℕ) → equal_costs d p q ≡ true → dominates d p x ≡ dominates d q x
 unfolding dominates
 equal-dominates d x p q e = ap (λ (l : List ℕ). better l (take d x)) (equal-first d p q e)
 
 -- Rows with equal costs have all costs equal, since those past d are zero, and so one place.
-pub equal-rows : (d : ℕ) (p q : List ℕ) → d ≤ rowCosts → RowCosts d p → RowCosts d q → equalCosts d p q ≡ true → p ≡ q
+pub equal-rows : (d : ℕ) (p q : List ℕ) → d ≤ row_costs → RowCosts d p → RowCosts d q → equal_costs d p q ≡ true → p ≡ q
 equal-rows d p q l h k e = sym (row-padded d p l h) ∙ ap (padded d) (equal-first d p q e) ∙ row-padded d q l k
 
-equal-place : (d : ℕ) (p q : List ℕ) → d ≤ rowCosts → RowCosts d p → RowCosts d q → equalCosts d p q ≡ true → samePlace d p q ≡ true
-unfolding samePlace
+equal-place : (d : ℕ) (p q : List ℕ) → d ≤ row_costs → RowCosts d p → RowCosts d q → equal_costs d p q ≡ true → same_place d p q ≡ true
+unfolding same_place
 equal-place d p q l h k e = eq-eqb (address d p) (address d q) (ap (address d) (equal-rows d p q l h k e))
 
 -- ---- in one pass over the costs
 
-neither-equal : (p q : List ℕ) → length p ≡ length q → nowhereGreater p q ≡ true → somewhereLess p q ≡ false → equal p q ≡ true
-unfolding nowhereGreater somewhereLess less equal
+neither-equal : (p q : List ℕ) → length p ≡ length q → nowhere_greater p q ≡ true → somewhere_less p q ≡ false → equal p q ≡ true
+unfolding nowhere_greater somewhere_less less equal
 neither-equal [] [] n g h = refl
 neither-equal [] (b ∷ q) n g h = absurd (omega arith)
 neither-equal (a ∷ p) [] n g h = absurd (omega arith)
 neither-equal (a ∷ p) (b ∷ q) n g h =
-    let most = ltb-false b a (not_back (ltb b a) (and_left (not (ltb b a)) (nowhereGreater p q) g)) in
-    let least = ltb-false a b (or-false-left (ltb a b) (somewhereLess p q) h) in
+    let most = ltb-false b a (not_back (ltb b a) (and_left (not (ltb b a)) (nowhere_greater p q) g)) in
+    let least = ltb-false a b (or-false-left (ltb a b) (somewhere_less p q) h) in
     and_both (eqb a b) (equal p q) (eq-eqb a b (omega (arith, most, least)))
-    (neither-equal p q (suc_inj n) (and_right (not (ltb b a)) (nowhereGreater p q) g) (or-false-right (ltb a b) (somewhereLess p q) h))
+    (neither-equal p q (suc_inj n) (and_right (not (ltb b a)) (nowhere_greater p q) g) (or-false-right (ltb a b) (somewhere_less p q) h))
 
-equal-nowhere-greater : (p q : List ℕ) → equal p q ≡ true → nowhereGreater p q ≡ true
+equal-nowhere-greater : (p q : List ℕ) → equal p q ≡ true → nowhere_greater p q ≡ true
 equal-nowhere-greater p q e =
-    subst (λ (r : List ℕ). nowhereGreater p r ≡ true) (equal-true p q e) (places-nowhere-greater p p (λ i. le_refl (get_or p i 0)))
+    subst (λ (r : List ℕ). nowhere_greater p r ≡ true) (equal-true p q e) (places-nowhere-greater p p (λ i. le_refl (get_or p i 0)))
 
 -- Better, or equal and lower by another test: nowhere greater, and somewhere less or lower.
 pub better-or-equal : (p q : List ℕ) (lower : Bool) → length p ≡ length q
-    → (nowhereGreater p q && (somewhereLess p q || lower)) ≡ (better p q || (equal p q && lower))
+    → (nowhere_greater p q && (somewhere_less p q || lower)) ≡ (better p q || (equal p q && lower))
 unfolding better
-better-or-equal p q lower n = decide (nowhereGreater p q) (somewhereLess p q) (equal p q) (neither-equal p q n) (equal-nowhere-greater p q)
+better-or-equal p q lower n = decide (nowhere_greater p q) (somewhere_less p q) (equal p q) (neither-equal p q n) (equal-nowhere-greater p q)
   where
     decide : (nowhere somewhere same : Bool) → (nowhere ≡ true → somewhere ≡ false → same ≡ true) → (same ≡ true → nowhere ≡ true)
         → (nowhere && (somewhere || lower)) ≡ ((nowhere && somewhere) || (same && lower))
@@ -97,30 +97,30 @@ pub record Hiding {A : Type 0} (P : A → Type 0) (lt hides : A → A → Bool) 
   pub earlier : (x y : A) → P x → P y → hides x y ≡ true → lt x y ≡ true
 
 module _ (d : ℕ) (m n : Move) where
-  pub lower-twin : equalCosts d m.costs n.costs ≡ true → m.number < n.number → lowerTwin d m n ≡ true
-  unfolding lowerTwin
-  lower-twin e l = and_both (equalCosts d m.costs n.costs) (ltb m.number n.number) e (lt-ltb m.number n.number l)
+  pub lower-twin : equal_costs d m.costs n.costs ≡ true → m.number < n.number → lower_twin d m n ≡ true
+  unfolding lower_twin
+  lower-twin e l = and_both (equal_costs d m.costs n.costs) (ltb m.number n.number) e (lt-ltb m.number n.number l)
 
-  pub twin-costs : lowerTwin d m n ≡ true → equalCosts d m.costs n.costs ≡ true
-  unfolding lowerTwin
-  twin-costs = and_left (equalCosts d m.costs n.costs) (ltb m.number n.number)
+  pub twin-costs : lower_twin d m n ≡ true → equal_costs d m.costs n.costs ≡ true
+  unfolding lower_twin
+  twin-costs = and_left (equal_costs d m.costs n.costs) (ltb m.number n.number)
 
-  pub twin-number : lowerTwin d m n ≡ true → m.number < n.number
-  unfolding lowerTwin
-  twin-number e = ltb-true m.number n.number (and_right (equalCosts d m.costs n.costs) (ltb m.number n.number) e)
+  pub twin-number : lower_twin d m n ≡ true → m.number < n.number
+  unfolding lower_twin
+  twin-number e = ltb-true m.number n.number (and_right (equal_costs d m.costs n.costs) (ltb m.number n.number) e)
 
   pub dominates-hides : dominates d m.costs n.costs ≡ true → hides d m n ≡ true
   unfolding hides
-  dominates-hides = or_left (dominates d m.costs n.costs) (lowerTwin d m n)
+  dominates-hides = or_left (dominates d m.costs n.costs) (lower_twin d m n)
 
-  pub twin-hides : lowerTwin d m n ≡ true → hides d m n ≡ true
+  pub twin-hides : lower_twin d m n ≡ true → hides d m n ≡ true
   unfolding hides
-  twin-hides = or_right (dominates d m.costs n.costs) (lowerTwin d m n)
+  twin-hides = or_right (dominates d m.costs n.costs) (lower_twin d m n)
 
   -- Nothing else hides.
-  pub hides-cases : hides d m n ≡ true → (dominates d m.costs n.costs ≡ true) ⊎ (lowerTwin d m n ≡ true)
+  pub hides-cases : hides d m n ≡ true → (dominates d m.costs n.costs ≡ true) ⊎ (lower_twin d m n ≡ true)
   unfolding hides
-  hides-cases e = or_cases (dominates d m.costs n.costs) (lowerTwin d m n) e inl inr
+  hides-cases e = or_cases (dominates d m.costs n.costs) (lower_twin d m n) e inl inr
 
   pub hides-nowhere-greater : length m.costs ≡ length n.costs → hides d m n ≡ true → (i : ℕ) → i < d → get_or m.costs i 0 ≤ get_or n.costs i 0
   hides-nowhere-greater k e i l =
@@ -132,17 +132,17 @@ module _ (d : ℕ) (m n : Move) where
       (hides-cases e)
 
 pub hides-irrefl : (d : ℕ) (m : Move) → hides d m m ≡ false
-unfolding hides lowerTwin
+unfolding hides lower_twin
 hides-irrefl d m =
-    or-false-both (dominates d m.costs m.costs) (lowerTwin d m m) (dominates-irrefl d m.costs)
-    (and-false-right (equalCosts d m.costs m.costs) (ltb m.number m.number) (le-ltb m.number m.number (le_refl m.number)))
+    or-false-both (dominates d m.costs m.costs) (lower_twin d m m) (dominates-irrefl d m.costs)
+    (and-false-right (equal_costs d m.costs m.costs) (ltb m.number m.number) (le-ltb m.number m.number (le_refl m.number)))
 
 hides-trans : (d : ℕ) (x y z : Move) → length x.costs ≡ length y.costs → length y.costs ≡ length z.costs
     → hides d x y ≡ true → hides d y z ≡ true → hides d x z ≡ true
 hides-trans d x y z k l e f = cases (hides-cases d x y e) (hides-cases d y z f)
   where
-    cases : (dominates d x.costs y.costs ≡ true) ⊎ (lowerTwin d x y ≡ true)
-        → (dominates d y.costs z.costs ≡ true) ⊎ (lowerTwin d y z ≡ true) → hides d x z ≡ true
+    cases : (dominates d x.costs y.costs ≡ true) ⊎ (lower_twin d x y ≡ true)
+        → (dominates d y.costs z.costs ≡ true) ⊎ (lower_twin d y z ≡ true) → hides d x z ≡ true
     cases (inl a) (inl b) = dominates-hides d x z (dominates-trans d x.costs y.costs z.costs k l a b)
     cases (inl a) (inr b) = dominates-hides d x z (sym (equal-dominated d x.costs y.costs z.costs (twin-costs d y z b)) ∙ a)
     cases (inr a) (inl b) = dominates-hides d x z (equal-dominates d z.costs x.costs y.costs (twin-costs d x y a) ∙ b)
@@ -151,28 +151,28 @@ hides-trans d x y z k l e f = cases (hides-cases d x y e) (hides-cases d y z f)
         twin-hides d x z (lower-twin d x z same (lt_trans (twin-number d x y a) (twin-number d y z b)))
 
 -- What hides stands earlier: by its address, or in the same place by its number.
-hides-before : (d : ℕ) (m n : Move) → d ≤ rowCosts → RowCosts d m.costs → RowCosts d n.costs → hides d m n ≡ true → moveBefore d m n ≡ true
-unfolding moveBefore zBefore
+hides-before : (d : ℕ) (m n : Move) → d ≤ row_costs → RowCosts d m.costs → RowCosts d n.costs → hides d m n ≡ true → move_before d m n ≡ true
+unfolding move_before z_before
 hides-before d m n l h k e =
     ⊎_elim
-    (λ g. or_left (before d m.costs n.costs) (samePlace d m.costs n.costs && ltb m.number n.number) (dominates-before d m.costs n.costs l h k g))
-    (λ t. or_right (before d m.costs n.costs) (samePlace d m.costs n.costs && ltb m.number n.number)
-    (and_both (samePlace d m.costs n.costs) (ltb m.number n.number)
+    (λ g. or_left (before d m.costs n.costs) (same_place d m.costs n.costs && ltb m.number n.number) (dominates-before d m.costs n.costs l h k g))
+    (λ t. or_right (before d m.costs n.costs) (same_place d m.costs n.costs && ltb m.number n.number)
+    (and_both (same_place d m.costs n.costs) (ltb m.number n.number)
     (equal-place d m.costs n.costs l h k (twin-costs d m n t)) (lt-ltb m.number n.number (twin-number d m n t))))
     (hides-cases d m n e)
 
 -- Of two moves the earlier one hides the other exactly if it is nowhere greater: of equal costs the lower number stands first.
-module _ (d : ℕ) (m n : Move) (b : moveBefore d m n ≡ true) where
+module _ (d : ℕ) (m n : Move) (b : move_before d m n ≡ true) where
   same-lower : take d m.costs ≡ take d n.costs → ltb m.number n.number ≡ true
-  unfolding moveBefore zBefore
+  unfolding move_before z_before
   same-lower e =
-      or_cases (before d m.costs n.costs) (samePlace d m.costs n.costs && ltb m.number n.number) b
+      or_cases (before d m.costs n.costs) (same_place d m.costs n.costs && ltb m.number n.number) b
       (λ h. both_ways h (before-alike d m.costs n.costs n.costs n.costs e refl ∙ before-irrefl d n.costs))
-      (and_right (samePlace d m.costs n.costs) (ltb m.number n.number))
+      (and_right (same_place d m.costs n.costs) (ltb m.number n.number))
 
-  pub earlier-hides : length m.costs ≡ length n.costs → hides d m n ≡ nowhereGreater (take d m.costs) (take d n.costs)
-  unfolding hides lowerTwin dominates equalCosts
-  earlier-hides k = sym (better-or-equal p q lower (take-same-length d m.costs n.costs k)) ∙ and-given (nowhereGreater p q) (somewhereLess p q || lower) either
+  pub earlier-hides : length m.costs ≡ length n.costs → hides d m n ≡ nowhere_greater (take d m.costs) (take d n.costs)
+  unfolding hides lower_twin dominates equal_costs
+  earlier-hides k = sym (better-or-equal p q lower (take-same-length d m.costs n.costs k)) ∙ and-given (nowhere_greater p q) (somewhere_less p q || lower) either
     where
       p : List ℕ
       p = take d m.costs
@@ -183,12 +183,12 @@ module _ (d : ℕ) (m n : Move) (b : moveBefore d m n ≡ true) where
       lower : Bool
       lower = ltb m.number n.number
 
-      either : nowhereGreater p q ≡ true → (somewhereLess p q || lower) ≡ true
+      either : nowhere_greater p q ≡ true → (somewhere_less p q || lower) ≡ true
       either h =
-          byCases (somewhereLess p q) (or_left (somewhereLess p q) lower)
-          (λ g. or_right (somewhereLess p q) lower (same-lower (equal-true p q (neither-equal p q (take-same-length d m.costs n.costs k) h g))))
+          by_cases (somewhere_less p q) (or_left (somewhere_less p q) lower)
+          (λ g. or_right (somewhere_less p q) lower (same-lower (equal-true p q (neither-equal p q (take-same-length d m.costs n.costs k) h g))))
 
-pub move-hiding : (d c : ℕ) → d ≤ rowCosts → Hiding (Fit c d) (moveBefore d) (hides d)
+pub move-hiding : (d c : ℕ) → d ≤ row_costs → Hiding (Fit c d) (move_before d) (hides d)
 move-hiding d c l =
     record {
       irrefl = λ x hx. hides-irrefl d x;

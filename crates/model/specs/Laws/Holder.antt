@@ -6,14 +6,14 @@ use mathlib.Core.List.{List, [], ◌∷◌, ◌++◌, map, append-nil, Memᴰ}
 use Rattle.std.proofs.Math.Logic.{inl, inr, ⊎_elim}
 use Rattle.std.proofs.Common.{sym, ◌∙◌, subst, eq-eqb}
 use Rattle.std.proofs.Math.Path.{ap, ap₂}
-use Rattle.zorder.specs.Between.{rowCosts}
-use Rattle.model.specs.Basics.{Each, select, any, insertBy, rising}
-use Rattle.model.specs.Moves.{Move, Row, row_of, sameRow, moveBefore, rowBefore, ordered, listed, left, entered}
-use Rattle.model.specs.Lists.{hidden, skyline, listedRows}
-use Rattle.model.specs.Notice.{missing, noticeOf}
+use Rattle.zorder.specs.Between.{row_costs}
+use Rattle.model.specs.Basics.{Each, select, any, insert_by, rising}
+use Rattle.model.specs.Moves.{Move, Row, row_of, same_row, move_before, row_before, ordered, listed, left, entered}
+use Rattle.model.specs.Lists.{hidden, skyline, listed_rows}
+use Rattle.model.specs.Notice.{missing, notice_of}
 use Rattle.model.specs.Calls.{Board, Change, changed, list_of}
 use Rattle.model.specs.Sound.{Fit, SoundBoard}
-use Rattle.model.specs.Holder.{Call, change, preview, listCall, other, Event, isAccepted, plainNext, Answered, marked, put_in, takeOut, followed, heldAfter, HoldsList, Starts, Demand3}
+use Rattle.model.specs.Holder.{Call, change, preview, list_call, other, Event, is_accepted, plain_next, Answered, marked, put_in, take_out, followed, held_after, HoldsList, Starts, Demand3}
 use Rattle.model.specs.Laws.Bool.{cond_map}
 use Rattle.model.specs.Laws.Basics.{Once, mem-each, each-select, each_map, select-append, select-all, select-none}
 use Rattle.model.specs.Laws.Sorting.{insert-mem, mem-insert-new, mem-insert-old, each-insert, rising-insert, rising-select, rising-once, rising-ext}
@@ -52,26 +52,26 @@ module _ (ms ns : List Move) where
 
 -- ---- rows taken out and put in, by their moves
 
-taken-rows : (held ms : List Move) → takeOut (map (row_of left) ms) (listedRows held) ≡ listedRows (gone held ms)
-unfolding takeOut listedRows missing
+taken-rows : (held ms : List Move) → take_out (map (row_of left) ms) (listed_rows held) ≡ listed_rows (gone held ms)
+unfolding take_out listed_rows missing
 taken-rows held ms = missing-rows listed left held ms
 
 put_all : ℕ → List Move → List Move → List Move
 put_all d [] held = held
-put_all d (m ∷ ms) held = put_all d ms (insertBy (moveBefore d) m held)
+put_all d (m ∷ ms) held = put_all d ms (insert_by (move_before d) m held)
 
-insert-row : (d : ℕ) (m : Move) (held : List Move) → insertBy (rowBefore d) (row_of listed m) (listedRows held) ≡ listedRows (insertBy (moveBefore d) m held)
-unfolding insertBy listedRows rowBefore moveBefore row_of
+insert-row : (d : ℕ) (m : Move) (held : List Move) → insert_by (row_before d) (row_of listed m) (listed_rows held) ≡ listed_rows (insert_by (move_before d) m held)
+unfolding insert_by listed_rows row_before move_before row_of
 insert-row d m [] = refl
 insert-row d m (n ∷ ns) =
-    ap (λ (rs : List Row). cond (moveBefore d m n) (listedRows (m ∷ n ∷ ns)) (row_of listed n ∷ rs)) (insert-row d m ns)
-    ∙ sym (cond_map listedRows (moveBefore d m n) (m ∷ n ∷ ns) (n ∷ insertBy (moveBefore d) m ns))
+    ap (λ (rs : List Row). cond (move_before d m n) (listed_rows (m ∷ n ∷ ns)) (row_of listed n ∷ rs)) (insert-row d m ns)
+    ∙ sym (cond_map listed_rows (move_before d m n) (m ∷ n ∷ ns) (n ∷ insert_by (move_before d) m ns))
 
-put-rows : (d : ℕ) (ms held : List Move) → put_in d (map (row_of entered) ms) (listedRows held) ≡ listedRows (put_all d ms held)
+put-rows : (d : ℕ) (ms held : List Move) → put_in d (map (row_of entered) ms) (listed_rows held) ≡ listed_rows (put_all d ms held)
 unfolding put_in put_all row_of
 put-rows d [] held = refl
 put-rows d (m ∷ ms) held =
-    ap (put_in d (map (row_of entered) ms)) (insert-row d m held) ∙ put-rows d ms (insertBy (moveBefore d) m held)
+    ap (put_in d (map (row_of entered) ms)) (insert-row d m held) ∙ put-rows d ms (insert_by (move_before d) m held)
 
 -- ---- moves put in
 
@@ -80,36 +80,36 @@ module _ (d : ℕ) where
   unfolding put_all
   put-mem [] held k = inr k
   put-mem (m ∷ ms) held k =
-      ⊎_elim (λ j. inl (Memᴰ.tail j)) (λ j. ⊎_elim (λ e. inl (Memᴰ.head e)) inr (insert-mem (moveBefore d) m held j))
-      (put-mem ms (insertBy (moveBefore d) m held) k)
+      ⊎_elim (λ j. inl (Memᴰ.tail j)) (λ j. ⊎_elim (λ e. inl (Memᴰ.head e)) inr (insert-mem (move_before d) m held j))
+      (put-mem ms (insert_by (move_before d) m held) k)
 
   mem-put-old : {n : Move} (ms : List Move) {held : List Move} → Memᴰ n held → Memᴰ n (put_all d ms held)
   unfolding put_all
   mem-put-old [] k = k
-  mem-put-old (m ∷ ms) k = mem-put-old ms (mem-insert-old (moveBefore d) m k)
+  mem-put-old (m ∷ ms) k = mem-put-old ms (mem-insert-old (move_before d) m k)
 
   mem-put-new : {n : Move} {ms : List Move} (held : List Move) → Memᴰ n ms → Memᴰ n (put_all d ms held)
   unfolding put_all
-  mem-put-new {ms = m ∷ ms} held (Memᴰ.head e) = mem-put-old ms (Memᴰ.cast e (mem-insert-new (moveBefore d) m held))
-  mem-put-new {ms = m ∷ ms} held (Memᴰ.tail k) = mem-put-new (insertBy (moveBefore d) m held) k
+  mem-put-new {ms = m ∷ ms} held (Memᴰ.head e) = mem-put-old ms (Memᴰ.cast e (mem-insert-new (move_before d) m held))
+  mem-put-new {ms = m ∷ ms} held (Memᴰ.tail k) = mem-put-new (insert_by (move_before d) m held) k
 
-module _ (c d : ℕ) (l : d ≤ rowCosts) where
+module _ (c d : ℕ) (l : d ≤ row_costs) where
   abbrev Rising : List Move → Type 0
-  Rising ms = rising (moveBefore d) ms ≡ true
+  Rising ms = rising (move_before d) ms ≡ true
 
   each-put : (ms held : List Move) → Each (Fit c d) ms → Each (Fit c d) held → Each (Fit c d) (put_all d ms held)
   unfolding put_all
   each-put [] held es fs = fs
-  each-put (m ∷ ms) held es fs = each-put ms (insertBy (moveBefore d) m held) es.1 (each-insert (moveBefore d) (Fit c d) m held es.0 fs)
+  each-put (m ∷ ms) held es fs = each-put ms (insert_by (move_before d) m held) es.1 (each-insert (move_before d) (Fit c d) m held es.0 fs)
 
   rising-put : (ms held : List Move) → Each (Fit c d) ms → Each (Fit c d) held → Once ms → ((n : Move) → Memᴰ n ms → ¬ Memᴰ n held)
       → Rising held → Rising (put_all d ms held)
   unfolding put_all
   rising-put [] held es fs o f r = r
   rising-put (m ∷ ms) held es fs o f r =
-      rising-put ms (insertBy (moveBefore d) m held) es.1 (each-insert (moveBefore d) (Fit c d) m held es.0 fs) o.1
-      (λ n k j. ⊎_elim (λ e. o.0 (Memᴰ.cast (sym e) k)) (f n (Memᴰ.tail k)) (insert-mem (moveBefore d) m held j))
-      (rising-insert (Fit c d) (moveBefore d) (move-order d c l) m held es.0 fs r (f m (Memᴰ.head refl)))
+      rising-put ms (insert_by (move_before d) m held) es.1 (each-insert (move_before d) (Fit c d) m held es.0 fs) o.1
+      (λ n k j. ⊎_elim (λ e. o.0 (Memᴰ.cast (sym e) k)) (f n (Memᴰ.tail k)) (insert-mem (move_before d) m held j))
+      (rising-insert (Fit c d) (move_before d) (move-order d c l) m held es.0 fs r (f m (Memᴰ.head refl)))
 
   -- ---- the law of the notice
 
@@ -123,7 +123,7 @@ module _ (c d : ℕ) (l : d ≤ rowCosts) where
 
     rising-gone : (ms ns : List Move) → Each (Fit c d) ms → Rising ms → Rising (gone ms ns)
     unfolding gone
-    rising-gone ms ns = rising-select (Fit c d) (moveBefore d) (move-order d c l) (λ m. not (among m ns)) ms
+    rising-gone ms ns = rising-select (Fit c d) (move_before d) (move-order d c l) (λ m. not (among m ns)) ms
 
     stay-mem : {m : Move} → Memᴰ m stay → Memᴰ m new
     unfolding stay
@@ -140,24 +140,24 @@ module _ (c d : ℕ) (l : d ≤ rowCosts) where
     moves-followed =
         let gs = each-gone new old fs in
         let hs = each-gone old (gone old new) es in
-        rising-ext (Fit c d) (moveBefore d) (move-order d c l) (put_all d (gone new old) stay) new (each-put (gone new old) stay gs hs) fs
+        rising-ext (Fit c d) (move_before d) (move-order d c l) (put_all d (gone new old) stay) new (each-put (gone new old) stay gs hs) fs
         (rising-put (gone new old) stay gs hs
-        (rising-once (Fit c d) (moveBefore d) (move-order d c l) (gone new old) gs (rising-gone new old fs s))
+        (rising-once (Fit c d) (move_before d) (move-order d c l) (gone new old) gs (rising-gone new old fs s))
         (λ m k j. (gone_mem new old k).1 (gone_mem old (gone old new) j).0)
         (rising-gone old (gone old new) es r))
         s
         (λ m k. ⊎_elim (λ j. (gone_mem new old j).0) stay-mem (put-mem d (gone new old) stay k))
         (λ m k. ⊎_elim (λ j. mem-put-old d (gone new old) (mem-stay j k)) (λ j. mem-put-new d stay (mem-gone old k j)) (mem-or-not m old))
 
-    pub notice-followed : followed d (noticeOf old new) (listedRows old) ≡ listedRows new
+    pub notice-followed : followed d (notice_of old new) (listed_rows old) ≡ listed_rows new
     unfolding followed
     notice-followed =
-        ap₂ (λ (ins outs : List Row). put_in d ins (takeOut outs (listedRows old)))
+        ap₂ (λ (ins outs : List Row). put_in d ins (take_out outs (listed_rows old)))
         (ap (marked entered) (notice-rows old new) ∙ marked-entered (gone old new) (gone new old))
         (ap (marked left) (notice-rows old new) ∙ marked-left (gone old new) (gone new old))
         ∙ ap (put_in d (map (row_of entered) (gone new old))) (taken-rows old (gone old new))
         ∙ put-rows d (gone new old) (gone old (gone old new))
-        ∙ ap listedRows moves-followed
+        ∙ ap listed_rows moves-followed
 
 -- ---- from one board to another
 
@@ -165,16 +165,16 @@ each-list : (b : Board) → SoundBoard b → Each (Fit b.size b.dimension) (list
 unfolding list_of skyline
 each-list b s = each-select (λ m. not (hidden b.dimension b.moves m)) (Fit b.size b.dimension) b.moves s.fit
 
-rising-list : (b : Board) → SoundBoard b → rising (moveBefore b.dimension) (list_of b) ≡ true
+rising-list : (b : Board) → SoundBoard b → rising (move_before b.dimension) (list_of b) ≡ true
 unfolding list_of skyline ordered
 rising-list b s =
-    rising-select (Fit b.size b.dimension) (moveBefore b.dimension) (move-order b.dimension b.size (dimension-most b.dimension s.dimension))
+    rising-select (Fit b.size b.dimension) (move_before b.dimension) (move-order b.dimension b.size (dimension-most b.dimension s.dimension))
     (λ m. not (hidden b.dimension b.moves m)) b.moves s.fit s.order
 
 nothing-followed : (d : ℕ) (held : List Row) → followed d [] held ≡ held
-unfolding followed marked takeOut put_in select any
+unfolding followed marked take_out put_in select any
 nothing-followed d held =
-    select-all (λ h. not (any (sameRow h) [])) held (mem-each (λ h. not (any (sameRow h) []) ≡ true) held (λ h _. refl))
+    select-all (λ h. not (any (same_row h) [])) held (mem-each (λ h. not (any (same_row h) []) ≡ true) held (λ h _. refl))
 
 -- Of the same size and number of costs, as a change leaves them.
 pub record SameShape (b next : Board) : Type 0 where
@@ -191,19 +191,19 @@ module _ (b next : Board) (same : SameShape b next) (s : SoundBoard b) where
       subst (λ (c : ℕ). Each (Fit c b.dimension) (list_of next)) same.size
       (subst (λ (d : ℕ). Each (Fit next.size d) (list_of next)) same.dimension (each-list next r))
 
-  rising-next : SoundBoard next → rising (moveBefore b.dimension) (list_of next) ≡ true
-  rising-next r = subst (λ (d : ℕ). rising (moveBefore d) (list_of next) ≡ true) same.dimension (rising-list next r)
+  rising-next : SoundBoard next → rising (move_before b.dimension) (list_of next) ≡ true
+  rising-next r = subst (λ (d : ℕ). rising (move_before d) (list_of next) ≡ true) same.dimension (rising-list next r)
 
-  lists-followed : SoundBoard next → followed b.dimension (noticeOf (list_of b) (list_of next)) (listedRows (list_of b)) ≡ listedRows (list_of next)
+  lists-followed : SoundBoard next → followed b.dimension (notice_of (list_of b) (list_of next)) (listed_rows (list_of b)) ≡ listed_rows (list_of next)
   lists-followed r =
       notice-followed b.size b.dimension (dimension-most b.dimension s.dimension) (list_of b) (list_of next) (each-list b s) (each_next r)
       (rising-list b s) (rising-next r)
 
   -- accepted or refused
   pub lists-held : (c : Bool) → SoundBoard (cond c next b)
-      → followed b.dimension (cond c (noticeOf (list_of b) (list_of next)) []) (listedRows (list_of b)) ≡ listedRows (list_of (cond c next b))
+      → followed b.dimension (cond c (notice_of (list_of b) (list_of next)) []) (listed_rows (list_of b)) ≡ listed_rows (list_of (cond c next b))
   lists-held true r = lists-followed r
-  lists-held false r = nothing-followed b.dimension (listedRows (list_of b))
+  lists-held false r = nothing-followed b.dimension (listed_rows (list_of b))
 
 -- ---- a run
 
@@ -211,35 +211,35 @@ module _ (b next : Board) (same : SameShape b next) (s : SoundBoard b) where
 unfoldable pub Reads : Board → Event → Call → Type 0
 Reads b e (change x) = Unit {0}
 Reads b e (preview x) = Unit {0}
-Reads b e listCall = isAccepted e.answer ≡ true → e.rows ≡ listedRows (list_of b)
+Reads b e list_call = is_accepted e.answer ≡ true → e.rows ≡ listed_rows (list_of b)
 Reads b e other = Unit {0}
 
 -- A call by which he who held the list before it holds the list after it.
 pub record Keeps (b : Board) (e : Event) : Type 0 where
   pub answered : Answered b e e.call
   pub reads : Reads b e e.call
-  pub held : heldAfter b.dimension (listedRows (list_of b)) e e.call ≡ listedRows (list_of (plainNext b e.call e.lent))
+  pub held : held_after b.dimension (listed_rows (list_of b)) e e.call ≡ listed_rows (list_of (plain_next b e.call e.lent))
 
 abbrev pub EachKeeps : Board → List Event → Type 0
 EachKeeps b [] = Unit {0}
-EachKeeps b (e ∷ es) = Keeps b e × EachKeeps (plainNext b e.call e.lent) es
+EachKeeps b (e ∷ es) = Keeps b e × EachKeeps (plain_next b e.call e.lent) es
 
-keeps-holds : (b : Board) (es : List Event) → EachKeeps b es → HoldsList b (listedRows (list_of b)) es
+keeps-holds : (b : Board) (es : List Event) → EachKeeps b es → HoldsList b (listed_rows (list_of b)) es
 unfolding HoldsList
 keeps-holds b [] k = refl
 keeps-holds b (e ∷ es) k =
-    let next = plainNext b e.call e.lent in
+    let next = plain_next b e.call e.lent in
     (refl, subst (λ (held : List Row). HoldsList next held es) (sym k.0.held) (keeps-holds next es k.1))
 
-keeps-starts : (b : Board) (e : Event) (c : Call) (es : List Event) → Reads b e c → EachKeeps (plainNext b c e.lent) es → Starts b e c es
-unfolding Starts Reads plainNext
+keeps-starts : (b : Board) (e : Event) (c : Call) (es : List Event) → Reads b e c → EachKeeps (plain_next b c e.lent) es → Starts b e c es
+unfolding Starts Reads plain_next
 keeps-starts b e (change x) es r k = tt
 keeps-starts b e (preview x) es r k = tt
-keeps-starts b e listCall es r k = λ a. subst (λ (held : List Row). HoldsList b held es) (sym (r a)) (keeps-holds b es k)
+keeps-starts b e list_call es r k = λ a. subst (λ (held : List Row). HoldsList b held es) (sym (r a)) (keeps-holds b es k)
 keeps-starts b e other es r k = tt
 
 pub keeps-demand3 : (b : Board) (es : List Event) → EachKeeps b es → Demand3 b es
 unfolding Demand3
 keeps-demand3 b [] k = tt
 keeps-demand3 b (e ∷ es) k =
-    (k.0.answered, keeps-starts b e e.call es k.0.reads k.1, keeps-demand3 (plainNext b e.call e.lent) es k.1)
+    (k.0.answered, keeps-starts b e e.call es k.0.reads k.1, keeps-demand3 (plain_next b e.call e.lent) es k.1)

@@ -10,15 +10,15 @@ use native.Mathlib.Omega.{arith}
 use Rattle.std.proofs.Math.Dec.{leb}
 use Rattle.std.proofs.Math.ListN.{length, take, length-append, length-take, length-drop, take-append-drop}
 use Rattle.model.specs.Basics.{Each, distinct, within}
-use Rattle.model.specs.Moves.{Move, moveBefore, inZOrder, ordered}
-use Rattle.model.specs.Calls.{sizeBad}
-use Rattle.model.specs.Tree.{Entry, Tree, rooted, movesUnder, moves_of, rootLeast, filledTree, ruled}
-use Rattle.model.specs.Loading.{eights, evened, mended, cut, levels, built, loadTree}
-use Rattle.model.specs.Laws.Bool.{condCases}
+use Rattle.model.specs.Moves.{Move, move_before, in_z_order, ordered}
+use Rattle.model.specs.Calls.{size_bad}
+use Rattle.model.specs.Tree.{Entry, Tree, rooted, moves_under, moves_of, root_least, filled_tree, ruled}
+use Rattle.model.specs.Loading.{eights, evened, mended, cut, levels, built, load_tree}
+use Rattle.model.specs.Laws.Bool.{cond_cases}
 use Rattle.model.specs.Laws.Basics.{each_left, each_right}
 use Rattle.model.specs.Laws.Sorting.{StrictOrder, rising-sort}
 use Rattle.model.specs.Laws.Order.{distinct-once}
-use Rattle.model.specs.Laws.Tree.{within-range, flatMap-flatten, Filled, leaf-moves, leaf-filled, full-filled, full-tree, both-ruled}
+use Rattle.model.specs.Laws.Tree.{within-range, flat_map-flatten, Filled, leaf-moves, leaf-filled, full-filled, full-tree, both-ruled}
 
 module _ {A : Type 0} where
   -- ---- cutting loses nothing
@@ -45,7 +45,7 @@ module _ {A : Type 0} where
   flatten-mended [] = refl
   flatten-mended (xs ∷ []) = refl
   flatten-mended (xs ∷ ys ∷ []) =
-      condCases (λ (gs : List (List A)). flatten gs ≡ xs ++ (ys ++ [])) (ltb (length ys) 3)
+      cond_cases (λ (gs : List (List A)). flatten gs ≡ xs ++ (ys ++ [])) (ltb (length ys) 3)
       (λ e. flatten-evened xs ys ∙ ap (λ (zs : List A). xs ++ zs) (sym (append-nil ys)))
       (λ e. refl)
   flatten-mended (xs ∷ ys ∷ zs ∷ gs) = ap (λ (rest : List A). xs ++ rest) (flatten-mended (ys ∷ zs ∷ gs))
@@ -60,7 +60,7 @@ module _ {A : Type 0} where
   unfolding mended evened
   length-mended [] = refl
   length-mended (xs ∷ []) = refl
-  length-mended (xs ∷ ys ∷ []) = condCases (λ (gs : List (List A)). length gs ≡ 2) (ltb (length ys) 3) (λ e. refl) (λ e. refl)
+  length-mended (xs ∷ ys ∷ []) = cond_cases (λ (gs : List (List A)). length gs ≡ 2) (ltb (length ys) 3) (λ e. refl) (λ e. refl)
   length-mended (xs ∷ ys ∷ zs ∷ gs) = ap suc (length-mended (ys ∷ zs ∷ gs))
 
   eights-most : (n : ℕ) (xs : List A) → length (eights n xs) ≤ length xs
@@ -137,7 +137,7 @@ module _ {A : Type 0} where
   sized-mended [] h g = absurd (omega arith)
   sized-mended (xs ∷ []) h g = absurd (omega arith)
   sized-mended (xs ∷ ys ∷ []) h (e, (l, m)) =
-      condCases (Each Sized) (ltb (length ys) 3)
+      cond_cases (Each Sized) (ltb (length ys) 3)
       (λ t. sized-evened xs ys e l (ltb-true (length ys) 3 t))
       (λ t. ((omega arith, omega arith), ((ltb-false (length ys) 3 t, m), tt)))
   sized-mended (xs ∷ ys ∷ zs ∷ gs) h (e, g) = ((omega arith, omega arith), sized-mended (ys ∷ zs ∷ gs) (omega arith) g)
@@ -160,9 +160,9 @@ module _ (h : ℕ) where
   pub cut-filled : (es : List (Entry h)) → 8 < length es → Each (Filled h) es → Each (Filled (suc h)) (cut es)
   cut-filled es g a = filled-groups (cut es) (cut-sized es g) (subst (Each (Filled h)) (sym (flatten-cut es)) a)
 
-  pub cut-moves : (es : List (Entry h)) → movesUnder (suc (suc h)) (cut es) ≡ movesUnder (suc h) es
-  unfolding movesUnder
-  cut-moves es = sym (flatMap-flatten (movesUnder h) (cut es)) ∙ ap (flat_map (movesUnder h)) (flatten-cut es)
+  pub cut-moves : (es : List (Entry h)) → moves_under (suc (suc h)) (cut es) ≡ moves_under (suc h) es
+  unfolding moves_under
+  cut-moves es = sym (flat_map-flatten (moves_under h) (cut es)) ∙ ap (flat_map (moves_under h)) (flatten-cut es)
 
 module _ (Q : Tree → Type 0) (n h : ℕ) (es : List (Entry h)) where
   levels-cases : (length es ≤ 8 → Q (rooted h es)) → (8 < length es → Q (levels n (suc h) (cut es))) → Q (levels (suc n) h es)
@@ -173,20 +173,20 @@ module _ (Q : Tree → Type 0) (n h : ℕ) (es : List (Entry h)) where
       step true e = f (leb-true (length es) 8 e)
       step false e = g (leb-false (length es) 8 e)
 
-levels-moves : (n h : ℕ) (es : List (Entry h)) → moves_of (levels n h es) ≡ movesUnder (suc h) es
+levels-moves : (n h : ℕ) (es : List (Entry h)) → moves_of (levels n h es) ≡ moves_under (suc h) es
 unfolding levels moves_of
 levels-moves zero h es = refl
 levels-moves (suc n) h es =
-    levels-cases (λ (t : Tree). moves_of t ≡ movesUnder (suc h) es) n h es
+    levels-cases (λ (t : Tree). moves_of t ≡ moves_under (suc h) es) n h es
     (λ l. refl)
     (λ g. levels-moves n (suc h) (cut es) ∙ cut-moves h es)
 
-levels-filled : (n h : ℕ) (es : List (Entry h)) → length es ≤ n + 1 → rootLeast h ≤ length es → Each (Filled h) es
-    → filledTree (levels n h es) ≡ true
-unfolding levels rootLeast
+levels-filled : (n h : ℕ) (es : List (Entry h)) → length es ≤ n + 1 → root_least h ≤ length es → Each (Filled h) es
+    → filled_tree (levels n h es) ≡ true
+unfolding levels root_least
 levels-filled zero h es m l a = full-tree h es (record { least = l; most = omega arith; under = a })
 levels-filled (suc n) h es m l a =
-    levels-cases (λ (t : Tree). filledTree t ≡ true) n h es
+    levels-cases (λ (t : Tree). filled_tree t ≡ true) n h es
     (λ s. full-tree h es (record { least = l; most = s; under = a }))
     (λ g. levels-filled n (suc h) (cut es) (omega (arith, cut-fewer es g)) (cut-two es g) (cut-filled h es g a))
 
@@ -197,28 +197,28 @@ unfolding built moves_of
 built-moves [] = refl
 built-moves (m ∷ ms) = levels-moves (length ms) 0 (m ∷ ms) ∙ leaf-moves (m ∷ ms)
 
-pub built-filled : (ms : List Move) → filledTree (built ms) ≡ true
-unfolding built filledTree rootLeast
+pub built-filled : (ms : List Move) → filled_tree (built ms) ≡ true
+unfolding built filled_tree root_least
 built-filled [] = refl
 built-filled (m ∷ ms) = levels-filled (length ms) 0 (m ∷ ms) (omega arith) (omega arith) (leaf-filled (m ∷ ms))
 
-pub load_moves : (d : ℕ) (ms : List Move) → moves_of (loadTree d ms) ≡ inZOrder d ms
-unfolding loadTree
-load_moves d ms = built-moves (inZOrder d ms)
+pub load_moves : (d : ℕ) (ms : List Move) → moves_of (load_tree d ms) ≡ in_z_order d ms
+unfolding load_tree
+load_moves d ms = built-moves (in_z_order d ms)
 
-pub load-filled : (d : ℕ) (ms : List Move) → filledTree (loadTree d ms) ≡ true
-unfolding loadTree
-load-filled d ms = built-filled (inZOrder d ms)
+pub load-filled : (d : ℕ) (ms : List Move) → filled_tree (load_tree d ms) ≡ true
+unfolding load_tree
+load-filled d ms = built-filled (in_z_order d ms)
 
-pub load-ruled : (d : ℕ) (P : Move → Type 0) → StrictOrder P (moveBefore d) → (ms : List Move) → Each P ms
-    → distinct (map (λ m. m.number) ms) ≡ true → ruled d (loadTree d ms) ≡ true
-unfolding ordered inZOrder
+pub load-ruled : (d : ℕ) (P : Move → Type 0) → StrictOrder P (move_before d) → (ms : List Move) → Each P ms
+    → distinct (map (λ m. m.number) ms) ≡ true → ruled d (load_tree d ms) ≡ true
+unfolding ordered in_z_order
 load-ruled d P o ms q h =
-    both-ruled d (loadTree d ms) (load-filled d ms)
-    (ap (ordered d) (load_moves d ms) ∙ rising-sort P (moveBefore d) o ms q (distinct-once (λ m. m.number) ms h))
+    both-ruled d (load_tree d ms) (load-filled d ms)
+    (ap (ordered d) (load_moves d ms) ∙ rising-sort P (move_before d) o ms q (distinct-once (λ m. m.number) ms h))
 
 -- ---- the size of a board
 
-pub size-most : (c : ℕ) → sizeBad c ≡ false → c ≤ 4096
-unfolding sizeBad
+pub size-most : (c : ℕ) → size_bad c ≡ false → c ≤ 4096
+unfolding size_bad
 size-most c e = (within-range 16 4096 c (not-false (within 16 4096 c) e)).1

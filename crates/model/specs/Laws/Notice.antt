@@ -6,30 +6,30 @@ use Rattle.std.proofs.Common.{inl, inr, ⊎_elim, sym, ap, ap₂, ◌∙◌, sub
 use Rattle.std.proofs.Math.Logic.{⊎_map}
 use Rattle.std.proofs.lemmas.List.{length-map}
 use Rattle.model.specs.Basics.{select, any, equal}
-use Rattle.model.specs.Moves.{Move, Row, row_of, sameRow, left, entered}
-use Rattle.model.specs.Notice.{missing, noticeOf}
-use Rattle.model.specs.Laws.Bool.{byCases, and_left, and_right, and_both, not-flip, not_back, both_ways}
+use Rattle.model.specs.Moves.{Move, Row, row_of, same_row, left, entered}
+use Rattle.model.specs.Notice.{missing, notice_of}
+use Rattle.model.specs.Laws.Bool.{by_cases, and_left, and_right, and_both, not-flip, not_back, both_ways}
 use Rattle.model.specs.Laws.Basics.{Once, once-select, select-none, equal-refl, equal-true, mem-each, select-mem, mem-select, select-ext, select-map, any-mem, any-witness, any-map}
 use Rattle.model.specs.Laws.Order.{move-path}
 
 -- "Rows are compared by number and costs": so are the moves in them, whatever the marks.
-unfoldable pub sameMove : Move → Move → Bool
-sameMove m n = eqb m.number n.number && equal m.costs n.costs
+unfoldable pub same_move : Move → Move → Bool
+same_move m n = eqb m.number n.number && equal m.costs n.costs
 
 unfoldable pub among : Move → List Move → Bool
-among m ns = any (sameMove m) ns
+among m ns = any (same_move m) ns
 
 -- The moves of one list that the other has not.
 unfoldable pub gone : List Move → List Move → List Move
 gone ms ns = select (λ m. not (among m ns)) ms
 
-same_refl : (m : Move) → sameMove m m ≡ true
-unfolding sameMove
+same_refl : (m : Move) → same_move m m ≡ true
+unfolding same_move
 same_refl m =
     and_both (eqb m.number m.number) (equal m.costs m.costs) (eq-eqb m.number m.number refl) (equal-refl m.costs)
 
-same_true : (m n : Move) → sameMove m n ≡ true → m ≡ n
-unfolding sameMove
+same_true : (m n : Move) → same_move m n ≡ true → m ≡ n
+unfolding same_move
 same_true m n h =
     let a = eqb m.number n.number in
     let b = equal m.costs n.costs in
@@ -37,18 +37,18 @@ same_true m n h =
 
 pub mem-among : {m : Move} {ns : List Move} → Memᴰ m ns → among m ns ≡ true
 unfolding among
-mem-among {m} h = any-mem (sameMove m) h (same_refl m)
+mem-among {m} h = any-mem (same_move m) h (same_refl m)
 
 pub among-mem : (m : Move) (ns : List Move) → among m ns ≡ true → Memᴰ m ns
 unfolding among
 among-mem m ns h =
-    let w = any-witness (sameMove m) ns h in
+    let w = any-witness (same_move m) ns h in
     Memᴰ.cast (same_true m w.0 w.2) w.1
 
 -- ---- members
 
 pub mem-or-not : (m : Move) (ns : List Move) → Memᴰ m ns ⊎ (¬ Memᴰ m ns)
-mem-or-not m ns = byCases (among m ns) (λ a. inl (among-mem m ns a)) (λ a. inr (λ k. both_ways (mem-among k) a))
+mem-or-not m ns = by_cases (among m ns) (λ a. inl (among-mem m ns a)) (λ a. inr (λ k. both_ways (mem-among k) a))
 
 pub gone_mem : {m : Move} (ms ns : List Move) → Memᴰ m (gone ms ns) → Memᴰ m ms × (¬ Memᴰ m ns)
 unfolding gone
@@ -60,21 +60,21 @@ pub mem-gone : {m : Move} {ms : List Move} (ns : List Move) → Memᴰ m ms → 
 unfolding gone
 mem-gone {m} ns h k =
     mem-select (λ m. not (among m ns)) h
-    (byCases (among m ns) (λ a. absurd (k (among-mem m ns a))) (λ a. not-flip (among m ns) a))
+    (by_cases (among m ns) (λ a. absurd (k (among-mem m ns a))) (λ a. not-flip (among m ns) a))
 
 -- ---- the rows of a notice
 
 pub missing-rows : (j k : ℕ) (ms ns : List Move) → missing (map (row_of j) ms) (map (row_of k) ns) ≡ map (row_of j) (gone ms ns)
-unfolding missing gone among sameMove sameRow row_of
+unfolding missing gone among same_move same_row row_of
 missing-rows j k ms ns =
-    select-map (λ r. not (any (sameRow r) (map (row_of k) ns))) (row_of j) ms
+    select-map (λ r. not (any (same_row r) (map (row_of k) ns))) (row_of j) ms
     ∙ ap (map (row_of j))
-    (select-ext (λ m. not (any (sameRow (row_of j m)) (map (row_of k) ns))) (λ m. not (among m ns)) ms
-    (mem-each (λ m. not (any (sameRow (row_of j m)) (map (row_of k) ns)) ≡ not (among m ns)) ms
-    (λ m _. ap not (any-map (sameRow (row_of j m)) (row_of k) ns))))
+    (select-ext (λ m. not (any (same_row (row_of j m)) (map (row_of k) ns))) (λ m. not (among m ns)) ms
+    (mem-each (λ m. not (any (same_row (row_of j m)) (map (row_of k) ns)) ≡ not (among m ns)) ms
+    (λ m _. ap not (any-map (same_row (row_of j m)) (row_of k) ns))))
 
-pub notice-rows : (old new : List Move) → noticeOf old new ≡ map (row_of left) (gone old new) ++ map (row_of entered) (gone new old)
-unfolding noticeOf
+pub notice-rows : (old new : List Move) → notice_of old new ≡ map (row_of left) (gone old new) ++ map (row_of entered) (gone new old)
+unfolding notice_of
 notice-rows old new = ap₂ ◌++◌ (missing-rows left left old new) (missing-rows entered entered new old)
 
 -- The same list before and after: no row.
@@ -82,7 +82,7 @@ gone-none : (ms : List Move) → gone ms ms ≡ []
 unfolding gone
 gone-none ms = select-none (λ m. not (among m ms)) ms (mem-each (λ m. not (among m ms) ≡ false) ms (λ m k. ap not (mem-among k)))
 
-pub notice-none : (ms : List Move) → noticeOf ms ms ≡ []
+pub notice-none : (ms : List Move) → notice_of ms ms ≡ []
 notice-none ms = notice-rows ms ms ∙ ap (λ (ns : List Move). map (row_of left) ns ++ map (row_of entered) ns) (gone-none ms)
 
 row-mem : (j k : ℕ) (m : Move) (ms : List Move) → Memᴰ (row_of j m) (map (row_of k) ms) → (j ≡ k) × Memᴰ m ms
@@ -100,26 +100,26 @@ mem-row k (Memᴰ.tail h) = Memᴰ.tail (mem-row k h)
 
 -- "each notice names exactly the rows that are in the list before the call or after it, but not both"
 module _ (old new : List Move) (m : Move) where
-  named : (k : ℕ) → Memᴰ (row_of k m) (noticeOf old new) → ((k ≡ left) × Memᴰ m (gone old new)) ⊎ ((k ≡ entered) × Memᴰ m (gone new old))
+  named : (k : ℕ) → Memᴰ (row_of k m) (notice_of old new) → ((k ≡ left) × Memᴰ m (gone old new)) ⊎ ((k ≡ entered) × Memᴰ m (gone new old))
   named k h =
       ⊎_map (row-mem k left m (gone old new)) (row-mem k entered m (gone new old))
       (Memᴰ.append_cases (map (row_of left) (gone old new)) (subst (Memᴰ (row_of k m)) (notice-rows old new) h))
 
-  pub notice-left : Memᴰ (row_of left m) (noticeOf old new) ↔ (Memᴰ m old × (¬ Memᴰ m new))
+  pub notice-left : Memᴰ (row_of left m) (notice_of old new) ↔ (Memᴰ m old × (¬ Memᴰ m new))
   notice-left = (
     λ h. ⊎_elim (λ g. gone_mem old new g.1) (λ g. absurd (omega (arith, g.0))) (named left h),
     λ g. subst (Memᴰ (row_of left m)) (sym (notice-rows old new))
         (Memᴰ.append_left (map (row_of entered) (gone new old)) (mem-row left (mem-gone new g.0 g.1))),
   )
 
-  pub notice-entered : Memᴰ (row_of entered m) (noticeOf old new) ↔ (Memᴰ m new × (¬ Memᴰ m old))
+  pub notice-entered : Memᴰ (row_of entered m) (notice_of old new) ↔ (Memᴰ m new × (¬ Memᴰ m old))
   notice-entered = (
     λ h. ⊎_elim (λ g. absurd (omega (arith, g.0))) (λ g. gone_mem new old g.1) (named entered h),
     λ g. subst (Memᴰ (row_of entered m)) (sym (notice-rows old new))
         (Memᴰ.append_right (map (row_of left) (gone old new)) (mem-row entered (mem-gone old g.0 g.1))),
   )
 
-pub notice-length : (old new : List Move) → length (noticeOf old new) ≡ length (gone old new) + length (gone new old)
+pub notice-length : (old new : List Move) → length (notice_of old new) ≡ length (gone old new) + length (gone new old)
 notice-length old new =
     ap length (notice-rows old new)
     ∙ length-append (map (row_of left) (gone old new)) (map (row_of entered) (gone new old))
@@ -146,7 +146,7 @@ only_gone ms ns x o h =
     (λ m k. let g = gone_mem ms ns k in h.only m g.0 g.1)
 
 pub two-rows : (old new : List Move) (x y : Move) → Once old → Once new → OnlyIn old new x → OnlyIn new old y
-    → noticeOf old new ≡ row_of left x ∷ row_of entered y ∷ []
+    → notice_of old new ≡ row_of left x ∷ row_of entered y ∷ []
 two-rows old new x y o p h k =
     notice-rows old new
     ∙ ap₂ (λ (ms ns : List Move). map (row_of left) ms ++ map (row_of entered) ns) (only_gone old new x o h) (only_gone new old y p k)

@@ -5,8 +5,8 @@ use Rattle.std.proofs.Math.Path.{refl, sym, ap}
 use Rattle.std.proofs.Common.{◌∙◌, subst, arith}
 use mathlib.Core.List.Permᴰ
 use mathlib.Core.List.{List, [], ◌∷◌, ◌++◌, Permᴰ, Sublistᴰ}
-use Rattle.model.specs.Basics.{Each, consIf, select, insertBy, sortBy, rising, first_or, last_or}
-use Rattle.model.specs.Laws.Bool.{byCases, condCases, both_ways}
+use Rattle.model.specs.Basics.{Each, cons_if, select, insert_by, sort_by, rising, first_or, last_or}
+use Rattle.model.specs.Laws.Bool.{by_cases, cond_cases, both_ways}
 use Rattle.model.specs.Laws.Basics.{each_left, each_right, each-mem, last_mem}
 use Rattle.model.specs.Laws.Sorting.{StrictOrder, asym, each-insert, each-sort, insert-here, insert-later, rising-next, rising-tail}
 
@@ -23,7 +23,7 @@ module _ {A : Type 0} where
   select-sublist p [] = Sublistᴰ.slnil
   select-sublist p (x ∷ xs) = keep (p x) (select-sublist p xs)
     where
-      keep : (b : Bool) {ys zs : List A} → Sublistᴰ ys zs → Sublistᴰ (consIf b x ys) (x ∷ zs)
+      keep : (b : Bool) {ys zs : List A} → Sublistᴰ ys zs → Sublistᴰ (cons_if b x ys) (x ∷ zs)
       keep true s = Sublistᴰ.cons-cons refl s
       keep false s = Sublistᴰ.cons s
 
@@ -57,18 +57,18 @@ module _ {A : Type 0} where
   perm-four (w ∷ ws) xs ys zs = Permᴰ.cons refl (perm-four ws xs ys zs)
 
 module _ {A : Type 0} (lt : A → A → Bool) where
-  pub perm-insert : (x : A) (xs : List A) → Permᴰ (insertBy lt x xs) (x ∷ xs)
-  unfolding insertBy
+  pub perm-insert : (x : A) (xs : List A) → Permᴰ (insert_by lt x xs) (x ∷ xs)
+  unfolding insert_by
   perm-insert x [] = Permᴰ.refl (x ∷ [])
   perm-insert x (y ∷ ys) =
-      condCases (λ (zs : List A). Permᴰ zs (x ∷ y ∷ ys)) (lt x y)
+      cond_cases (λ (zs : List A). Permᴰ zs (x ∷ y ∷ ys)) (lt x y)
       (λ e. Permᴰ.refl (x ∷ y ∷ ys))
       (λ e. Permᴰ.trans (Permᴰ.cons refl (perm-insert x ys)) (Permᴰ.swap refl refl))
 
-  pub perm-sort : (xs : List A) → Permᴰ (sortBy lt xs) xs
-  unfolding sortBy
+  pub perm-sort : (xs : List A) → Permᴰ (sort_by lt xs) xs
+  unfolding sort_by
   perm-sort [] = Permᴰ.nil
-  perm-sort (x ∷ xs) = Permᴰ.trans (perm-insert x (sortBy lt xs)) (Permᴰ.cons refl (perm-sort xs))
+  perm-sort (x ∷ xs) = Permᴰ.trans (perm-insert x (sort_by lt xs)) (Permᴰ.cons refl (perm-sort xs))
 
   -- ---- no entry before an earlier one
 
@@ -104,8 +104,8 @@ module _ {A : Type 0} (lt : A → A → Bool) where
   module _ (P : A → Type 0) (o : StrictOrder P lt) where
     pub not-before-trans : (x y z : A) → P x → P y → P z → NotBefore x y → NotBefore y z → NotBefore x z
     not-before-trans x y z p q r f g =
-        byCases (lt z x)
-        (λ t. byCases (lt x y)
+        by_cases (lt z x)
+        (λ t. by_cases (lt x y)
         (λ u. both_ways (o.trans z x y r p q t u) g)
         (λ u. both_ways (ap (lt z) (sym (o.total x y p q u f)) ∙ t) g))
         (λ t. t)
@@ -122,11 +122,11 @@ module _ {A : Type 0} (lt : A → A → Bool) where
         let s = rising-sorted (y ∷ ys) h.1 (rising-tail lt x (y ∷ ys) r) in
         ((e, not-before-each x y ys h.0 h.1.0 h.1.1 e s.0), s)
 
-    pub sorted_insert : (x : A) (xs : List A) → P x → Each P xs → Sorted xs → Sorted (insertBy lt x xs)
-    unfolding insertBy
+    pub sorted_insert : (x : A) (xs : List A) → P x → Each P xs → Sorted xs → Sorted (insert_by lt x xs)
+    unfolding insert_by
     sorted_insert x [] p h s = (tt, tt)
     sorted_insert x (y ∷ ys) p h s =
-        condCases Sorted (lt x y)
+        cond_cases Sorted (lt x y)
         (λ e. let n = asym P lt o x y p h.0 e in ((n, not-before-each x y ys p h.0 h.1 n s.0), s))
         (λ e. (each-insert lt (NotBefore y) x ys e s.0, sorted_insert x ys p h.1 s.1))
 
@@ -139,42 +139,42 @@ module _ {A : Type 0} (lt : A → A → Bool) where
 
     -- x and y put in either order, where x comes before y
     module _ (x y : A) (p : P x) (q : P y) (e : lt x y ≡ true) where
-      in-front : (zs : List A) → insertBy lt x (insertBy lt y zs) ≡ x ∷ insertBy lt y zs → insertBy lt x zs ≡ x ∷ zs
-          → insertBy lt x (insertBy lt y zs) ≡ insertBy lt y (insertBy lt x zs)
-      in-front zs f g = f ∙ sym (insert-later lt y x zs (asym P lt o x y p q e)) ∙ ap (insertBy lt y) (sym g)
+      in-front : (zs : List A) → insert_by lt x (insert_by lt y zs) ≡ x ∷ insert_by lt y zs → insert_by lt x zs ≡ x ∷ zs
+          → insert_by lt x (insert_by lt y zs) ≡ insert_by lt y (insert_by lt x zs)
+      in-front zs f g = f ∙ sym (insert-later lt y x zs (asym P lt o x y p q e)) ∙ ap (insert_by lt y) (sym g)
 
-      insert-comm-before : (zs : List A) → Each P zs → insertBy lt x (insertBy lt y zs) ≡ insertBy lt y (insertBy lt x zs)
-      unfolding insertBy
+      insert-comm-before : (zs : List A) → Each P zs → insert_by lt x (insert_by lt y zs) ≡ insert_by lt y (insert_by lt x zs)
+      unfolding insert_by
       insert-comm-before [] h = in-front [] (insert-here lt x y [] e) refl
       insert-comm-before (z ∷ zs) h =
-          byCases (lt x z)
+          by_cases (lt x z)
           (λ t. in-front (z ∷ zs)
-          (condCases (λ (ws : List A). insertBy lt x ws ≡ x ∷ ws) (lt y z)
+          (cond_cases (λ (ws : List A). insert_by lt x ws ≡ x ∷ ws) (lt y z)
           (λ u. insert-here lt x y (z ∷ zs) e)
-          (λ u. insert-here lt x z (insertBy lt y zs) t))
+          (λ u. insert-here lt x z (insert_by lt y zs) t))
           (insert-here lt x z zs t))
           (λ f.
-          let g : lt y z ≡ false = byCases (lt y z) (λ u. both_ways (o.trans x y z p q h.0 e u) f) (λ u. u) in
-          ap (insertBy lt x) (insert-later lt y z zs g)
-          ∙ insert-later lt x z (insertBy lt y zs) f
+          let g : lt y z ≡ false = by_cases (lt y z) (λ u. both_ways (o.trans x y z p q h.0 e u) f) (λ u. u) in
+          ap (insert_by lt x) (insert-later lt y z zs g)
+          ∙ insert-later lt x z (insert_by lt y zs) f
           ∙ ap (λ (ws : List A). z ∷ ws) (insert-comm-before zs h.1)
-          ∙ sym (insert-later lt y z (insertBy lt x zs) g)
-          ∙ ap (insertBy lt y) (sym (insert-later lt x z zs f)))
+          ∙ sym (insert-later lt y z (insert_by lt x zs) g)
+          ∙ ap (insert_by lt y) (sym (insert-later lt x z zs f)))
 
-    pub insert_comm : (x y : A) → P x → P y → (zs : List A) → Each P zs → insertBy lt x (insertBy lt y zs) ≡ insertBy lt y (insertBy lt x zs)
+    pub insert_comm : (x y : A) → P x → P y → (zs : List A) → Each P zs → insert_by lt x (insert_by lt y zs) ≡ insert_by lt y (insert_by lt x zs)
     insert_comm x y p q zs h =
-        byCases (lt x y)
+        by_cases (lt x y)
         (λ t. insert-comm-before x y p q t zs h)
-        (λ f. byCases (lt y x)
+        (λ f. by_cases (lt y x)
         (λ t. sym (insert-comm-before y x q p t zs h))
         (λ g. let e = o.total x y p q f g in
-        ap (λ (w : A). insertBy lt x (insertBy lt w zs)) (sym e) ∙ ap (λ (w : A). insertBy lt w (insertBy lt x zs)) e))
+        ap (λ (w : A). insert_by lt x (insert_by lt w zs)) (sym e) ∙ ap (λ (w : A). insert_by lt w (insert_by lt x zs)) e))
 
-    insert-sorted : (x : A) (xs : List A) → P x → Each P xs → Each (NotBefore x) xs → insertBy lt x xs ≡ x ∷ xs
-    unfolding insertBy
+    insert-sorted : (x : A) (xs : List A) → P x → Each P xs → Each (NotBefore x) xs → insert_by lt x xs ≡ x ∷ xs
+    unfolding insert_by
     insert-sorted x [] p h f = refl
     insert-sorted x (y ∷ ys) p h f =
-        byCases (lt x y) (insert-here lt x y ys)
+        by_cases (lt x y) (insert-here lt x y ys)
         (λ g. let e = o.total x y p h.0 g f.0 in
         insert-later lt x y ys g
         ∙ ap (λ (zs : List A). y ∷ zs) (insert-sorted x ys p h.1 f.1)
@@ -183,21 +183,21 @@ module _ {A : Type 0} (lt : A → A → Bool) where
 
     -- ---- lists put in order
 
-    pub sort-perm : {xs ys : List A} → Permᴰ xs ys → Each P xs → sortBy lt xs ≡ sortBy lt ys
-    unfolding sortBy
+    pub sort-perm : {xs ys : List A} → Permᴰ xs ys → Each P xs → sort_by lt xs ≡ sort_by lt ys
+    unfolding sort_by
     sort-perm Permᴰ.nil h = refl
     sort-perm (Permᴰ.cons {b = y} {l₁ = xs} e m) h =
-        ap (λ (w : A). insertBy lt w (sortBy lt xs)) e ∙ ap (insertBy lt y) (sort-perm m h.1)
+        ap (λ (w : A). insert_by lt w (sort_by lt xs)) e ∙ ap (insert_by lt y) (sort-perm m h.1)
     sort-perm (Permᴰ.swap {a = x} {b = y} {a' = v} {l = xs} e f) h =
-        insert_comm x y h.0 h.1.0 (sortBy lt xs) (each-sort lt P xs h.1.1)
-        ∙ ap (λ (w : A). insertBy lt w (insertBy lt x (sortBy lt xs))) f
-        ∙ ap (λ (w : A). insertBy lt v (insertBy lt w (sortBy lt xs))) e
+        insert_comm x y h.0 h.1.0 (sort_by lt xs) (each-sort lt P xs h.1.1)
+        ∙ ap (λ (w : A). insert_by lt w (insert_by lt x (sort_by lt xs))) f
+        ∙ ap (λ (w : A). insert_by lt v (insert_by lt w (sort_by lt xs))) e
     sort-perm (Permᴰ.trans m n) h = sort-perm m h ∙ sort-perm n (each-perm P m h)
 
-    pub sort_sorted : (xs : List A) → Each P xs → Sorted xs → sortBy lt xs ≡ xs
-    unfolding sortBy
+    pub sort_sorted : (xs : List A) → Each P xs → Sorted xs → sort_by lt xs ≡ xs
+    unfolding sort_by
     sort_sorted [] h s = refl
-    sort_sorted (x ∷ xs) h s = ap (insertBy lt x) (sort_sorted xs h.1 s.1) ∙ insert-sorted x xs h.0 h.1 s.0
+    sort_sorted (x ∷ xs) h s = ap (insert_by lt x) (sort_sorted xs h.1 s.1) ∙ insert-sorted x xs h.0 h.1 s.0
 
     pub sorted_ext : {xs ys : List A} → Permᴰ xs ys → Each P xs → Sorted xs → Sorted ys → xs ≡ ys
     sorted_ext {xs} {ys} m h s r = sym (sort_sorted xs h s) ∙ sort-perm m h ∙ sort_sorted ys (each-perm P m h) r

@@ -8,12 +8,12 @@ use mathlib.Core.List.{List, [], ◌∷◌, ◌++◌, map, Memᴰ}
 use Rattle.std.proofs.Math.Nat.{suc_inj}
 use Rattle.std.proofs.Math.Dec.{leb-suc-zero}
 use Rattle.std.proofs.lemmas.List.{length-map}
-use Rattle.zorder.specs.Between.{RowCosts, rowCosts}
-use Rattle.model.specs.Basics.{Each, consIf, select, any, count, sortBy, insertBy, parts, numbersFrom}
+use Rattle.zorder.specs.Between.{RowCosts, row_costs}
+use Rattle.model.specs.Basics.{Each, cons_if, select, any, count, sort_by, insert_by, parts, numbers_from}
 use Rattle.model.specs.Moves.{Move, Row, row_of}
-use Rattle.model.specs.Dominance.{better, dominates, at, dominatesAt, dominatesOn}
-use Rattle.model.specs.Lists.{skyline, dominators, band, dominated, rankBefore, rank, onK, chosen}
-use Rattle.model.specs.Laws.Bool.{condCases}
+use Rattle.model.specs.Dominance.{better, dominates, at, dominates_at, dominates_on}
+use Rattle.model.specs.Lists.{skyline, dominators, band, dominated, rank_before, rank, on_k, chosen}
+use Rattle.model.specs.Laws.Bool.{cond_cases}
 use Rattle.model.specs.Laws.Basics.{each-mem, mem-each, select-ext, any-ext, select-mem, mem-select, count-cons}
 use Rattle.model.specs.Laws.Range.{length-numbers}
 use Rattle.model.specs.Laws.Sorting.{length-sort}
@@ -29,7 +29,7 @@ unfolding count select any
 count-zero p [] = refl
 count-zero p (x ∷ xs) = step (p x) (count-zero p xs)
   where
-    step : (b : Bool) → leb (count p xs) 0 ≡ not (any p xs) → leb (length (consIf b x (select p xs))) 0 ≡ not (b || any p xs)
+    step : (b : Bool) → leb (count p xs) 0 ≡ not (any p xs) → leb (length (cons_if b x (select p xs))) 0 ≡ not (b || any p xs)
     step true e = leb-suc-zero (count p xs)
     step false e = e
 
@@ -48,19 +48,19 @@ band-grows d b b' ms l {m} k =
 
 -- ---- chosen costs, and k of them
 
-at-numbers : (k n : ℕ) (p : List ℕ) → n + k ≤ length p → at (numbersFrom n k) p ≡ take k (drop n p)
-unfolding at numbersFrom
+at-numbers : (k n : ℕ) (p : List ℕ) → n + k ≤ length p → at (numbers_from n k) p ≡ take k (drop n p)
+unfolding at numbers_from
 at-numbers zero n p h = refl
 at-numbers (suc k) n p h =
     ap (λ (l : List ℕ). get_or p n 0 ∷ l) (at-numbers k (suc n) p (omega arith))
     ∙ ap (take (suc k)) (sym (drop-cons p n 0 (omega arith)))
 
-pub at_first : (d : ℕ) (p : List ℕ) → d ≤ length p → at (numbersFrom 0 d) p ≡ take d p
+pub at_first : (d : ℕ) (p : List ℕ) → d ≤ length p → at (numbers_from 0 d) p ≡ take d p
 at_first d p h = at-numbers d 0 p (omega arith)
 
 -- All of the first d costs.
-pub dominates-at-all : (d : ℕ) (p q : List ℕ) → d ≤ length p → d ≤ length q → dominatesAt (numbersFrom 0 d) p q ≡ dominates d p q
-unfolding dominatesAt dominates
+pub dominates-at-all : (d : ℕ) (p q : List ℕ) → d ≤ length p → d ≤ length q → dominates_at (numbers_from 0 d) p q ≡ dominates d p q
+unfolding dominates_at dominates
 dominates-at-all d p q h k = ap₂ better (at_first d p h) (at_first d q k)
 
 module _ {A : Type 0} where
@@ -78,11 +78,11 @@ module _ {A : Type 0} where
   parts_all (suc k) [] h = absurd (omega arith)
   parts_all (suc k) (x ∷ xs) h = ap₂ (λ (u v : List (List A)). map (λ ys. x ∷ ys) u ++ v) (parts_all k xs (suc_inj h)) (parts_none (suc k) xs (omega arith))
 
-pub dominates-on-all : (d : ℕ) (p q : List ℕ) → d ≤ length p → d ≤ length q → dominatesOn d d p q ≡ dominates d p q
-unfolding dominatesOn any
+pub dominates-on-all : (d : ℕ) (p q : List ℕ) → d ≤ length p → d ≤ length q → dominates_on d d p q ≡ dominates d p q
+unfolding dominates_on any
 dominates-on-all d p q h k =
-    ap (any (λ s. dominatesAt s p q)) (parts_all d (numbersFrom 0 d) (length-numbers d 0))
-    ∙ or-false (dominatesAt (numbersFrom 0 d) p q)
+    ap (any (λ s. dominates_at s p q)) (parts_all d (numbers_from 0 d) (length-numbers d 0))
+    ∙ or-false (dominates_at (numbers_from 0 d) p q)
     ∙ dominates-at-all d p q h k
 
 -- Two relations that agree on the moves of a board leave the same moves.
@@ -93,20 +93,20 @@ same_relation u v ms f =
     (mem-each (λ m. not (any (λ p. u p m) ms) ≡ not (any (λ p. v p m) ms)) ms
     (λ m k. ap not (any-ext (λ p. u p m) (λ p. v p m) ms (mem-each (λ p. u p m ≡ v p m) ms (λ p j. f p m j k)))))
 
-module _ (d : ℕ) (ms : List Move) (l : d ≤ rowCosts) (h : Each (λ m. RowCosts d m.costs) ms) where
+module _ (d : ℕ) (ms : List Move) (l : d ≤ row_costs) (h : Each (λ m. RowCosts d m.costs) ms) where
   enough : {m : Move} → Memᴰ m ms → d ≤ length m.costs
   enough k = omega (arith, (each-mem (λ m. RowCosts d m.costs) h k).count)
 
-  pub chosen-all : chosen (numbersFrom 0 d) ms ≡ undominated d ms
+  pub chosen-all : chosen (numbers_from 0 d) ms ≡ undominated d ms
   unfolding chosen undominated
   chosen-all =
-      same_relation (λ p m. dominatesAt (numbersFrom 0 d) p.costs m.costs) (λ p m. dominates d p.costs m.costs) ms
+      same_relation (λ p m. dominates_at (numbers_from 0 d) p.costs m.costs) (λ p m. dominates d p.costs m.costs) ms
       (λ p m j k. dominates-at-all d p.costs m.costs (enough j) (enough k))
 
-  pub on-all : onK d d ms ≡ undominated d ms
-  unfolding onK undominated
+  pub on-all : on_k d d ms ≡ undominated d ms
+  unfolding on_k undominated
   on-all =
-      same_relation (λ p m. dominatesOn d d p.costs m.costs) (λ p m. dominates d p.costs m.costs) ms
+      same_relation (λ p m. dominates_on d d p.costs m.costs) (λ p m. dominates d p.costs m.costs) ms
       (λ p m j k. dominates-on-all d p.costs m.costs (enough j) (enough k))
 
 -- ---- rank
@@ -122,24 +122,24 @@ swap-count false true n = refl
 swap-count false false n = refl
 
 module _ {A : Type 0} (lt : A → A → Bool) where
-  pub insert-rearranged : (x : A) (xs : List A) → Rearranged (insertBy lt x xs) (x ∷ xs)
-  unfolding insertBy
+  pub insert-rearranged : (x : A) (xs : List A) → Rearranged (insert_by lt x xs) (x ∷ xs)
+  unfolding insert_by
   insert-rearranged x [] p = refl
   insert-rearranged x (y ∷ ys) p =
-      condCases (λ (l : List A). count p l ≡ count p (x ∷ y ∷ ys)) (lt x y) (λ e. refl)
+      cond_cases (λ (l : List A). count p l ≡ count p (x ∷ y ∷ ys)) (lt x y) (λ e. refl)
       (λ e.
-      count-cons p y (insertBy lt x ys)
+      count-cons p y (insert_by lt x ys)
       ∙ ap (λ (n : ℕ). cond (p y) (suc n) n) (insert-rearranged x ys p ∙ count-cons p x ys)
       ∙ swap-count (p y) (p x) (count p ys)
       ∙ ap (λ (n : ℕ). cond (p x) (suc n) n) (sym (count-cons p y ys))
       ∙ sym (count-cons p x (y ∷ ys)))
 
-  pub sort-rearranged : (xs : List A) → Rearranged (sortBy lt xs) xs
-  unfolding sortBy
+  pub sort-rearranged : (xs : List A) → Rearranged (sort_by lt xs) xs
+  unfolding sort_by
   sort-rearranged [] p = refl
   sort-rearranged (x ∷ xs) p =
-      insert-rearranged x (sortBy lt xs) p
-      ∙ count-cons p x (sortBy lt xs)
+      insert-rearranged x (sort_by lt xs) p
+      ∙ count-cons p x (sort_by lt xs)
       ∙ ap (λ (n : ℕ). cond (p x) (suc n) n) (sort-rearranged xs p)
       ∙ sym (count-cons p x xs)
 
@@ -147,11 +147,11 @@ module _ {A : Type 0} (lt : A → A → Bool) where
 unfoldable pub counted : ℕ → List Move → List Row
 counted d ms = map (λ m. row_of (dominated d ms m) m) (skyline d ms)
 
-pub rank-all : (d t : ℕ) (ms : List Move) → length (skyline d ms) ≤ t → rank d t ms ≡ sortBy (rankBefore d) (counted d ms)
+pub rank-all : (d t : ℕ) (ms : List Move) → length (skyline d ms) ≤ t → rank d t ms ≡ sort_by (rank_before d) (counted d ms)
 unfolding rank counted
 rank-all d t ms h =
-    take_all t (sortBy (rankBefore d) (counted d ms))
-    (omega (arith, length-sort (rankBefore d) (counted d ms), length-map (skyline d ms) (λ m. row_of (dominated d ms m) m)))
+    take_all t (sort_by (rank_before d) (counted d ms))
+    (omega (arith, length-sort (rank_before d) (counted d ms), length-map (skyline d ms) (λ m. row_of (dominated d ms m) m)))
 
 pub rank-rearranged : (d t : ℕ) (ms : List Move) → length (skyline d ms) ≤ t → Rearranged (rank d t ms) (counted d ms)
-rank-rearranged d t ms h p = ap (count p) (rank-all d t ms h) ∙ sort-rearranged (rankBefore d) (counted d ms) p
+rank-rearranged d t ms h p = ap (count p) (rank-all d t ms h) ∙ sort-rearranged (rank_before d) (counted d ms) p

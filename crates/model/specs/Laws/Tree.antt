@@ -6,29 +6,29 @@ use mathlib.Core.List.{List, [], ◌∷◌, ◌++◌, flat_map, flatten, append_
 use Rattle.std.proofs.lemmas.Bool.{lt-leb}
 use Rattle.model.specs.Basics.{Each, all, within}
 use Rattle.model.specs.Moves.{Move, ordered}
-use Rattle.model.specs.Tree.{Entry, Tree, rooted, movesUnder, moves_of, filled, rootLeast, filledTree, ruled}
+use Rattle.model.specs.Tree.{Entry, Tree, rooted, moves_under, moves_of, filled, root_least, filled_tree, ruled}
 use Rattle.model.specs.Laws.Bool.{and_left, and_right, and_both, and-false-right}
 use Rattle.model.specs.Laws.Basics.{all-each, each_all, each_left, each_right}
 
 -- ---- lists put end to end
 
 module _ {A B : Type 0} (f : A → List B) where
-  pub flatMap-append : (xs ys : List A) → flat_map f (xs ++ ys) ≡ flat_map f xs ++ flat_map f ys
+  pub flat_map-append : (xs ys : List A) → flat_map f (xs ++ ys) ≡ flat_map f xs ++ flat_map f ys
   unfolding flat_map
-  flatMap-append [] ys = refl
-  flatMap-append (x ∷ xs) ys =
-      ap (λ (zs : List B). f x ++ zs) (flatMap-append xs ys) ∙ sym (append_assoc (f x) (flat_map f xs) (flat_map f ys))
+  flat_map-append [] ys = refl
+  flat_map-append (x ∷ xs) ys =
+      ap (λ (zs : List B). f x ++ zs) (flat_map-append xs ys) ∙ sym (append_assoc (f x) (flat_map f xs) (flat_map f ys))
 
-  pub flatMap-flatten : (gs : List (List A)) → flat_map f (flatten gs) ≡ flat_map (flat_map f) gs
+  pub flat_map-flatten : (gs : List (List A)) → flat_map f (flatten gs) ≡ flat_map (flat_map f) gs
   unfolding flat_map flatten
-  flatMap-flatten [] = refl
-  flatMap-flatten (xs ∷ gs) =
-      flatMap-append xs (flatten gs) ∙ ap (λ (zs : List B). flat_map f xs ++ zs) (flatMap-flatten gs)
+  flat_map-flatten [] = refl
+  flat_map-flatten (xs ∷ gs) =
+      flat_map-append xs (flatten gs) ∙ ap (λ (zs : List B). flat_map f xs ++ zs) (flat_map-flatten gs)
 
-  pub flatMap-two : (k : ℕ) (xs : List A) → flat_map f (take k xs) ++ (flat_map f (drop k xs) ++ []) ≡ flat_map f xs
-  flatMap-two k xs =
+  pub flat_map-two : (k : ℕ) (xs : List A) → flat_map f (take k xs) ++ (flat_map f (drop k xs) ++ []) ≡ flat_map f xs
+  flat_map-two k xs =
       ap (λ (zs : List B). flat_map f (take k xs) ++ zs) (append-nil (flat_map f (drop k xs)))
-      ∙ sym (flatMap-append (take k xs) (drop k xs))
+      ∙ sym (flat_map-append (take k xs) (drop k xs))
       ∙ ap (flat_map f) (take-append-drop k xs)
 
 module _ {A : Type 0} (P : A → Type 0) (k : ℕ) (xs : List A) where
@@ -82,27 +82,27 @@ module _ (h : ℕ) (es : List (Entry h)) where
   unfolding filled
   filled-full = test-full 3 h es
 
-  pub full-tree : Full (rootLeast h) h es → filledTree (rooted h es) ≡ true
-  unfolding filledTree
-  full-tree = full-test (rootLeast h) h es
+  pub full-tree : Full (root_least h) h es → filled_tree (rooted h es) ≡ true
+  unfolding filled_tree
+  full-tree = full-test (root_least h) h es
 
-  pub tree-full : filledTree (rooted h es) ≡ true → Full (rootLeast h) h es
-  unfolding filledTree
-  tree-full = test-full (rootLeast h) h es
+  pub tree-full : filled_tree (rooted h es) ≡ true → Full (root_least h) h es
+  unfolding filled_tree
+  tree-full = test-full (root_least h) h es
 
-pub rootLeast-range : (h : ℕ) → (0 < rootLeast h) × (rootLeast h ≤ 2)
-unfolding rootLeast
-rootLeast-range zero = omega arith
-rootLeast-range (suc h) = omega arith
+pub root_least-range : (h : ℕ) → (0 < root_least h) × (root_least h ≤ 2)
+unfolding root_least
+root_least-range zero = omega arith
+root_least-range (suc h) = omega arith
 
-pub moves-append : (h : ℕ) (es fs : List (Entry h)) → movesUnder (suc h) (es ++ fs) ≡ movesUnder (suc h) es ++ movesUnder (suc h) fs
-unfolding movesUnder
-moves-append h = flatMap-append (movesUnder h)
+pub moves-append : (h : ℕ) (es fs : List (Entry h)) → moves_under (suc h) (es ++ fs) ≡ moves_under (suc h) es ++ moves_under (suc h) fs
+unfolding moves_under
+moves-append h = flat_map-append (moves_under h)
 
 -- ---- leaves
 
-pub leaf-moves : (ms : List Move) → movesUnder 1 ms ≡ ms
-unfolding movesUnder flat_map
+pub leaf-moves : (ms : List Move) → moves_under 1 ms ≡ ms
+unfolding moves_under flat_map
 leaf-moves [] = refl
 leaf-moves (m ∷ ms) = ap (λ (ns : List Move). m ∷ ns) (leaf-moves ms)
 
@@ -112,24 +112,24 @@ leaf-filled [] = tt
 leaf-filled (m ∷ ms) = (refl, leaf-filled ms)
 
 -- A filled entry has moves under it.
-pub filled-some : (h : ℕ) (e : Entry h) → Filled h e → 0 < length (movesUnder h e)
-unfolding movesUnder flat_map
+pub filled-some : (h : ℕ) (e : Entry h) → Filled h e → 0 < length (moves_under h e)
+unfolding moves_under flat_map
 filled-some zero m f = omega arith
 filled-some (suc h) [] f = absurd (omega (arith, (filled-full h [] f).least))
 filled-some (suc h) (e ∷ es) f =
-    omega (arith, filled-some h e (filled-full h (e ∷ es) f).under.0, length-append (movesUnder h e) (flat_map (movesUnder h) es))
+    omega (arith, filled-some h e (filled-full h (e ∷ es) f).under.0, length-append (moves_under h e) (flat_map (moves_under h) es))
 
 -- ---- the two rules
 
 module _ (d : ℕ) (t : Tree) where
-  pub ruled-filled : ruled d t ≡ true → filledTree t ≡ true
+  pub ruled-filled : ruled d t ≡ true → filled_tree t ≡ true
   unfolding ruled
-  ruled-filled = and_left (filledTree t) (ordered d (moves_of t))
+  ruled-filled = and_left (filled_tree t) (ordered d (moves_of t))
 
   pub ruled-ordered : ruled d t ≡ true → ordered d (moves_of t) ≡ true
   unfolding ruled
-  ruled-ordered = and_right (filledTree t) (ordered d (moves_of t))
+  ruled-ordered = and_right (filled_tree t) (ordered d (moves_of t))
 
-  pub both-ruled : filledTree t ≡ true → ordered d (moves_of t) ≡ true → ruled d t ≡ true
+  pub both-ruled : filled_tree t ≡ true → ordered d (moves_of t) ≡ true → ruled d t ≡ true
   unfolding ruled
-  both-ruled = and_both (filledTree t) (ordered d (moves_of t))
+  both-ruled = and_both (filled_tree t) (ordered d (moves_of t))

@@ -7,13 +7,13 @@ use mathlib.Core.List.{List, [], ◌∷◌, map, Memᴰ}
 use Rattle.std.proofs.Common.{inl, inr, sym, ap, ◌∙◌, arith, ltb-true, ltb-false, eqb-true, ne_eqb}
 use Rattle.std.proofs.Math.Logic.{⊎_elim}
 use Rattle.model.specs.Basics.{any, distinct}
-use Rattle.model.specs.Moves.{Move, row_of, moveBefore, insert, left, entered}
-use Rattle.model.specs.Dominance.{equalCosts, lowerTwin, hides}
+use Rattle.model.specs.Moves.{Move, row_of, move_before, insert, left, entered}
+use Rattle.model.specs.Dominance.{equal_costs, lower_twin, hides}
 use Rattle.model.specs.Lists.{hidden, skyline}
 use Rattle.model.specs.Withdrawing.{without}
-use Rattle.model.specs.Calls.{Board, Change, enter, withdraw, changeRefusal, changed, changedMoves, list_of, changeNotice}
+use Rattle.model.specs.Calls.{Board, Change, enter, withdraw, change_refusal, changed, changed_moves, list_of, change_notice}
 use Rattle.model.specs.Sound.{SoundBoard}
-use Rattle.model.specs.Laws.Bool.{byCases, and_left, and_right, and-drop-left, or_cases, both_ways}
+use Rattle.model.specs.Laws.Bool.{by_cases, and_left, and_right, and-drop-left, or_cases, both_ways}
 use Rattle.model.specs.Laws.Basics.{Once, any-mem, any-witness}
 use Rattle.model.specs.Laws.Sorting.{insert-mem, mem-insert-new, mem-insert-old}
 use Rattle.model.specs.Laws.Order.{distinct-once, mem-number, off-board}
@@ -29,10 +29,10 @@ use Rattle.model.specs.Laws.Changes.{without-number, mem-without, distinct_witho
 -- Of the twins of x with a greater number, w has the least.
 pub record NextTwin (d : ℕ) (ms : List Move) (x w : Move) : Type 0 where
   pub there : Memᴰ w ms
-  pub twin : lowerTwin d x w ≡ true
-  pub next : (v : Move) → Memᴰ v ms → lowerTwin d x v ≡ true → w.number ≤ v.number
+  pub twin : lower_twin d x w ≡ true
+  pub next : (v : Move) → Memᴰ v ms → lower_twin d x v ≡ true → w.number ≤ v.number
 
-next-first : (d : ℕ) (ms : List Move) (x m : Move) → any (lowerTwin d x) ms ≡ false → lowerTwin d x m ≡ true → NextTwin d (m ∷ ms) x m
+next-first : (d : ℕ) (ms : List Move) (x m : Move) → any (lower_twin d x) ms ≡ false → lower_twin d x m ≡ true → NextTwin d (m ∷ ms) x m
 next-first d ms x m none t =
     record {
       there = Memᴰ.head refl;
@@ -40,20 +40,20 @@ next-first d ms x m none t =
       next = λ v k g.
           ⊎_elim
           (λ e. omega (arith, ap (λ (n : Move). n.number) e))
-          (λ j. both_ways (any-mem (lowerTwin d x) j g) none)
+          (λ j. both_ways (any-mem (lower_twin d x) j g) none)
           (Memᴰ.cases_cons k);
     }
 
 -- one move more: it is the next twin, or the other stays
 next_more : (d : ℕ) (ms : List Move) (x m w : Move) → NextTwin d ms x w → (u : Move) × NextTwin d (m ∷ ms) x u
 next_more d ms x m w h =
-    byCases (lowerTwin d x m && ltb m.number w.number)
+    by_cases (lower_twin d x m && ltb m.number w.number)
     (λ e.
-    let lower = ltb-true m.number w.number (and_right (lowerTwin d x m) (ltb m.number w.number) e) in (
+    let lower = ltb-true m.number w.number (and_right (lower_twin d x m) (ltb m.number w.number) e) in (
       m,
       record {
         there = Memᴰ.head refl;
-        twin = and_left (lowerTwin d x m) (ltb m.number w.number) e;
+        twin = and_left (lower_twin d x m) (ltb m.number w.number) e;
         next = λ v k g.
             ⊎_elim
             (λ s. omega (arith, ap (λ (n : Move). n.number) s))
@@ -69,7 +69,7 @@ next_more d ms x m w h =
         next = λ v k g.
             ⊎_elim
             (λ s.
-            let not_lower = and-drop-left (lowerTwin d x m) (ltb m.number w.number) (ap (lowerTwin d x) (sym s) ∙ g) e in
+            let not_lower = and-drop-left (lower_twin d x m) (ltb m.number w.number) (ap (lower_twin d x) (sym s) ∙ g) e in
             omega (arith, ap (λ (n : Move). n.number) s, ltb-false m.number w.number not_lower))
             (λ j. h.next v j g)
             (Memᴰ.cases_cons k);
@@ -77,13 +77,13 @@ next_more d ms x m w h =
     ))
 
 -- Where there is a twin of a greater number there is a next one.
-pub next-found : (d : ℕ) (ms : List Move) (x : Move) → any (lowerTwin d x) ms ≡ true → (w : Move) × NextTwin d ms x w
+pub next-found : (d : ℕ) (ms : List Move) (x : Move) → any (lower_twin d x) ms ≡ true → (w : Move) × NextTwin d ms x w
 unfolding any
 next-found d [] x e = absurd (false≢true e)
 next-found d (m ∷ ms) x e =
-    byCases (any (lowerTwin d x) ms)
+    by_cases (any (lower_twin d x) ms)
     (λ h. let f = next-found d ms x h in next_more d ms x m f.0 f.1)
-    (λ h. (m, next-first d ms x m h (or_cases (lowerTwin d x m) (any (lowerTwin d x) ms) e (λ t. t) (λ t. both_ways t h))))
+    (λ h. (m, next-first d ms x m h (or_cases (lower_twin d x m) (any (lower_twin d x) ms) e (λ t. t) (λ t. both_ways t h))))
 
 -- ---- a list of moves and the same with y
 
@@ -97,7 +97,7 @@ module _ (d : ℕ) (ms more : List Move) (y : Move) (o : OneMore ms more y) wher
   unhidden-more : (m : Move) → hidden d ms m ≡ false → hides d y m ≡ false → hidden d more m ≡ false
   unfolding hidden
   unhidden-more m e f =
-      byCases (hidden d more m)
+      by_cases (hidden d more m)
       (λ g.
       let v = any-witness (λ p. hides d p m) more g in
       ⊎_elim
@@ -109,14 +109,14 @@ module _ (d : ℕ) (ms more : List Move) (y : Move) (o : OneMore ms more y) wher
   unhidden-less : (m : Move) → hidden d more m ≡ false → hidden d ms m ≡ false
   unfolding hidden
   unhidden-less m e =
-      byCases (hidden d ms m)
+      by_cases (hidden d ms m)
       (λ g. let v = any-witness (λ p. hides d p m) ms g in both_ways (any-mem (λ p. hides d p m) (o.old v.0 v.1) v.2) e)
       (λ g. g)
 
   -- y is a twin of w, listed without y, and has a lower number: with it, y is listed in the place of w.
   module _ (same_number : (m n : Move) → Memᴰ m ms → Memᴰ n ms → m.number ≡ n.number → m ≡ n)
-      (w : Move) (listed : Memᴰ w (skyline d ms)) (twin : lowerTwin d y w ≡ true) where
-    twins : equalCosts d y.costs w.costs ≡ true
+      (w : Move) (listed : Memᴰ w (skyline d ms)) (twin : lower_twin d y w ≡ true) where
+    twins : equal_costs d y.costs w.costs ≡ true
     twins = twin-costs d y w twin
 
     on-board : Memᴰ w ms
@@ -126,7 +126,7 @@ module _ (d : ℕ) (ms more : List Move) (y : Move) (o : OneMore ms more y) wher
     y-unhidden : hidden d ms y ≡ false
     unfolding hidden
     y-unhidden =
-        byCases (hidden d ms y)
+        by_cases (hidden d ms y)
         (λ e.
         let v = any-witness (λ p. hides d p y) ms e in
         let t = twin-hider d ms listed v.0 y v.1 (equal-sym d y.costs w.costs twins) v.2 in
@@ -151,7 +151,7 @@ module _ (d : ℕ) (ms more : List Move) (y : Move) (o : OneMore ms more y) wher
           absent = higher-twin-unlisted d more y w o.new twin;
           only = λ m k f.
               let u = skyline-mem d ms k in
-              byCases (hides d y m) (hidden-only m k)
+              by_cases (hides d y m) (hidden-only m k)
               (λ e. absurd (f (mem-skyline d (o.old m u.0) (unhidden-more m u.1 e))));
         }
 
@@ -172,8 +172,8 @@ list-once d ms h = skyline-once d ms (distinct-once (λ m. m.number) ms h)
 
 -- A change by which a twin of a lower number is on the board: the listed move leaves.
 pub twin-leaves : (b : Board) (c : Change) (p x : Move) → Memᴰ x (list_of b) → Memᴰ p (changed b c).moves
-    → lowerTwin b.dimension p x ≡ true → Memᴰ (row_of left x) (changeNotice b c)
-unfolding changeNotice list_of changed
+    → lower_twin b.dimension p x ≡ true → Memᴰ (row_of left x) (change_notice b c)
+unfolding change_notice list_of changed
 twin-leaves b c p x k i t =
     (notice-left (list_of b) (list_of (changed b c)) x).1 (k, higher-twin-unlisted b.dimension (changed b c).moves p x i t)
 
@@ -188,8 +188,8 @@ module _ (b : Board) (s : SoundBoard b) (x : Move) (listed : Memᴰ x (list_of b
   same_number m n = mem-number (λ m. m.number) ms s.once
 
   -- A twin of a lower number that enters takes the place of the listed one, and no other row changes.
-  module _ (n block : ℕ) (costs : List ℕ) (passes : changeRefusal b (enter n block costs) ≡ 0)
-      (twin : lowerTwin d (record { number = n; costs = costs }) x ≡ true) where
+  module _ (n block : ℕ) (costs : List ℕ) (passes : change_refusal b (enter n block costs) ≡ 0)
+      (twin : lower_twin d (record { number = n; costs = costs }) x ≡ true) where
     abbrev y : Move
     y = record { number = n; costs = costs }
 
@@ -197,14 +197,14 @@ module _ (b : Board) (s : SoundBoard b) (x : Move) (listed : Memᴰ x (list_of b
     unfolding insert
     with-y =
         record {
-          new = mem-insert-new (moveBefore d) y ms;
+          new = mem-insert-new (move_before d) y ms;
           off = off-board y ms (enter-off b n block costs passes);
-          old = λ m. mem-insert-old (moveBefore d) y;
-          either = λ m. insert-mem (moveBefore d) y ms;
+          old = λ m. mem-insert-old (move_before d) y;
+          either = λ m. insert-mem (move_before d) y ms;
         }
 
-    pub lower-twin-enters : changeNotice b (enter n block costs) ≡ row_of left x ∷ row_of entered y ∷ []
-    unfolding changeNotice changed changedMoves list_of
+    pub lower-twin-enters : change_notice b (enter n block costs) ≡ row_of left x ∷ row_of entered y ∷ []
+    unfolding change_notice changed changed_moves list_of
     lower-twin-enters =
         two-rows (skyline d ms) (skyline d (insert d y ms)) x y
         (list-once d ms s.once) (list-once d (insert d y ms) (changed-distinct b (enter n block costs) s.once passes))
@@ -230,15 +230,15 @@ module _ (b : Board) (s : SoundBoard b) (x : Move) (listed : Memᴰ x (list_of b
           off = without_gone x ms;
           old = rest-mem;
           either = λ m k.
-              byCases (eqb m.number x.number)
+              by_cases (eqb m.number x.number)
               (λ e. inl (same_number m x k on-it (eqb-true m.number x.number e)))
               (λ e. inr (mem-without x.number k e));
         }
 
     -- another twin of x has no lower number than w
-    not-below : (v : Move) → Memᴰ v rest → equalCosts d v.costs x.costs ≡ true → x.number ≤ v.number → v.number < w.number → ⊥
+    not-below : (v : Move) → Memᴰ v rest → equal_costs d v.costs x.costs ≡ true → x.number ≤ v.number → v.number < w.number → ⊥
     not-below v k e l u =
-        byCases (ltb x.number v.number)
+        by_cases (ltb x.number v.number)
         (λ g.
         let twin = lower-twin d x v (equal-sym d v.costs x.costs e) (ltb-true x.number v.number g) in
         omega (arith, h.next v (rest-mem v k) twin, u))
@@ -250,7 +250,7 @@ module _ (b : Board) (s : SoundBoard b) (x : Move) (listed : Memᴰ x (list_of b
     unfolding hidden list_of
     next-listed =
         mem-skyline d (mem-without x.number h.there (ne_eqb w.number x.number (λ e. omega (arith, twin-number d x w h.twin))))
-        (byCases (hidden d rest w)
+        (by_cases (hidden d rest w)
         (λ g.
         let v = any-witness (λ p. hides d p w) rest g in
         let t = twin-hider d ms listed v.0 w (rest-mem v.0 v.1) (twin-costs d x w h.twin) v.2 in
@@ -260,8 +260,8 @@ module _ (b : Board) (s : SoundBoard b) (x : Move) (listed : Memᴰ x (list_of b
     rest-number : (m n : Move) → Memᴰ m rest → Memᴰ n rest → m.number ≡ n.number → m ≡ n
     rest-number m n j k = same_number m n (rest-mem m j) (rest-mem n k)
 
-    pub next-twin : changeNotice b (withdraw x.number) ≡ row_of left x ∷ row_of entered w ∷ []
-    unfolding changeNotice changed changedMoves list_of
+    pub next-twin : change_notice b (withdraw x.number) ≡ row_of left x ∷ row_of entered w ∷ []
+    unfolding change_notice changed changed_moves list_of
     next-twin =
         two-rows (skyline d ms) (skyline d rest) x w
         (list-once d ms s.once) (list-once d rest (distinct_without x.number ms s.once))

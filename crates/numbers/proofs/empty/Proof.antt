@@ -3,7 +3,7 @@ use Prim.Native.Nat.{ℕ, ◌/◌, ◌%◌, ◌^◌}
 use mathlib.Core.Path.{ap, ◌∙◌}
 use native.Mathlib.Nat.{zero-div}
 use lib.Dec.{eqb}
-use Rattle.zorder.specs.Laws.Between.{getD-zeros}
+use Rattle.zorder.specs.Laws.Between.{get_or-zeros}
 use Rattle.numbers.specs.Set.{in_set}
 use Rattle.numbers.proofs.empty.Statement.{statement}
 use Rattle.numbers.proofs.empty.Tie as tie
@@ -11,7 +11,7 @@ use Rattle.numbers.proofs.empty.Tie as tie
 returns : tie.Need-returns
 unfolding in_set
 returns c n =
-    ap (λ (w : ℕ). eqb (w / 2 ^ (n % 64) % 2) 1) (getD-zeros 64 (n / 64))
+    ap (λ (w : ℕ). eqb (w / 2 ^ (n % 64) % 2) 1) (get_or-zeros 64 (n / 64))
     ∙ ap (λ (w : ℕ). eqb (w % 2) 1) (zero-div (2 ^ (n % 64)))
 
 pub empty-spec : {M : Type 1} → statement M

@@ -8,15 +8,15 @@ use native.Mathlib.Omega.{arith}
 use Rattle.std.proofs.lemmas.Bool.{not-false}
 use Rattle.std.proofs.Math.Dec.{leb}
 use Rattle.std.proofs.Math.ListN.{length-map}
-use Rattle.zorder.specs.Address.{rowCosts}
+use Rattle.zorder.specs.Address.{row_costs}
 use Rattle.zorder.specs.Laws.Address.{Costs}
-use Rattle.zorder.specs.Refusal.{refusal, costPastBad}
+use Rattle.zorder.specs.Refusal.{refusal, cost_past_bad}
 use Rattle.model.specs.Basics.{distinct}
 use Rattle.model.specs.Moves as model
 use Rattle.model.specs.Moves.{insert}
 use Rattle.model.specs.Withdrawing.{without}
 use Rattle.model.specs.Calls as calls
-use Rattle.model.specs.Calls.{blockBad, onBoard, changeRefusal, changedMoves}
+use Rattle.model.specs.Calls.{block_bad, on_board, change_refusal, changed_moves}
 use Rattle.model.specs.Sound.{Fit}
 use Rattle.model.specs.Laws.Bool.{both_ways}
 use Rattle.model.specs.Laws.Basics.{each-mono}
@@ -25,20 +25,20 @@ use Rattle.model.specs.Laws.Numbers.{distinct-length}
 use Rattle.zorder.specs.Laws.Refusal.{first_passes, rest-passes}
 use Rattle.model.specs.Laws.Changes.{off-without}
 use Rattle.model.specs.Laws.Blocks.{block-most}
-use Rattle.line.specs.Line.{movesIn}
-use Rattle.promises.specs.Layout.{number_in, costsIn, lineFrom, boardIn}
+use Rattle.line.specs.Line.{moves_in}
+use Rattle.promises.specs.Layout.{number_in, costs_in, line_from, board_in}
 use Rattle.promises.specs.Run.{Bytes}
-use Rattle.dominance.specs.Move.{asMove}
+use Rattle.dominance.specs.Move.{as_move}
 use Rattle.dominance.specs.declared.Move.{Move}
 use Rattle.memory.specs.Held.{SoundRows}
 use Rattle.memory.specs.Laws.Lines.{length-line}
 use Rattle.memory.specs.Laws.Held.{held-fit, held-distinct}
 use Rattle.tree.specs.Withdraw.{PlaceOf}
-use Rattle.upkeep.specs.Change.{drop_at, movesAfter, UpkeptRows}
+use Rattle.upkeep.specs.Change.{drop_at, moves_after, UpkeptRows}
 use Rattle.upkeep.specs.Laws.Change.{rest-without}
 use Rattle.upkeep.specs.declared.exchange.Exchange.{Exchange}
 use Rattle.upkeep.specs.declared.exchange.Upkeep.{Upkeep}
-use Rattle.planning.specs.Kind.{changeOf, comes}
+use Rattle.planning.specs.Kind.{change_of, comes}
 use Rattle.planning.specs.Plan.{ReadyRows, PreparedFor}
 use Rattle.planning.specs.declared.change.Kind.{Kind}
 use Rattle.planning.specs.declared.change.Kind.TheVariants.{Enter, Withdraw, Recost}
@@ -47,56 +47,56 @@ use Rattle.planning.specs.Laws.Places.{entering-moves}
 
 -- The four checks, none of which turns the change down.
 all_pass : (b : calls.Board) (number block : ℕ) (costs : List ℕ) (t : Bool) (k : ℕ)
-    → refusal ((leb b.size number, 4) ∷ (blockBad block, 11) ∷ (costPastBad b.dimension costs, 7) ∷ (t, suc k) ∷ []) ≡ 0
-    → (leb b.size number ≡ false) × (costPastBad b.dimension costs ≡ false) × (t ≡ false) × (blockBad block ≡ false)
+    → refusal ((leb b.size number, 4) ∷ (block_bad block, 11) ∷ (cost_past_bad b.dimension costs, 7) ∷ (t, suc k) ∷ []) ≡ 0
+    → (leb b.size number ≡ false) × (cost_past_bad b.dimension costs ≡ false) × (t ≡ false) × (block_bad block ≡ false)
 all_pass b number block costs t k h =
     let large = leb b.size number in
-    let past = costPastBad b.dimension costs in
+    let past = cost_past_bad b.dimension costs in
     let high = rest-passes large 3 _ h in
-    let rest = rest-passes (blockBad block) 10 _ high in
-    (first_passes large 3 _ h, first_passes past 6 _ rest, first_passes t k [] (rest-passes past 6 _ rest), first_passes (blockBad block) 10 _ high)
+    let rest = rest-passes (block_bad block) 10 _ high in
+    (first_passes large 3 _ h, first_passes past 6 _ rest, first_passes t k [] (rest-passes past 6 _ rest), first_passes (block_bad block) 10 _ high)
 
 module _ {c d n : ℕ} {m : List ℕ} (s : SoundRows c d n m) where
   abbrev ms : List model.Move
-  ms = movesIn (lineFrom c d n m)
+  ms = moves_in (line_from c d n m)
 
-  move-fits : (x : Move) → Costs rowCosts x.costs → leb (boardIn m).size x.number ≡ false → costPastBad (boardIn m).dimension x.costs ≡ false → Fit c d (asMove x)
+  move-fits : (x : Move) → Costs row_costs x.costs → leb (board_in m).size x.number ≡ false → cost_past_bad (board_in m).dimension x.costs ≡ false → Fit c d (as_move x)
   move-fits x w e f =
       record {
         number = leb-false c x.number (sym (judge-size c d n m s x.number) ∙ e);
         costs = record { count = w.count; small = w.small; past = sym (judge-past c d n m s x.costs) ∙ f };
       }
 
-  found-place : (number p : ℕ) → PlaceOf c n number m p → not (onBoard number (boardIn m).moves) ≡ false → p < n
-  found-place number p e h = ltb-true p n (sym (on-board c d n m s number p e) ∙ not-false (onBoard number (boardIn m).moves) h)
+  found-place : (number p : ℕ) → PlaceOf c n number m p → not (on_board number (board_in m).moves) ≡ false → p < n
+  found-place number p e h = ltb-true p n (sym (on-board c d n m s number p e) ∙ not-false (on_board number (board_in m).moves) h)
 
 -- ---- enter
 
-module _ {c d n : ℕ} {m : List ℕ} (s : SoundRows c d n m) (b : Bytes m) (x : Move) (block : ℕ) (w : Costs rowCosts x.costs) where
+module _ {c d n : ℕ} {m : List ℕ} (s : SoundRows c d n m) (b : Bytes m) (x : Move) (block : ℕ) (w : Costs row_costs x.costs) where
   abbrev coming : Exchange
   coming = record { goes = n; comes = true; coming = x }
 
-  module _ (ok : changeRefusal (boardIn m) (calls.enter x.number block x.costs) ≡ 0) where
-    enter-checks : (leb (boardIn m).size x.number ≡ false) × (costPastBad (boardIn m).dimension x.costs ≡ false) × (onBoard x.number (boardIn m).moves ≡ false) × (blockBad block ≡ false)
-    unfolding changeRefusal
-    enter-checks = all_pass (boardIn m) x.number block x.costs (onBoard x.number (boardIn m).moves) 4 ok
+  module _ (ok : change_refusal (board_in m) (calls.enter x.number block x.costs) ≡ 0) where
+    enter-checks : (leb (board_in m).size x.number ≡ false) × (cost_past_bad (board_in m).dimension x.costs ≡ false) × (on_board x.number (board_in m).moves ≡ false) × (block_bad block ≡ false)
+    unfolding change_refusal
+    enter-checks = all_pass (board_in m) x.number block x.costs (on_board x.number (board_in m).moves) 4 ok
 
-    enter-fit : Fit c d (asMove x)
+    enter-fit : Fit c d (as_move x)
     enter-fit = move-fits s x w enter-checks.0 enter-checks.1
 
-    enter-off : onBoard x.number (ms s) ≡ false
-    enter-off = ap (onBoard x.number) (sym (board-moves c d n m s)) ∙ enter-checks.2
+    enter-off : on_board x.number (ms s) ≡ false
+    enter-off = ap (on_board x.number) (sym (board-moves c d n m s)) ∙ enter-checks.2
 
     -- The numbers on the board and the new one are different, and below c.
     enter-space : n < c
-    unfolding distinct movesIn
+    unfolding distinct moves_in
     enter-space =
         let once = ap₂ (λ (p q : Bool). not p && q) (has-numbers x.number (ms s) ∙ enter-off) (held-distinct c d n m s b) in
         let below = each-mono (Fit c d) (λ y. y.number < c) (ms s) (λ y f. f.number) (held-fit c d n m s b) in
         omega (
           arith,
-          distinct-length (λ (y : model.Move). y.number) c (asMove x ∷ ms s) once (enter-fit.number, below),
-          length-map (lineFrom c d n m) (λ r. r.move),
+          distinct-length (λ (y : model.Move). y.number) c (as_move x ∷ ms s) once (enter-fit.number, below),
+          length-map (line_from c d n m) (λ r. r.move),
           length-line c d n m,
         )
 
@@ -108,7 +108,7 @@ module _ {c d n : ℕ} {m : List ℕ} (s : SoundRows c d n m) (b : Bytes m) (x :
                 sound = s;
                 goes = omega arith;
                 fit = λ _. enter-fit;
-                new = λ _. ap (onBoard x.number) (entering-moves c d n m) ∙ enter-off;
+                new = λ _. ap (on_board x.number) (entering-moves c d n m) ∙ enter-off;
               };
           space = λ _ _. enter-space;
           number = λ _ l. absurd (omega arith);
@@ -121,12 +121,12 @@ module _ {c d n number p : ℕ} {m : List ℕ} (s : SoundRows c d n m) (b : Byte
   abbrev leaving : Exchange
   leaving = record { goes = p; comes = false; coming = none }
 
-  module _ (ok : changeRefusal (boardIn m) (calls.withdraw number) ≡ 0) where
+  module _ (ok : change_refusal (board_in m) (calls.withdraw number) ≡ 0) where
     withdraw-place : p < n
-    unfolding changeRefusal
+    unfolding change_refusal
     withdraw-place =
-        let large = leb (boardIn m).size number in
-        found-place s number p e (first_passes (not (onBoard number (boardIn m).moves)) 5 [] (rest-passes large 3 _ ok))
+        let large = leb (board_in m).size number in
+        found-place s number p e (first_passes (not (on_board number (board_in m).moves)) 5 [] (rest-passes large 3 _ ok))
 
     withdraw-ready : ReadyRows c d n leaving m
     withdraw-ready =
@@ -139,19 +139,19 @@ module _ {c d n number p : ℕ} {m : List ℕ} (s : SoundRows c d n m) (b : Byte
 
 -- ---- re-cost
 
-pub recost-on : (b : calls.Board) (number block : ℕ) (costs : List ℕ) → changeRefusal b (calls.recost number block costs) ≡ 0 → onBoard number b.moves ≡ true
-unfolding changeRefusal
+pub recost-on : (b : calls.Board) (number block : ℕ) (costs : List ℕ) → change_refusal b (calls.recost number block costs) ≡ 0 → on_board number b.moves ≡ true
+unfolding change_refusal
 recost-on b number block costs ok =
-    not-false (onBoard number b.moves) (all_pass b number block costs (not (onBoard number b.moves)) 5 ok).2
+    not-false (on_board number b.moves) (all_pass b number block costs (not (on_board number b.moves)) 5 ok).2
 
-module _ {c d n p : ℕ} {m : List ℕ} (s : SoundRows c d n m) (b : Bytes m) (x : Move) (block : ℕ) (w : Costs rowCosts x.costs) (e : PlaceOf c n x.number m p) where
+module _ {c d n p : ℕ} {m : List ℕ} (s : SoundRows c d n m) (b : Bytes m) (x : Move) (block : ℕ) (w : Costs row_costs x.costs) (e : PlaceOf c n x.number m p) where
   abbrev moving : Exchange
   moving = record { goes = p; comes = true; coming = x }
 
-  module _ (ok : changeRefusal (boardIn m) (calls.recost x.number block x.costs) ≡ 0) where
-    recost-checks : (leb (boardIn m).size x.number ≡ false) × (costPastBad (boardIn m).dimension x.costs ≡ false) × (not (onBoard x.number (boardIn m).moves) ≡ false) × (blockBad block ≡ false)
-    unfolding changeRefusal
-    recost-checks = all_pass (boardIn m) x.number block x.costs (not (onBoard x.number (boardIn m).moves)) 5 ok
+  module _ (ok : change_refusal (board_in m) (calls.recost x.number block x.costs) ≡ 0) where
+    recost-checks : (leb (board_in m).size x.number ≡ false) × (cost_past_bad (board_in m).dimension x.costs ≡ false) × (not (on_board x.number (board_in m).moves) ≡ false) × (block_bad block ≡ false)
+    unfolding change_refusal
+    recost-checks = all_pass (board_in m) x.number block x.costs (not (on_board x.number (board_in m).moves)) 5 ok
 
     pub recost-place : p < n
     recost-place = found-place s x.number p e recost-checks.2
@@ -167,7 +167,7 @@ module _ {c d n p : ℕ} {m : List ℕ} (s : SoundRows c d n m) (b : Bytes m) (x
                 sound = s;
                 goes = e.within;
                 fit = λ _. move-fits s x w recost-checks.0 recost-checks.1;
-                new = λ _. ap (onBoard x.number) recost-rest ∙ off-without x.number (ms s);
+                new = λ _. ap (on_board x.number) recost-rest ∙ off-without x.number (ms s);
               };
           space = λ _ l. absurd (omega (arith, recost-place));
           number = λ _ _. e.found recost-place;
@@ -176,38 +176,38 @@ module _ {c d n p : ℕ} {m : List ℕ} (s : SoundRows c d n m) (b : Bytes m) (x
 
 -- ---- each kind of change
 
-module _ {c d n p : ℕ} {m : List ℕ} (s : SoundRows c d n m) (b : Bytes m) (x : Move) (block : ℕ) (w : Costs rowCosts x.costs) (e : PlaceOf c n x.number m p) where
+module _ {c d n p : ℕ} {m : List ℕ} (s : SoundRows c d n m) (b : Bytes m) (x : Move) (block : ℕ) (w : Costs row_costs x.costs) (e : PlaceOf c n x.number m p) where
   -- A number that is not on the board has the place past the last.
-  pub enter-last : changeRefusal (boardIn m) (calls.enter x.number block x.costs) ≡ 0 → p ≡ n
+  pub enter-last : change_refusal (board_in m) (calls.enter x.number block x.costs) ≡ 0 → p ≡ n
   enter-last ok =
       omega (arith, e.within, ltb-false p n (sym (on-board c d n m s x.number p e) ∙ (enter-checks s b x block w ok).2))
 
   abbrev change : Kind → Exchange
   change kind = record { goes = p; comes = comes kind; coming = x }
 
-  pub kind-ready : (kind : Kind) → changeRefusal (boardIn m) (changeOf kind x.number block x.costs) ≡ 0 → ReadyRows c d n (change kind) m
-  unfolding changeOf comes
+  pub kind-ready : (kind : Kind) → change_refusal (board_in m) (change_of kind x.number block x.costs) ≡ 0 → ReadyRows c d n (change kind) m
+  unfolding change_of comes
   kind-ready Enter ok =
       subst (λ (g : ℕ). ReadyRows c d n (record { goes = g; comes = true; coming = x }) m) (sym (enter-last ok)) (enter-ready s b x block w ok)
   kind-ready Withdraw ok = withdraw-ready s b x e ok
   kind-ready Recost ok = recost-ready s b x block w e ok
 
   -- The moves that it leaves.
-  pub kind-moves : (kind : Kind) → changeRefusal (boardIn m) (changeOf kind x.number block x.costs) ≡ 0
-      → movesAfter d (change kind) (movesIn (lineFrom c d n m)) ≡ changedMoves d (changeOf kind x.number block x.costs) (movesIn (lineFrom c d n m))
-  unfolding changeOf comes movesAfter changedMoves
-  kind-moves Enter ok = ap (insert d (asMove x)) (ap (λ (g : ℕ). drop_at g (ms s)) (enter-last ok) ∙ entering-moves c d n m)
+  pub kind-moves : (kind : Kind) → change_refusal (board_in m) (change_of kind x.number block x.costs) ≡ 0
+      → moves_after d (change kind) (moves_in (line_from c d n m)) ≡ changed_moves d (change_of kind x.number block x.costs) (moves_in (line_from c d n m))
+  unfolding change_of comes moves_after changed_moves
+  kind-moves Enter ok = ap (insert d (as_move x)) (ap (λ (g : ℕ). drop_at g (ms s)) (enter-last ok) ∙ entering-moves c d n m)
   kind-moves Withdraw ok =
       let l = withdraw-place s b x e ok in
       rest-without c d n p m s b l ∙ ap (λ (k : ℕ). without k (ms s)) (e.found l)
-  kind-moves Recost ok = ap (insert d (asMove x)) (recost-rest s b x block w e ok)
+  kind-moves Recost ok = ap (insert d (as_move x)) (recost-rest s b x block w e ok)
 
   -- What making its moves asks.
-  pub kind-prepared : (kind : Kind) {u : Upkeep} → changeRefusal (boardIn m) (changeOf kind x.number block x.costs) ≡ 0
-      → (comes kind ≡ true → p < n → costsIn c d m (number_in c m p) ≡ x.costs → ⊥)
+  pub kind-prepared : (kind : Kind) {u : Upkeep} → change_refusal (board_in m) (change_of kind x.number block x.costs) ≡ 0
+      → (comes kind ≡ true → p < n → costs_in c d m (number_in c m p) ≡ x.costs → ⊥)
       → UpkeptRows c d n (change kind) m u
       → PreparedFor kind (record { size = c; dimension = d; count = n }) (record { kind = kind; number = x.number; block = block; costs = x.costs }) p u m
-  unfolding changeOf comes PreparedFor
+  unfolding change_of comes PreparedFor
   kind-prepared Enter {u} ok other up =
       let ready = enter-ready s b x block w ok in
       record {
@@ -225,8 +225,8 @@ module _ {c d n p : ℕ} {m : List ℕ} (s : SoundRows c d n m) (b : Bytes m) (x
       record { asked = ready.asked; place = l; number = e.found l; other = other refl l; upkept = up }
 
   -- The block that an accepted change gives.
-  pub kind-block : (kind : Kind) → comes kind ≡ true → changeRefusal (boardIn m) (changeOf kind x.number block x.costs) ≡ 0 → (x.number < c) × (block ≤ 63)
-  unfolding changeOf comes
+  pub kind-block : (kind : Kind) → comes kind ≡ true → change_refusal (board_in m) (change_of kind x.number block x.costs) ≡ 0 → (x.number < c) × (block ≤ 63)
+  unfolding change_of comes
   kind-block Enter _ ok =
       let h = enter-checks s b x block w ok in
       (leb-false c x.number (sym (judge-size c d n m s x.number) ∙ h.0), block-most block h.3)

@@ -6,19 +6,19 @@ use Rattle.std.proofs.Common.{ap₂, ◌∙◌, subst}
 use native.Mathlib.Omega.{arith}
 use borrow.Author.Tests.{ltb-true, lt-ltb, le-ltb}
 use Rattle.std.proofs.Math.ListN.{length}
-use Rattle.zorder.specs.Address.{rowCosts}
+use Rattle.zorder.specs.Address.{row_costs}
 use Rattle.zorder.specs.Laws.Address.{Costs}
 use Rattle.model.specs.Basics.{equal}
 use Rattle.model.specs.Calls as calls
-use Rattle.model.specs.Calls.{accepted, refusedWith, rowsAnswer, changeRefusal, changeNotice, keepsMoves, onBoard}
-use Rattle.model.specs.Withdrawing.{costsOn, unchanged}
+use Rattle.model.specs.Calls.{accepted, refused_with, rows_answer, change_refusal, change_notice, keeps_moves, on_board}
+use Rattle.model.specs.Withdrawing.{costs_on, unchanged}
 use Rattle.model.specs.Tree.{Tree}
-use Rattle.model.specs.Opening.{withdrawOpens, changeOpens}
+use Rattle.model.specs.Opening.{withdraw_opens, change_opens}
 use Rattle.model.specs.Laws.Bool.{both_ways, and_left, and_right}
 use Rattle.model.specs.Laws.Basics.{equal-refl}
-use Rattle.promises.specs.Layout.{sizeIn, dimensionIn, number_in, costsIn, boardIn}
+use Rattle.promises.specs.Layout.{size_in, dimension_in, number_in, costs_in, board_in}
 use Rattle.promises.specs.Sound.{Stands, Sound}
-use Rattle.promises.specs.Answers.{answer_of, number_of, counted, refusedBy, outcomeNumber}
+use Rattle.promises.specs.Answers.{answer_of, number_of, counted, refused_by, outcome_number}
 use Rattle.promises.specs.Run.{Bytes}
 use Rattle.promises.specs.Laws.Answers.{counted-zero}
 use Rattle.promises.specs.declared.Verdict.{Verdict}
@@ -33,12 +33,12 @@ use Rattle.upkeep.specs.declared.exchange.Upkeep.{Upkeep}
 use Rattle.rows.specs.Planned.{Foreseen, Tells}
 use Rattle.rows.specs.Laws.Planned.{foreseen-unsound, foreseen-refused, foreseen-judged, few-refuses, counted-all, counted_none}
 use Rattle.rows.specs.declared.telling.Telling.{Telling}
-use Rattle.planning.specs.Kind.{changeOf, call_of, comes, comingOf, exchangeOf}
-use Rattle.planning.specs.Change.{Other, neededRows, Made}
+use Rattle.planning.specs.Kind.{change_of, call_of, comes, coming_of, exchange_of}
+use Rattle.planning.specs.Change.{Other, needed_rows, Made}
 use Rattle.planning.specs.Plan.{alike, ReadyRows, Giveable, Planned, KeepsMoves}
 use Rattle.planning.specs.Laws.Judge.{board-moves}
 use Rattle.planning.specs.Laws.Places.{costs-board}
-use Rattle.planning.specs.Laws.Notice.{leftRows, enteredRows, rows_left, rows-entered, count_left, count-entered, rows-notice, rows-needed}
+use Rattle.planning.specs.Laws.Notice.{left_rows, entered_rows, rows_left, rows-entered, count_left, count-entered, rows-notice, rows-needed}
 use Rattle.planning.specs.Laws.Calls.{not-refused, call-notice}
 use Rattle.planning.specs.Laws.Accepted.{enter-last, recost-on, recost-place, kind-ready, kind-moves, kind-prepared, kind-block}
 use Rattle.planning.specs.Laws.Unchanged.{no-notice, same-made}
@@ -61,26 +61,26 @@ counted-parts zero a n lent h few = omega arith
 counted-parts (suc k) a n lent h few = omega arith
 
 -- Where no row is needed 8 does not arise.
-none_needed : (o : Outcome) (need lent : ℕ) → outcomeNumber o ≡ 0 → need ≡ 0 → answer_of (refusedBy o 0) ≡ rowsAnswer need lent
-unfolding rowsAnswer accepted
+none_needed : (o : Outcome) (need lent : ℕ) → outcome_number o ≡ 0 → need ≡ 0 → answer_of (refused_by o 0) ≡ rows_answer need lent
+unfolding rows_answer accepted
 none_needed o need lent z e =
     (λ i. record { number = z i; detail = 0 })
     ∙ sym (ap (λ (b : Bool). cond b (record { number = 8; detail = need }) accepted) (le-ltb lent need (omega (arith, e))))
 
 module _ {h : Head} {x : Change} {o : Outcome} {m : List ℕ} {lent : ℕ} {p : ChangePlan} (e : KeepsMoves h x o p) where
   keeps-planned :
-      Foreseen (refusedWith (changeRefusal (boardIn m) (call_of x))) (changeNotice (boardIn m) (call_of x)) (changeOpens (dimensionIn m) (call_of x)) m lent (refusedBy o 0) p.need p.opened
-      → (outcomeNumber o ≡ 0 → [] ≡ changeNotice (boardIn m) (call_of x))
-      → (outcomeNumber o ≡ 0 → h.size ≡ sizeIn m)
-      → (outcomeNumber o ≡ 0 → Made (call_of x) m m)
-      → (outcomeNumber o ≡ 0 → comes x.kind ≡ true → Giveable h.size x m)
+      Foreseen (refused_with (change_refusal (board_in m) (call_of x))) (change_notice (board_in m) (call_of x)) (change_opens (dimension_in m) (call_of x)) m lent (refused_by o 0) p.need p.opened
+      → (outcome_number o ≡ 0 → [] ≡ change_notice (board_in m) (call_of x))
+      → (outcome_number o ≡ 0 → h.size ≡ size_in m)
+      → (outcome_number o ≡ 0 → Made (call_of x) m m)
+      → (outcome_number o ≡ 0 → comes x.kind ≡ true → Giveable h.size x m)
       → Planned x m lent p
   keeps-planned f none size idle block =
-      let number : number_of p.verdict ≡ outcomeNumber o = ap (λ (v : Verdict). number_of v) e.verdict in
+      let number : number_of p.verdict ≡ outcome_number o = ap (λ (v : Verdict). number_of v) e.verdict in
       let zero_left = counted-zero (number_of p.verdict) p.upkeep.left e.none in
       let zero-entered = counted-zero (number_of p.verdict) (p.need - p.upkeep.left) (omega (arith, e.need)) in
       record {
-        foreseen = subst (λ (v : Verdict). Foreseen (refusedWith (changeRefusal (boardIn m) (call_of x))) (changeNotice (boardIn m) (call_of x)) (changeOpens (dimensionIn m) (call_of x)) m lent v p.need p.opened) (sym e.verdict) f;
+        foreseen = subst (λ (v : Verdict). Foreseen (refused_with (change_refusal (board_in m) (call_of x))) (change_notice (board_in m) (call_of x)) (change_opens (dimension_in m) (call_of x)) m lent v p.need p.opened) (sym e.verdict) f;
         lefts = [];
         entereds = [];
         notice = λ z. none (sym number ∙ z);
@@ -103,72 +103,72 @@ module _ {h : Head} {x : Change} {o : Outcome} {m : List ℕ} {lent : ℕ} {p : 
       }
 
 pub plan-unsound : {h : Head} {x : Change} {m : List ℕ} {lent : ℕ} {p : ChangePlan} → (Sound m → ⊥) → KeepsMoves h x Unsound p → Planned x m lent p
-unfolding outcomeNumber
+unfolding outcome_number
 plan-unsound {m = m} {lent} bad e =
     keeps-planned e (foreseen-unsound _ _ _ m lent _ _ bad) (λ z. absurd (omega arith)) (λ z. absurd (omega arith)) (λ z. absurd (omega arith)) (λ z. absurd (omega arith))
 
 -- ---- the plan on sound memory
 
-pub plan-refused : {c d n : ℕ} {m : List ℕ} → SoundRows c d n m → {x : Change} {o : Outcome} → outcomeNumber o ≡ changeRefusal (boardIn m) (call_of x) → {lent : ℕ} {p : ChangePlan}
-    → 0 < outcomeNumber o → KeepsMoves (record { size = c; dimension = d; count = n }) x o p → Planned x m lent p
-unfolding refusedWith
+pub plan-refused : {c d n : ℕ} {m : List ℕ} → SoundRows c d n m → {x : Change} {o : Outcome} → outcome_number o ≡ change_refusal (board_in m) (call_of x) → {lent : ℕ} {p : ChangePlan}
+    → 0 < outcome_number o → KeepsMoves (record { size = c; dimension = d; count = n }) x o p → Planned x m lent p
+unfolding refused_with
 plan-refused {m = m} s {o = o} judged {lent} h k =
-    keeps-planned k (foreseen-refused _ _ _ m lent _ _ s.sound (refusedBy o 0) (ap refusedWith judged) h)
+    keeps-planned k (foreseen-refused _ _ _ m lent _ _ s.sound (refused_by o 0) (ap refused_with judged) h)
     (λ z. absurd (omega arith)) (λ z. absurd (omega arith)) (λ z. absurd (omega arith)) (λ z. absurd (omega arith))
 
-module _ {c d n g : ℕ} {m : List ℕ} (s : SoundRows c d n m) (b : Bytes m) (x : Change) (w : Costs rowCosts x.costs) (e : PlaceOf c n x.number m g)
-    (ok : changeRefusal (boardIn m) (call_of x) ≡ 0) where
+module _ {c d n g : ℕ} {m : List ℕ} (s : SoundRows c d n m) (b : Bytes m) (x : Change) (w : Costs row_costs x.costs) (e : PlaceOf c n x.number m g)
+    (ok : change_refusal (board_in m) (call_of x) ≡ 0) where
   abbrev head : Head
   head = record { size = c; dimension = d; count = n }
 
   abbrev call : calls.Change
   call = call_of x
 
-  pub ready : ReadyRows c d n (exchangeOf x g) m
-  ready = kind-ready s b (comingOf x) x.block w e x.kind ok
+  pub ready : ReadyRows c d n (exchange_of x g) m
+  ready = kind-ready s b (coming_of x) x.block w e x.kind ok
 
   giveable : comes x.kind ≡ true → Giveable c x m
   giveable f =
-      let k = kind-block s b (comingOf x) x.block w e x.kind f ok in
+      let k = kind-block s b (coming_of x) x.block w e x.kind f ok in
       record { room = held-room c d n m s; number = k.0; block = k.1 }
 
   -- A re-cost with equal costs.
-  module _ (same : alike c d n (exchangeOf x g) m ≡ true) where
-    alike-costs : (comes x.kind ≡ true) × (g < n) × (equal x.costs (costsIn c d m x.number) ≡ true)
+  module _ (same : alike c d n (exchange_of x g) m ≡ true) where
+    alike-costs : (comes x.kind ≡ true) × (g < n) × (equal x.costs (costs_in c d m x.number) ≡ true)
     unfolding alike
     alike-costs =
         let f = and_left (comes x.kind) _ same in
         let rest = and_right (comes x.kind) _ same in
         let l = ltb-true g n (and_left (ltb g n) _ rest) in
-        (f, l, ap (λ (i : ℕ). equal x.costs (costsIn c d m i)) (sym (ready.number f l)) ∙ and_right (ltb g n) _ rest)
+        (f, l, ap (λ (i : ℕ). equal x.costs (costs_in c d m i)) (sym (ready.number f l)) ∙ and_right (ltb g n) _ rest)
 
     -- Only a re-cost has a move come for one that goes.
-    by_kind : (kind : Kind) → x.kind ≡ kind → ([] ≡ changeNotice (boardIn m) (changeOf kind x.number x.block x.costs)) × Made (changeOf kind x.number x.block x.costs) m m
-        × ((t : Tree) → 0 ≡ changeOpens (dimensionIn m) (changeOf kind x.number x.block x.costs) t)
-    unfolding changeOf changeOpens comes
+    by_kind : (kind : Kind) → x.kind ≡ kind → ([] ≡ change_notice (board_in m) (change_of kind x.number x.block x.costs)) × Made (change_of kind x.number x.block x.costs) m m
+        × ((t : Tree) → 0 ≡ change_opens (dimension_in m) (change_of kind x.number x.block x.costs) t)
+    unfolding change_of change_opens comes
     by_kind Enter k =
-        let none = ap (changeRefusal (boardIn m)) (ap (λ (kind : Kind). changeOf kind x.number x.block x.costs) k) in
+        let none = ap (change_refusal (board_in m)) (ap (λ (kind : Kind). change_of kind x.number x.block x.costs) k) in
         absurd (enter-new (sym none ∙ ok))
       where
-        enter-new : changeRefusal (boardIn m) (calls.enter x.number x.block x.costs) ≡ 0 → ⊥
-        enter-new passes = omega (arith, alike-costs.1, enter-last s b (comingOf x) x.block w e passes)
+        enter-new : change_refusal (board_in m) (calls.enter x.number x.block x.costs) ≡ 0 → ⊥
+        enter-new passes = omega (arith, alike-costs.1, enter-last s b (coming_of x) x.block w e passes)
     by_kind Withdraw k = both_ways (sym (ap comes k) ∙ alike-costs.0) refl
     by_kind Recost k =
-        let passes = sym (ap (λ (kind : Kind). changeRefusal (boardIn m) (changeOf kind x.number x.block x.costs)) k) ∙ ok in
+        let passes = sym (ap (λ (kind : Kind). change_refusal (board_in m) (change_of kind x.number x.block x.costs)) k) ∙ ok in
         let fit = ready.asked.fit alike-costs.0 in
-        let on = recost-on (boardIn m) x.number x.block x.costs passes in
-        (sym (no-notice s b (comingOf x) fit on alike-costs.2 x.block), same-made s b (comingOf x) fit on alike-costs.2 x.block, λ _. refl)
+        let on = recost-on (board_in m) x.number x.block x.costs passes in
+        (sym (no-notice s b (coming_of x) fit on alike-costs.2 x.block), same-made s b (coming_of x) fit on alike-costs.2 x.block, λ _. refl)
 
-    pub plan-idle : {o : Outcome} → outcomeNumber o ≡ 0 → {lent : ℕ} {p : ChangePlan} → KeepsMoves head x o p → Planned x m lent p
-    unfolding rowsAnswer
+    pub plan-idle : {o : Outcome} → outcome_number o ≡ 0 → {lent : ℕ} {p : ChangePlan} → KeepsMoves head x o p → Planned x m lent p
+    unfolding rows_answer
     plan-idle {o} z {lent} {p} k =
         let own = by_kind x.kind refl in
         keeps-planned k
-        (foreseen-judged _ _ _ m lent p.need p.opened s.sound (refusedBy o 0) (not-refused ok) (none_needed o p.need lent z k.need) (k.need ∙ ap length own.0) (λ t _. k.opened ∙ own.2 t))
+        (foreseen-judged _ _ _ m lent p.need p.opened s.sound (refused_by o 0) (not-refused ok) (none_needed o p.need lent z k.need) (k.need ∙ ap length own.0) (λ t _. k.opened ∙ own.2 t))
         (λ _. own.0) (λ _. s.size) (λ _. own.1) (λ _. giveable)
 
-  module _ (different : alike c d n (exchangeOf x g) m ≡ false) where
-    other : Other c d n (exchangeOf x g) m
+  module _ (different : alike c d n (exchange_of x g) m ≡ false) where
+    other : Other c d n (exchange_of x g) m
     unfolding alike
     other =
         record {
@@ -179,46 +179,46 @@ module _ {c d n g : ℕ} {m : List ℕ} (s : SoundRows c d n m) (b : Bytes m) (x
         }
 
     -- A change that is made changes something.
-    never-nothing : (kind : Kind) → x.kind ≡ kind → keepsMoves (boardIn m) (changeOf kind x.number x.block x.costs) ≡ false
-    unfolding changeOf keepsMoves unchanged alike comes
+    never-nothing : (kind : Kind) → x.kind ≡ kind → keeps_moves (board_in m) (change_of kind x.number x.block x.costs) ≡ false
+    unfolding change_of keeps_moves unchanged alike comes
     never-nothing Enter k = refl
     never-nothing Withdraw k = refl
     never-nothing Recost k =
-        let passes = sym (ap (λ (kind : Kind). changeRefusal (boardIn m) (changeOf kind x.number x.block x.costs)) k) ∙ ok in
+        let passes = sym (ap (λ (kind : Kind). change_refusal (board_in m) (change_of kind x.number x.block x.costs)) k) ∙ ok in
         let f : comes x.kind ≡ true = ap comes k in
-        let l : g < n = recost-place s b (comingOf x) x.block w e passes in
+        let l : g < n = recost-place s b (coming_of x) x.block w e passes in
         let own = board-moves c d n m s in
-        let on = ap (onBoard x.number) (sym own) ∙ recost-on (boardIn m) x.number x.block x.costs passes in
-        ap (equal x.costs) (ap (costsOn x.number) own ∙ costs-board c d n m x.number on ∙ ap (costsIn c d m) (sym (ready.number f l)))
-        ∙ sym (ap₂ (λ (p q : Bool). p && (q && equal x.costs (costsIn c d m (number_in c m g)))) f (lt-ltb g n l))
+        let on = ap (on_board x.number) (sym own) ∙ recost-on (board_in m) x.number x.block x.costs passes in
+        ap (equal x.costs) (ap (costs_on x.number) own ∙ costs-board c d n m x.number on ∙ ap (costs_in c d m) (sym (ready.number f l)))
+        ∙ sym (ap₂ (λ (p q : Bool). p && (q && equal x.costs (costs_in c d m (number_in c m g)))) f (lt-ltb g n l))
         ∙ different
 
     -- A withdrawal reports the nodes opened, the others none.
-    kind-opens : {u : Upkeep} → UpkeptRows c d n (exchangeOf x g) m u → (kind : Kind) → x.kind ≡ kind → (t : Tree) → Stands m t
-        → cond (comes kind) 0 u.opened ≡ changeOpens (dimensionIn m) (changeOf kind x.number x.block x.costs) t
-    unfolding changeOf changeOpens comes
+    kind-opens : {u : Upkeep} → UpkeptRows c d n (exchange_of x g) m u → (kind : Kind) → x.kind ≡ kind → (t : Tree) → Stands m t
+        → cond (comes kind) 0 u.opened ≡ change_opens (dimension_in m) (change_of kind x.number x.block x.costs) t
+    unfolding change_of change_opens comes
     kind-opens up Enter k t stands = refl
     kind-opens up Withdraw k t stands =
         let l = ready.place (ap comes k) in
-        up.opened l t stands ∙ (λ i. withdrawOpens (s.dimension i) (e.found l i) t)
+        up.opened l t stands ∙ (λ i. withdraw_opens (s.dimension i) (e.found l i) t)
     kind-opens up Recost k t stands = refl
 
-    pub plan-full : {lent : ℕ} {u : Upkeep} (up : UpkeptRows c d n (exchangeOf x g) m u) {place : ℕ} (q : PlaceRows c d n (exchangeOf x g) m place) {need : ℕ} → need ≡ neededRows u
-        → (v : Verdict) → answer_of v ≡ rowsAnswer need lent → {opened : ℕ} → opened ≡ cond (comes x.kind) 0 u.opened
+    pub plan-full : {lent : ℕ} {u : Upkeep} (up : UpkeptRows c d n (exchange_of x g) m u) {place : ℕ} (q : PlaceRows c d n (exchange_of x g) m place) {need : ℕ} → need ≡ needed_rows u
+        → (v : Verdict) → answer_of v ≡ rows_answer need lent → {opened : ℕ} → opened ≡ cond (comes x.kind) 0 u.opened
         → Planned x m lent (record { verdict = v; need = need; opened = opened; makes = true; goes = g; place = place; head = head; change = x; upkeep = u })
-    unfolding neededRows
+    unfolding needed_rows
     plan-full {lent} {u} up {place} q {need} is v answer {opened} shown =
         let a = ready.asked in
-        let moves = kind-moves s b (comingOf x) x.block w e x.kind ok in
-        let notice = rows-notice a b other up q ∙ call-notice (exchangeOf x g) s call moves in
-        let needs : need ≡ length (changeNotice (boardIn m) call) = is ∙ rows-needed a b other up q ∙ ap length (call-notice (exchangeOf x g) s call moves) in
+        let moves = kind-moves s b (coming_of x) x.block w e x.kind ok in
+        let notice = rows-notice a b other up q ∙ call-notice (exchange_of x g) s call moves in
+        let needs : need ≡ length (change_notice (board_in m) call) = is ∙ rows-needed a b other up q ∙ ap length (call-notice (exchange_of x g) s call moves) in
         let few = few-refuses need lent (number_of v) (ap (λ (a : calls.Answer). a.number) answer) in
         let left = count_left a b other up q in
-        let rest : need - u.left ≡ length (enteredRows a b other up q) = omega (arith, is, count-entered a b other up q) in
+        let rest : need - u.left ≡ length (entered_rows a b other up q) = omega (arith, is, count-entered a b other up q) in
         record {
           foreseen = foreseen-judged _ _ _ m lent need opened s.sound v (not-refused ok) answer needs (λ t stands. shown ∙ kind-opens up x.kind refl t stands);
-          lefts = leftRows a b other up q;
-          entereds = enteredRows a b other up q;
+          lefts = left_rows a b other up q;
+          entereds = entered_rows a b other up q;
           notice = λ _. notice;
           leaves =
               record {
@@ -238,7 +238,7 @@ module _ {c d n g : ℕ} {m : List ℕ} (s : SoundRows c d n m) (b : Bytes m) (x
           enough = counted-parts (number_of v) u.left need lent (omega (arith, is)) few;
           able =
               record {
-                moves = λ _ _. kind-prepared s b (comingOf x) x.block w e x.kind ok (λ f l. other.costs f l) up;
+                moves = λ _ _. kind-prepared s b (coming_of x) x.block w e x.kind ok (λ f l. other.costs f l) up;
                 block = λ _. giveable;
               };
           change = refl;

@@ -12,32 +12,32 @@ use native.Mathlib.Omega.{arith}
 use borrow.Author.Tests.{eqb-true, eqb-false}
 use Rattle.std.proofs.Math.Dec.{eqb}
 use Rattle.std.proofs.Math.ListN.{length, length-append, length-map}
-use Rattle.model.specs.Basics.{Each, consIf, select, count, rising, insertBy, numbersFrom}
-use Rattle.model.specs.Moves.{Move, Row, row_of, moveBefore, insert, ordered, left, entered}
+use Rattle.model.specs.Basics.{Each, cons_if, select, count, rising, insert_by, numbers_from}
+use Rattle.model.specs.Moves.{Move, Row, row_of, move_before, insert, ordered, left, entered}
 use Rattle.model.specs.Lists.{hidden, skyline}
 use Rattle.model.specs.Sound.{Fit}
-use Rattle.model.specs.Laws.Bool.{byCases, testCases, and_left, and_right, not_back, not-flip}
+use Rattle.model.specs.Laws.Bool.{by_cases, test_cases, and_left, and_right, not_back, not-flip}
 use Rattle.model.specs.Laws.Basics.{mem-each, each-mem, select-mem, mem-select, select-ext, select-append}
 use Rattle.model.specs.Laws.Range.{each-numbers, numbers-append}
 use Rattle.model.specs.Laws.Order.{move-order, off-board}
 use Rattle.model.specs.Laws.Sorting.{StrictOrder, insert-mem, mem-insert-old, asym, connex, rising-cons, rising-tail, rising-head}
 use Rattle.model.specs.Laws.Skyline.{skyline-mem}
 use Rattle.model.specs.Laws.Notice.{among, gone, among-mem}
-use Rattle.line.specs.Line.{Placed, none, movesIn}
-use Rattle.line.specs.Enter.{placeFor}
-use Rattle.promises.specs.Layout.{moveIn, placedIn, lineFrom}
+use Rattle.line.specs.Line.{Placed, none, moves_in}
+use Rattle.line.specs.Enter.{place_for}
+use Rattle.promises.specs.Layout.{move_in, placed_in, line_from}
 use Rattle.promises.specs.Answers.{result_row}
 use Rattle.promises.specs.Run.{Bytes}
-use Rattle.dominance.specs.Move.{asMove}
+use Rattle.dominance.specs.Move.{as_move}
 use Rattle.memory.specs.Held.{SoundRows}
-use Rattle.search.specs.Search.{looks, looksAt}
-use Rattle.memory.specs.Tests.{isListed}
+use Rattle.search.specs.Search.{looks, looks_at}
+use Rattle.memory.specs.Tests.{is_listed}
 use Rattle.memory.specs.declared.head.Head.{Head}
-use Rattle.memory.specs.Laws.Lines.{getD-line, length-line}
+use Rattle.memory.specs.Laws.Lines.{get_or-line, length-line}
 use Rattle.memory.specs.Laws.Held.{held-dimension, held-order, held-listed, held-fit, held-fit-at, held-once}
-use Rattle.upkeep.specs.Change.{drop_at, movesAfter, stays, placesIn, AskedRows, UpkeptRows}
-use Rattle.rows.specs.Rows.{moveNumbers}
-use Rattle.rows.specs.Telling.{tellsPlace, rows_at, comingRows, toldRows}
+use Rattle.upkeep.specs.Change.{drop_at, moves_after, stays, places_in, AskedRows, UpkeptRows}
+use Rattle.rows.specs.Rows.{move_numbers}
+use Rattle.rows.specs.Telling.{tells_place, rows_at, coming_rows, told_rows}
 use Rattle.rows.specs.declared.telling.View.{View}
 use Rattle.upkeep.specs.Laws.Places.{place-below, below-place}
 use Rattle.upkeep.specs.Laws.Change.{line-places, rest-places}
@@ -45,7 +45,7 @@ use Rattle.upkeep.specs.Laws.Place.{place-low, place-high}
 use Rattle.upkeep.specs.Laws.Notified.{Places, stay, left-places, entered-after, entered-rest, entered-coming}
 use Rattle.upkeep.specs.declared.exchange.Exchange.{Exchange}
 use Rattle.upkeep.specs.declared.exchange.Upkeep.{Upkeep}
-use Rattle.planning.specs.Plan.{leavingBy, enteringBy}
+use Rattle.planning.specs.Plan.{leaving_by, entering_by}
 
 left-test : (listed stays : Bool) → (not (beq listed stays) && listed) ≡ (listed && not stays)
 left-test true true = refl
@@ -70,7 +70,7 @@ unfolding select
 rising-places P lt o f t [] es r = rising-nil lt
 rising-places P lt o f t (i ∷ is) es r =
     let next = rising-places P lt o f t is es.1 (rising-tail lt (f i) (map f is) r) in
-    testCases (λ (b : Bool). rising lt (map f (consIf b i (select t is))) ≡ true) (t i)
+    test_cases (λ (b : Bool). rising lt (map f (cons_if b i (select t is))) ≡ true) (t i)
     (λ _. rising-cons lt (f i) (map f (select t is))
     (mem-each (λ y. lt (f i) y ≡ true) (map f (select t is)) (λ y g.
     let w = Memᴰ.of_map f (select t is) g in
@@ -80,241 +80,241 @@ rising-places P lt o f t (i ∷ is) es r =
     (λ _. next)
 
 module _ (c d n : ℕ) (k : Exchange) (m : List ℕ) (s : SoundRows c d n m) (b : Bytes m) (a : AskedRows c d n k m)
-    (other : k.comes ≡ true → k.goes < n → moveIn c d m k.goes ≡ asMove k.coming → ⊥) where
+    (other : k.comes ≡ true → k.goes < n → move_in c d m k.goes ≡ as_move k.coming → ⊥) where
   abbrev before : List Move
-  before = movesIn (lineFrom c d n m)
+  before = moves_in (line_from c d n m)
 
   abbrev rest : List Move
   rest = drop_at k.goes before
 
   abbrev after : List Move
-  after = movesAfter d k before
+  after = moves_after d k before
 
   abbrev x : Move
-  x = asMove k.coming
+  x = as_move k.coming
 
-  not-rest : (i : ℕ) → i < n → eqb i k.goes ≡ true → ¬ Memᴰ (moveIn c d m i) rest
-  unfolding moveIn
+  not-rest : (i : ℕ) → i < n → eqb i k.goes ≡ true → ¬ Memᴰ (move_in c d m i) rest
+  unfolding move_in
   not-rest i h e g =
-      let w = Memᴰ.of_map (moveIn c d m) (select (λ j. not (eqb j k.goes)) (numbersFrom 0 n)) (subst (Memᴰ (moveIn c d m i)) (rest-places c d n m k.goes) g) in
-      let q = select-mem (λ j. not (eqb j k.goes)) (numbersFrom 0 n) w.1 in
+      let w = Memᴰ.of_map (move_in c d m) (select (λ j. not (eqb j k.goes)) (numbers_from 0 n)) (subst (Memᴰ (move_in c d m i)) (rest-places c d n m k.goes) g) in
+      let q = select-mem (λ j. not (eqb j k.goes)) (numbers_from 0 n) w.1 in
       eqb-false w.0 k.goes (not_back (eqb w.0 k.goes) q.1)
       (held-once c d n m s b w.0 i (place-below n q.0) h (ap (λ (y : Move). y.number) w.2) ∙ eqb-true i k.goes e)
 
-  in_rest : (i : ℕ) → Memᴰ i (numbersFrom 0 n) → eqb i k.goes ≡ false → Memᴰ (moveIn c d m i) rest
+  in_rest : (i : ℕ) → Memᴰ i (numbers_from 0 n) → eqb i k.goes ≡ false → Memᴰ (move_in c d m i) rest
   in_rest i h e =
-      subst (Memᴰ (moveIn c d m i)) (sym (rest-places c d n m k.goes))
-      (Memᴰ.map (moveIn c d m) (mem-select (λ j. not (eqb j k.goes)) h (not-flip (eqb i k.goes) e)))
+      subst (Memᴰ (move_in c d m i)) (sym (rest-places c d n m k.goes))
+      (Memᴰ.map (move_in c d m) (mem-select (λ j. not (eqb j k.goes)) h (not-flip (eqb i k.goes) e)))
 
-  pub places : Places d (moveIn c d m) (numbersFrom 0 n) k.goes after (isListed c m)
-  unfolding movesAfter insert
+  pub places : Places d (move_in c d m) (numbers_from 0 n) k.goes after (is_listed c m)
+  unfolding moves_after insert
   places =
       record {
-        flags = λ i h. held-listed c d n m s i (place-below n h) ∙ ap (λ (ms : List Move). not (hidden d ms (moveIn c d m i))) (line-places c d n m);
-        there = λ i h e. testCases (λ (t : Bool). Memᴰ (moveIn c d m i) (cond t (insertBy (moveBefore d) x rest) rest)) k.comes
-            (λ _. mem-insert-old (moveBefore d) x (in_rest i h e)) (λ _. in_rest i h e);
-        away = λ i h e. testCases (λ (t : Bool). k.comes ≡ t → ¬ Memᴰ (moveIn c d m i) (cond t (insertBy (moveBefore d) x rest) rest)) k.comes
+        flags = λ i h. held-listed c d n m s i (place-below n h) ∙ ap (λ (ms : List Move). not (hidden d ms (move_in c d m i))) (line-places c d n m);
+        there = λ i h e. test_cases (λ (t : Bool). Memᴰ (move_in c d m i) (cond t (insert_by (move_before d) x rest) rest)) k.comes
+            (λ _. mem-insert-old (move_before d) x (in_rest i h e)) (λ _. in_rest i h e);
+        away = λ i h e. test_cases (λ (t : Bool). k.comes ≡ t → ¬ Memᴰ (move_in c d m i) (cond t (insert_by (move_before d) x rest) rest)) k.comes
             (λ _ q g. ⊎_elim
-            (λ z. other q (subst (λ (j : ℕ). j < n) (eqb-true i k.goes e) (place-below n h)) (ap (moveIn c d m) (sym (eqb-true i k.goes e)) ∙ z))
-            (not-rest i (place-below n h) e) (insert-mem (moveBefore d) x rest g))
+            (λ z. other q (subst (λ (j : ℕ). j < n) (eqb-true i k.goes e) (place-below n h)) (ap (move_in c d m) (sym (eqb-true i k.goes e)) ∙ z))
+            (not-rest i (place-below n h) e) (insert-mem (move_before d) x rest g))
             (λ _ q. not-rest i (place-below n h) e) refl;
       }
 
-  abbrev stayAt : ℕ → Bool
-  stayAt = stay d (moveIn c d m) k.goes after
+  abbrev stay_at : ℕ → Bool
+  stay_at = stay d (move_in c d m) k.goes after
 
   abbrev enters : ℕ → Bool
-  enters i = not (isListed c m i) && stayAt i
+  enters i = not (is_listed c m i) && stay_at i
 
-  order : StrictOrder (Fit c d) (moveBefore d)
+  order : StrictOrder (Fit c d) (move_before d)
   order = move-order d c (held-dimension c d n m s)
 
-  fits : Each (Fit c d) (map (moveIn c d m) (numbersFrom 0 n))
+  fits : Each (Fit c d) (map (move_in c d m) (numbers_from 0 n))
   fits = subst (Each (Fit c d)) (line-places c d n m) (held-fit c d n m s b)
 
   rest-fits : Each (Fit c d) rest
   rest-fits =
       subst (Each (Fit c d)) (sym (rest-places c d n m k.goes))
-      (mem-each (Fit c d) (map (moveIn c d m) (select (λ j. not (eqb j k.goes)) (numbersFrom 0 n))) (λ y g.
-      let w = Memᴰ.of_map (moveIn c d m) (select (λ j. not (eqb j k.goes)) (numbersFrom 0 n)) g in
-      subst (Fit c d) w.2 (held-fit-at c d n m s b w.0 (place-below n (select-mem (λ j. not (eqb j k.goes)) (numbersFrom 0 n) w.1).0))))
+      (mem-each (Fit c d) (map (move_in c d m) (select (λ j. not (eqb j k.goes)) (numbers_from 0 n))) (λ y g.
+      let w = Memᴰ.of_map (move_in c d m) (select (λ j. not (eqb j k.goes)) (numbers_from 0 n)) g in
+      subst (Fit c d) w.2 (held-fit-at c d n m s b w.0 (place-below n (select-mem (λ j. not (eqb j k.goes)) (numbers_from 0 n) w.1).0))))
 
-  rest-rising : rising (moveBefore d) rest ≡ true
+  rest-rising : rising (move_before d) rest ≡ true
   unfolding ordered
   rest-rising =
-      ap (rising (moveBefore d)) (rest-places c d n m k.goes)
-      ∙ rising-places (Fit c d) (moveBefore d) order (moveIn c d m) (λ j. not (eqb j k.goes)) (numbersFrom 0 n) fits
-      (subst (λ (ms : List Move). rising (moveBefore d) ms ≡ true) (line-places c d n m) (held-order c d n m s))
+      ap (rising (move_before d)) (rest-places c d n m k.goes)
+      ∙ rising-places (Fit c d) (move_before d) order (move_in c d m) (λ j. not (eqb j k.goes)) (numbers_from 0 n) fits
+      (subst (λ (ms : List Move). rising (move_before d) ms ≡ true) (line-places c d n m) (held-order c d n m s))
 
-  whole : (p : ℕ) → p ≤ n → numbersFrom 0 n ≡ numbersFrom 0 p ++ numbersFrom p (n - p)
+  whole : (p : ℕ) → p ≤ n → numbers_from 0 n ≡ numbers_from 0 p ++ numbers_from p (n - p)
   whole p h =
-      ap (numbersFrom 0) (sym (add-sub_of_le h)) ∙ numbers-append 0 p (n - p)
-      ∙ ap (λ (q : ℕ). numbersFrom 0 p ++ numbersFrom q (n - p)) (zero-add p)
+      ap (numbers_from 0) (sym (add-sub_of_le h)) ∙ numbers-append 0 p (n - p)
+      ∙ ap (λ (q : ℕ). numbers_from 0 p ++ numbers_from q (n - p)) (zero-add p)
 
   -- ---- the coming move
 
-  at_place : (i : ℕ) → i < n → (get_or (lineFrom c d n m) i none).move ≡ moveIn c d m i
-  unfolding placedIn
-  at_place i h = ap (λ (r : Placed). r.move) (getD-line c d n m i h)
+  at_place : (i : ℕ) → i < n → (get_or (line_from c d n m) i none).move ≡ move_in c d m i
+  unfolding placed_in
+  at_place i h = ap (λ (r : Placed). r.move) (get_or-line c d n m i h)
 
   module _ (e : k.comes ≡ true) where
     not-here : ¬ Memᴰ x rest
     not-here = off-board x rest (a.new e)
 
-    absent : among x (skyline d (map (moveIn c d m) (numbersFrom 0 n))) ≡ false
-    absent = byCases (among x list) (λ h. absurd (gone-on h)) (λ h. h)
+    absent : among x (skyline d (map (move_in c d m) (numbers_from 0 n))) ≡ false
+    absent = by_cases (among x list) (λ h. absurd (gone-on h)) (λ h. h)
       where
         list : List Move
-        list = skyline d (map (moveIn c d m) (numbersFrom 0 n))
+        list = skyline d (map (move_in c d m) (numbers_from 0 n))
 
         gone-on : among x list ≡ true → ⊥
         gone-on h =
-            let w = Memᴰ.of_map (moveIn c d m) (numbersFrom 0 n) (skyline-mem d (map (moveIn c d m) (numbersFrom 0 n)) (among-mem x list h)).0 in
-            byCases (eqb w.0 k.goes)
+            let w = Memᴰ.of_map (move_in c d m) (numbers_from 0 n) (skyline-mem d (map (move_in c d m) (numbers_from 0 n)) (among-mem x list h)).0 in
+            by_cases (eqb w.0 k.goes)
             (λ q. let j = eqb-true w.0 k.goes q in
-            other e (subst (λ (i : ℕ). i < n) j (place-below n w.1)) (ap (moveIn c d m) (sym j) ∙ w.2))
+            other e (subst (λ (i : ℕ). i < n) j (place-below n w.1)) (ap (move_in c d m) (sym j) ∙ w.2))
             (λ q. not-here (subst (λ (y : Move). Memᴰ y rest) w.2 (in_rest w.0 w.1 q)))
 
-    module _ (p : ℕ) (f : p ≤ n) (at : p ≡ placeFor d x (lineFrom c d n m)) where
-      lower : (i : ℕ) → Memᴰ i (numbersFrom 0 p) → moveBefore d x (moveIn c d m i) ≡ false
+    module _ (p : ℕ) (f : p ≤ n) (at : p ≡ place_for d x (line_from c d n m)) where
+      lower : (i : ℕ) → Memᴰ i (numbers_from 0 p) → move_before d x (move_in c d m i) ≡ false
       lower i g =
           let h : i < p = place-below p g in
           let l : i < n = omega arith in
-          asym (Fit c d) (moveBefore d) order (moveIn c d m i) x (held-fit-at c d n m s b i l) (a.fit e)
-          (subst (λ (y : Move). moveBefore d y x ≡ true) (at_place i l) (place-low d x (lineFrom c d n m) i (subst (λ (q : ℕ). i < q) at h)))
+          asym (Fit c d) (move_before d) order (move_in c d m i) x (held-fit-at c d n m s b i l) (a.fit e)
+          (subst (λ (y : Move). move_before d y x ≡ true) (at_place i l) (place-low d x (line_from c d n m) i (subst (λ (q : ℕ). i < q) at h)))
 
-      upper : (i : ℕ) → Memᴰ i (numbersFrom p (n - p)) → enters i ≡ true → moveBefore d x (moveIn c d m i) ≡ true
+      upper : (i : ℕ) → Memᴰ i (numbers_from p (n - p)) → enters i ≡ true → move_before d x (move_in c d m i) ≡ true
       unfolding stay ordered
       upper i g t =
           let q = each-mem (λ i. (p ≤ i) × (i < n)) (each-numbers (λ i. (p ≤ i) × (i < n)) p (n - p) (λ i u v. (u, omega arith))) g in
-          let away : eqb i k.goes ≡ false = not_back (eqb i k.goes) (and_left (not (eqb i k.goes)) (not (hidden d after (moveIn c d m i))) (and_right (not (isListed c m i)) (stayAt i) t)) in
-          connex (Fit c d) (moveBefore d) order (moveIn c d m i) x (held-fit-at c d n m s b i q.1) (a.fit e)
-          (subst (λ (y : Move). moveBefore d y x ≡ false) (at_place i q.1)
-          (place-high d x (Fit c d) order (a.fit e) (lineFrom c d n m) (held-fit c d n m s b) (held-order c d n m s) i
+          let away : eqb i k.goes ≡ false = not_back (eqb i k.goes) (and_left (not (eqb i k.goes)) (not (hidden d after (move_in c d m i))) (and_right (not (is_listed c m i)) (stay_at i) t)) in
+          connex (Fit c d) (move_before d) order (move_in c d m i) x (held-fit-at c d n m s b i q.1) (a.fit e)
+          (subst (λ (y : Move). move_before d y x ≡ false) (at_place i q.1)
+          (place-high d x (Fit c d) order (a.fit e) (line_from c d n m) (held-fit c d n m s b) (held-order c d n m s) i
           (subst (λ (r : ℕ). r ≤ i) at q.0) (subst (λ (r : ℕ). i < r) (sym (length-line c d n m)) q.1)))
           (λ z. not-here (subst (λ (y : Move). Memᴰ y rest) z (in_rest i (inside i q.1) away)))
         where
-          inside : (i : ℕ) → i < n → Memᴰ i (numbersFrom 0 n)
+          inside : (i : ℕ) → i < n → Memᴰ i (numbers_from 0 n)
           inside i h = below-place n i h
 
   -- ---- both parts of the notice
 
-  left-part : gone (skyline d before) (skyline d after) ≡ map (moveIn c d m) (select (λ i. isListed c m i && not (stayAt i)) (numbersFrom 0 n))
+  left-part : gone (skyline d before) (skyline d after) ≡ map (move_in c d m) (select (λ i. is_listed c m i && not (stay_at i)) (numbers_from 0 n))
   left-part =
       ap (λ (ms : List Move). gone (skyline d ms) (skyline d after)) (line-places c d n m)
-      ∙ left-places d (moveIn c d m) (numbersFrom 0 n) k.goes after (isListed c m) places
+      ∙ left-places d (move_in c d m) (numbers_from 0 n) k.goes after (is_listed c m) places
 
-  module _ (p : ℕ) (f : p ≤ n) (at : k.comes ≡ true → p ≡ placeFor d x (lineFrom c d n m)) where
+  module _ (p : ℕ) (f : p ≤ n) (at : k.comes ≡ true → p ≡ place_for d x (line_from c d n m)) where
     abbrev first : List Move
-    first = map (moveIn c d m) (select enters (numbersFrom 0 p))
+    first = map (move_in c d m) (select enters (numbers_from 0 p))
 
     abbrev last : List Move
-    last = map (moveIn c d m) (select enters (numbersFrom p (n - p)))
+    last = map (move_in c d m) (select enters (numbers_from p (n - p)))
 
-    coming-part : k.comes ≡ true → gone (skyline d after) (skyline d (map (moveIn c d m) (numbersFrom 0 n))) ≡ first ++ (cond (k.comes && not (hidden d after x)) (x ∷ []) [] ++ last)
-    unfolding movesAfter insert
+    coming-part : k.comes ≡ true → gone (skyline d after) (skyline d (map (move_in c d m) (numbers_from 0 n))) ≡ first ++ (cond (k.comes && not (hidden d after x)) (x ∷ []) [] ++ last)
+    unfolding moves_after insert
     coming-part e =
-        entered-coming d (moveIn c d m) (numbersFrom 0 n) k.goes after (isListed c m) places (Fit c d) order x (a.fit e) rest
+        entered-coming d (move_in c d m) (numbers_from 0 n) k.goes after (is_listed c m) places (Fit c d) order x (a.fit e) rest
         (sym (rest-places c d n m k.goes)) rest-fits rest-rising
-        (ap (λ (t : Bool). cond t (insertBy (moveBefore d) x rest) rest) e)
-        (absent e) (numbersFrom 0 p) (numbersFrom p (n - p)) (whole p f) (lower e p f (at e)) (upper e p f (at e))
+        (ap (λ (t : Bool). cond t (insert_by (move_before d) x rest) rest) e)
+        (absent e) (numbers_from 0 p) (numbers_from p (n - p)) (whole p f) (lower e p f (at e)) (upper e p f (at e))
         ∙ ap (λ (t : Bool). first ++ (cond (t && not (hidden d after x)) (x ∷ []) [] ++ last)) (sym e)
 
-    plain-part : k.comes ≡ false → gone (skyline d after) (skyline d (map (moveIn c d m) (numbersFrom 0 n))) ≡ first ++ (cond (k.comes && not (hidden d after x)) (x ∷ []) [] ++ last)
-    unfolding movesAfter insert
+    plain-part : k.comes ≡ false → gone (skyline d after) (skyline d (map (move_in c d m) (numbers_from 0 n))) ≡ first ++ (cond (k.comes && not (hidden d after x)) (x ∷ []) [] ++ last)
+    unfolding moves_after insert
     plain-part e =
-        let is = numbersFrom 0 n in
+        let is = numbers_from 0 n in
         let q = places in
-        entered-after d (moveIn c d m) is k.goes after (isListed c m) q
-        ∙ ap (select (λ y. not (hidden d after y) && not (among y (skyline d (map (moveIn c d m) is)))))
-        (ap (λ (t : Bool). cond t (insertBy (moveBefore d) x rest) rest) e ∙ rest-places c d n m k.goes)
-        ∙ entered-rest d (moveIn c d m) is k.goes after (isListed c m) q
-        ∙ ap (λ (js : List ℕ). map (moveIn c d m) (select enters js)) (whole p f)
-        ∙ ap (map (moveIn c d m)) (select-append enters (numbersFrom 0 p) (numbersFrom p (n - p)))
-        ∙ map-append (moveIn c d m) (select enters (numbersFrom 0 p)) (select enters (numbersFrom p (n - p)))
+        entered-after d (move_in c d m) is k.goes after (is_listed c m) q
+        ∙ ap (select (λ y. not (hidden d after y) && not (among y (skyline d (map (move_in c d m) is)))))
+        (ap (λ (t : Bool). cond t (insert_by (move_before d) x rest) rest) e ∙ rest-places c d n m k.goes)
+        ∙ entered-rest d (move_in c d m) is k.goes after (is_listed c m) q
+        ∙ ap (λ (js : List ℕ). map (move_in c d m) (select enters js)) (whole p f)
+        ∙ ap (map (move_in c d m)) (select-append enters (numbers_from 0 p) (numbers_from p (n - p)))
+        ∙ map-append (move_in c d m) (select enters (numbers_from 0 p)) (select enters (numbers_from p (n - p)))
         ∙ ap (λ (t : Bool). first ++ (cond (t && not (hidden d after x)) (x ∷ []) [] ++ last)) (sym e)
 
     entered-part : gone (skyline d after) (skyline d before) ≡ first ++ (cond (k.comes && not (hidden d after x)) (x ∷ []) [] ++ last)
     entered-part =
         ap (λ (ms : List Move). gone (skyline d after) (skyline d ms)) (line-places c d n m)
-        ∙ byCases k.comes coming-part plain-part
+        ∙ by_cases k.comes coming-part plain-part
 
     module _ (u : Upkeep) (v : UpkeptRows c d n k m u) where
       abbrev head : Head
       head = record { size = c; dimension = d; count = n }
 
-      chosen-places : (p q : ℕ → Bool) → ((i : ℕ) → i < n → p i ≡ q i) → (i j : ℕ) → i ≤ j → j ≤ n → placesIn i j p ≡ select q (numbersFrom i (j - i))
-      unfolding placesIn
+      chosen-places : (p q : ℕ → Bool) → ((i : ℕ) → i < n → p i ≡ q i) → (i j : ℕ) → i ≤ j → j ≤ n → places_in i j p ≡ select q (numbers_from i (j - i))
+      unfolding places_in
       chosen-places p q h i j l r =
-          select-ext p q (numbersFrom i (j - i)) (each-numbers (λ i. p i ≡ q i) i (j - i) (λ k _ g. h k (omega arith)))
+          select-ext p q (numbers_from i (j - i)) (each-numbers (λ i. p i ≡ q i) i (j - i) (λ k _ g. h k (omega arith)))
 
-      rows_told : (mark : ℕ) (js : List ℕ) → map result_row (rows_at c d mark js m) ≡ map (row_of mark) (map (moveIn c d m) js)
-      unfolding rows_at result_row moveNumbers row_of
+      rows_told : (mark : ℕ) (js : List ℕ) → map result_row (rows_at c d mark js m) ≡ map (row_of mark) (map (move_in c d m) js)
+      unfolding rows_at result_row move_numbers row_of
       rows_told mark [] = refl
-      rows_told mark (j ∷ js) = ap (λ (rs : List Row). row_of mark (moveIn c d m j) ∷ rs) (rows_told mark js)
+      rows_told mark (j ∷ js) = ap (λ (rs : List Row). row_of mark (move_in c d m j) ∷ rs) (rows_told mark js)
 
       -- ---- who leaves
 
-      part_left : (i : ℕ) → i < n → tellsPlace (leavingBy head) u.changed m i ≡ (isListed c m i && not (stayAt i))
-      unfolding tellsPlace looksAt looks isListed stays stay
-      part_left i h = ap (λ (t : Bool). t && isListed c m i) (v.changed i h) ∙ left-test (isListed c m i) (stays c d n k m i)
+      part_left : (i : ℕ) → i < n → tells_place (leaving_by head) u.changed m i ≡ (is_listed c m i && not (stay_at i))
+      unfolding tells_place looks_at looks is_listed stays stay
+      part_left i h = ap (λ (t : Bool). t && is_listed c m i) (v.changed i h) ∙ left-test (is_listed c m i) (stays c d n k m i)
 
-      left-chosen : placesIn 0 n (tellsPlace (leavingBy head) u.changed m) ≡ select (λ i. isListed c m i && not (stayAt i)) (numbersFrom 0 n)
+      left-chosen : places_in 0 n (tells_place (leaving_by head) u.changed m) ≡ select (λ i. is_listed c m i && not (stay_at i)) (numbers_from 0 n)
       left-chosen =
-          chosen-places (tellsPlace (leavingBy head) u.changed m) (λ i. isListed c m i && not (stayAt i)) part_left 0 n (omega arith) (omega arith)
-          ∙ ap (λ (q : ℕ). select (λ i. isListed c m i && not (stayAt i)) (numbersFrom 0 q)) (sub-zero n)
+          chosen-places (tells_place (leaving_by head) u.changed m) (λ i. is_listed c m i && not (stay_at i)) part_left 0 n (omega arith) (omega arith)
+          ∙ ap (λ (q : ℕ). select (λ i. is_listed c m i && not (stay_at i)) (numbers_from 0 q)) (sub-zero n)
 
-      left-rows : toldRows (leavingBy head) u.changed m ≡ rows_at c d left (placesIn 0 n (tellsPlace (leavingBy head) u.changed m)) m
-      unfolding toldRows comingRows rows_at placesIn select numbersFrom
+      left-rows : told_rows (leaving_by head) u.changed m ≡ rows_at c d left (places_in 0 n (tells_place (leaving_by head) u.changed m)) m
+      unfolding told_rows coming_rows rows_at places_in select numbers_from
       left-rows = refl
 
-      pub left-told : map result_row (toldRows (leavingBy head) u.changed m) ≡ map (row_of left) (gone (skyline d before) (skyline d after))
+      pub left-told : map result_row (told_rows (leaving_by head) u.changed m) ≡ map (row_of left) (gone (skyline d before) (skyline d after))
       left-told =
           ap (map result_row) left-rows
-          ∙ rows_told left (placesIn 0 n (tellsPlace (leavingBy head) u.changed m))
-          ∙ ap (map (row_of left)) (ap (map (moveIn c d m)) left-chosen ∙ sym left-part)
+          ∙ rows_told left (places_in 0 n (tells_place (leaving_by head) u.changed m))
+          ∙ ap (map (row_of left)) (ap (map (move_in c d m)) left-chosen ∙ sym left-part)
 
       pub left-number : u.left ≡ length (map (row_of left) (gone (skyline d before) (skyline d after)))
       unfolding count stays stay
       left-number =
           v.left
-          ∙ sym (length-map (select (λ i. isListed c m i && not (stayAt i)) (numbersFrom 0 n)) (moveIn c d m))
+          ∙ sym (length-map (select (λ i. is_listed c m i && not (stay_at i)) (numbers_from 0 n)) (move_in c d m))
           ∙ ap length (sym left-part)
           ∙ sym (length-map (gone (skyline d before) (skyline d after)) (row_of left))
 
       -- ---- who enters
 
       abbrev entering : View
-      entering = enteringBy head (record { told = u.listed; place = p; entrant = k.coming })
+      entering = entering_by head (record { told = u.listed; place = p; entrant = k.coming })
 
-      part-entered : (i : ℕ) → i < n → tellsPlace entering u.changed m i ≡ enters i
-      unfolding tellsPlace looksAt looks isListed stays stay
-      part-entered i h = ap (λ (t : Bool). t && not (isListed c m i)) (v.changed i h) ∙ entered-test (isListed c m i) (stays c d n k m i)
+      part-entered : (i : ℕ) → i < n → tells_place entering u.changed m i ≡ enters i
+      unfolding tells_place looks_at looks is_listed stays stay
+      part-entered i h = ap (λ (t : Bool). t && not (is_listed c m i)) (v.changed i h) ∙ entered-test (is_listed c m i) (stays c d n k m i)
 
-      first-chosen : placesIn 0 p (tellsPlace entering u.changed m) ≡ select enters (numbersFrom 0 p)
+      first-chosen : places_in 0 p (tells_place entering u.changed m) ≡ select enters (numbers_from 0 p)
       first-chosen =
-          chosen-places (tellsPlace entering u.changed m) enters part-entered 0 p (omega arith) f
-          ∙ ap (λ (q : ℕ). select enters (numbersFrom 0 q)) (sub-zero p)
+          chosen-places (tells_place entering u.changed m) enters part-entered 0 p (omega arith) f
+          ∙ ap (λ (q : ℕ). select enters (numbers_from 0 q)) (sub-zero p)
 
-      last-chosen : placesIn p n (tellsPlace entering u.changed m) ≡ select enters (numbersFrom p (n - p))
-      last-chosen = chosen-places (tellsPlace entering u.changed m) enters part-entered p n f (omega arith)
+      last-chosen : places_in p n (tells_place entering u.changed m) ≡ select enters (numbers_from p (n - p))
+      last-chosen = chosen-places (tells_place entering u.changed m) enters part-entered p n f (omega arith)
 
-      coming-told : (t : Bool) → map result_row (cond t (moveNumbers entered x ∷ []) []) ≡ map (row_of entered) (cond t (x ∷ []) [])
-      unfolding result_row moveNumbers row_of
+      coming-told : (t : Bool) → map result_row (cond t (move_numbers entered x ∷ []) []) ≡ map (row_of entered) (cond t (x ∷ []) [])
+      unfolding result_row move_numbers row_of
       coming-told true = refl
       coming-told false = refl
 
-      pub entered-told : map result_row (toldRows entering u.changed m) ≡ map (row_of entered) (gone (skyline d after) (skyline d before))
-      unfolding toldRows comingRows
+      pub entered-told : map result_row (told_rows entering u.changed m) ≡ map (row_of entered) (gone (skyline d after) (skyline d before))
+      unfolding told_rows coming_rows
       entered-told =
-          let es = placesIn 0 p (tellsPlace entering u.changed m) in
-          let fs = placesIn p n (tellsPlace entering u.changed m) in
-          let own : List (List ℕ) = cond u.listed (moveNumbers entered x ∷ []) [] in
+          let es = places_in 0 p (tells_place entering u.changed m) in
+          let fs = places_in p n (tells_place entering u.changed m) in
+          let own : List (List ℕ) = cond u.listed (move_numbers entered x ∷ []) [] in
           map-append result_row (rows_at c d entered es m) (own ++ rows_at c d entered fs m)
-          ∙ ap₂ ◌++◌ (rows_told entered es ∙ ap (λ (js : List ℕ). map (row_of entered) (map (moveIn c d m) js)) first-chosen)
+          ∙ ap₂ ◌++◌ (rows_told entered es ∙ ap (λ (js : List ℕ). map (row_of entered) (map (move_in c d m) js)) first-chosen)
           (map-append result_row own (rows_at c d entered fs m)
           ∙ ap₂ ◌++◌ (coming-told u.listed ∙ ap (λ (t : Bool). map (row_of entered) (cond t (x ∷ []) [])) v.listed)
-          (rows_told entered fs ∙ ap (λ (js : List ℕ). map (row_of entered) (map (moveIn c d m) js)) last-chosen)
+          (rows_told entered fs ∙ ap (λ (js : List ℕ). map (row_of entered) (map (move_in c d m) js)) last-chosen)
           ∙ sym (map-append (row_of entered) (cond (k.comes && not (hidden d after x)) (x ∷ []) []) last))
           ∙ sym (map-append (row_of entered) first (cond (k.comes && not (hidden d after x)) (x ∷ []) [] ++ last))
           ∙ ap (map (row_of entered)) (sym entered-part)
@@ -331,12 +331,12 @@ module _ (c d n : ℕ) (k : Exchange) (m : List ℕ) (s : SoundRows c d n m) (b 
             arith,
             v.entered,
             ap (λ (js : List ℕ). length (select enters js)) (whole p f),
-            ap length (select-append enters (numbersFrom 0 p) (numbersFrom p (n - p))),
-            length-append (select enters (numbersFrom 0 p)) (select enters (numbersFrom p (n - p))),
+            ap length (select-append enters (numbers_from 0 p) (numbers_from p (n - p))),
+            length-append (select enters (numbers_from 0 p)) (select enters (numbers_from p (n - p))),
             coming-count u.listed,
             ap (λ (t : Bool). length (cond t (x ∷ []) [])) v.listed,
-            length-map (select enters (numbersFrom 0 p)) (moveIn c d m),
-            length-map (select enters (numbersFrom p (n - p))) (moveIn c d m),
+            length-map (select enters (numbers_from 0 p)) (move_in c d m),
+            length-map (select enters (numbers_from p (n - p))) (move_in c d m),
             length-append first (own ++ last),
             length-append own last,
             ap length entered-part,

@@ -19,10 +19,10 @@ module _ {A : Type 0} (f : ℕ → A) where
   length-tab zero = refl
   length-tab (suc n) = length-append (tab f n) (f n ∷ []) ∙ ap (λ (k : ℕ). k + 1) (length-tab n) ∙ add-one n
 
-  pub getD-tab : (z : A) (n i : ℕ) → i < n → get_or (tab f n) i z ≡ f i
+  pub get_or-tab : (z : A) (n i : ℕ) → i < n → get_or (tab f n) i z ≡ f i
   unfolding tab
-  getD-tab z zero i h = absurd (omega arith)
-  getD-tab z (suc n) i h = go (dec_lt i n) (getD-tab z n i)
+  get_or-tab z zero i h = absurd (omega arith)
+  get_or-tab z (suc n) i h = go (dec_lt i n) (get_or-tab z n i)
     where
       go : Dec (i < n) → (i < n → get_or (tab f n) i z ≡ f i) → get_or (tab f n ++ f n ∷ []) i z ≡ f i
       go (yes l) g = get_or-append (tab f n) (f n ∷ []) z i (omega (arith, length-tab n)) ∙ g l
@@ -30,8 +30,8 @@ module _ {A : Type 0} (f : ℕ → A) where
           let e : i ≡ n = omega arith in
           ap (λ (j : ℕ). get_or (tab f n ++ f n ∷ []) j z) (e ∙ sym (length-tab n)) ∙ get_or-append_seam (tab f n) (f n) [] z ∙ ap f (sym e)
 
-  pub getD-tab-past : (z : A) (n i : ℕ) → n ≤ i → get_or (tab f n) i z ≡ z
-  getD-tab-past z n i h = get_or-eq_default (tab f n) z (omega (arith, length-tab n))
+  pub get_or-tab-past : (z : A) (n i : ℕ) → n ≤ i → get_or (tab f n) i z ≡ z
+  get_or-tab-past z n i h = get_or-eq_default (tab f n) z (omega (arith, length-tab n))
 
   pub each-tab : (P : A → Type 0) (n : ℕ) → ((i : ℕ) → i < n → P (f i)) → Each P (tab f n)
   unfolding tab
@@ -49,7 +49,7 @@ module _ {A : Type 0} where
   -- A list of n entries that holds f i at each place i.
   pub tab-of : (f : ℕ → A) (z : A) (n : ℕ) (l : List A) → length l ≡ n → ((i : ℕ) → i < n → get_or l i z ≡ f i) → l ≡ tab f n
   tab-of f z n l count h =
-      ext_get_or z l (tab f n) (count ∙ sym (length-tab f n)) (λ i k. h i (omega arith) ∙ sym (getD-tab f z n i (omega arith)))
+      ext_get_or z l (tab f n) (count ∙ sym (length-tab f n)) (λ i k. h i (omega arith) ∙ sym (get_or-tab f z n i (omega arith)))
 
   pub tab-append : (f : ℕ → A) (n k : ℕ) → tab f (n + k) ≡ tab f n ++ tab (λ i. f (n + i)) k
   unfolding tab
@@ -83,7 +83,7 @@ module _ {A : Type 0} where
     where
       go : (j : ℕ) → j < n → Dec (j ≡ i) → get_or (set (tab f n) i x) j x ≡ g j
       go j h (yes e) = ap (λ (k : ℕ). get_or (set (tab f n) i x) k x) e ∙ get_or-set_same (tab f n) i x x (omega (arith, length-tab f n)) ∙ sym (ap g e ∙ at)
-      go j h (no e) = get_or-set_other (tab f n) i j x x e ∙ getD-tab f x n j h ∙ sym (others j h e)
+      go j h (no e) = get_or-set_other (tab f n) i j x x e ∙ get_or-tab f x n j h ∙ sym (others j h e)
 
   -- An entry put in at place p.
   pub tab-insert : (f g : ℕ → A) (n p : ℕ) (x : A) → p ≤ n → ((i : ℕ) → i < p → g i ≡ f i) → g p ≡ x → ((i : ℕ) → p ≤ i → i < n → g (suc i) ≡ f i) → tab g (suc n) ≡ take p (tab f n) ++ x ∷ drop p (tab f n)

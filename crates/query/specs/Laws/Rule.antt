@@ -7,16 +7,16 @@ use Rattle.std.proofs.Math.Path.{refl, sym, ap, ap₂, fun_ext}
 use Rattle.std.proofs.Common.{◌∙◌, arith}
 use Rattle.std.proofs.Math.Dec.{leb, leb-zero, leb-suc-zero, leb-suc-suc}
 use borrow.Author.Tests.{leb-true, le-leb, ltb-true, le-ltb}
-use Rattle.zorder.specs.Address.{rowCosts}
-use Rattle.model.specs.Basics.{select, any, all, count, parts, numbersFrom}
-use Rattle.model.specs.Dominance.{less, nowhereGreater, somewhereLess, better, at, dominatesAt, dominatesOn}
-use Rattle.model.specs.Lists.{chosenCosts}
+use Rattle.zorder.specs.Address.{row_costs}
+use Rattle.model.specs.Basics.{select, any, all, count, parts, numbers_from}
+use Rattle.model.specs.Dominance.{less, nowhere_greater, somewhere_less, better, at, dominates_at, dominates_on}
+use Rattle.model.specs.Lists.{chosen_costs}
 use Rattle.model.specs.Laws.Bool.{same_test, or_cases, or_left, and_left, and_both, both_ways, not-flip}
 use Rattle.model.specs.Laws.Basics.{any_append, any-map, any-witness, count-cons, count-pos}
 use Rattle.model.specs.Laws.Range.{length-numbers}
 use Rattle.model.specs.Laws.Chosen.{chosen-within}
 use Rattle.model.specs.Laws.Queries.{at_first}
-use Rattle.dominance.specs.Sums.{countLess}
+use Rattle.dominance.specs.Sums.{count_less}
 use Rattle.dominance.specs.Laws.Sums.{exceeds-better}
 
 -- ---- some k entries that all pass one test, and one of which passes another
@@ -120,27 +120,27 @@ module _ (p q : List ℕ) where
   lower-fits i e =
       not-flip (ltb (get_or q i 0) (get_or p i 0)) (le-ltb (get_or q i 0) (get_or p i 0) (omega (arith, ltb-true (get_or p i 0) (get_or q i 0) e)))
 
-  nowhere-at : (s : List ℕ) → nowhereGreater (at s p) (at s q) ≡ all fits s
-  unfolding at nowhereGreater all fits
+  nowhere-at : (s : List ℕ) → nowhere_greater (at s p) (at s q) ≡ all fits s
+  unfolding at nowhere_greater all fits
   nowhere-at [] = refl
   nowhere-at (i ∷ s) = ap (λ (b : Bool). fits i && b) (nowhere-at s)
 
-  somewhere-at : (s : List ℕ) → somewhereLess (at s p) (at s q) ≡ any lower s
-  unfolding at somewhereLess any lower
+  somewhere-at : (s : List ℕ) → somewhere_less (at s p) (at s q) ≡ any lower s
+  unfolding at somewhere_less any lower
   somewhere-at [] = refl
   somewhere-at (i ∷ s) = ap (λ (b : Bool). lower i || b) (somewhere-at s)
 
-  dominates-at : (s : List ℕ) → dominatesAt s p q ≡ (all fits s && any lower s)
-  unfolding dominatesAt better
+  dominates-at : (s : List ℕ) → dominates_at s p q ≡ (all fits s && any lower s)
+  unfolding dominates_at better
   dominates-at s = ap₂ ◌&&◌ (nowhere-at s) (somewhere-at s)
 
   -- On some k costs: not greater on k or more of them, and less on one.
-  dominates-on : (d k : ℕ) → 1 ≤ k → dominatesOn d k p q ≡ (any lower (numbersFrom 0 d) && leb k (count fits (numbersFrom 0 d)))
-  unfolding dominatesOn one_passes
+  dominates-on : (d k : ℕ) → 1 ≤ k → dominates_on d k p q ≡ (any lower (numbers_from 0 d) && leb k (count fits (numbers_from 0 d)))
+  unfolding dominates_on one_passes
   dominates-on d zero h = absurd (omega arith)
   dominates-on d (suc k) h =
-      ap (λ (t : List ℕ → Bool). any t (parts (suc k) (numbersFrom 0 d))) (fun_ext dominates-at)
-      ∙ parts-one-passes fits lower lower-fits k (numbersFrom 0 d)
+      ap (λ (t : List ℕ → Bool). any t (parts (suc k) (numbers_from 0 d))) (fun_ext dominates-at)
+      ∙ parts-one-passes fits lower lower-fits k (numbers_from 0 d)
 
 -- ---- the tests of the code
 
@@ -150,33 +150,33 @@ fit-turn false n m k e = omega arith
 
 module _ (p q : List ℕ) where
   -- A cost that is not greater fits; every other is counted as greater.
-  fit-sum : (s : List ℕ) → count (fits p q) s + countLess (at s q) (at s p) ≡ length s
-  unfolding count select fits at countLess
+  fit-sum : (s : List ℕ) → count (fits p q) s + count_less (at s q) (at s p) ≡ length s
+  unfolding count select fits at count_less
   fit-sum [] = refl
   fit-sum (i ∷ s) =
-      ap (λ (n : ℕ). n + countLess (at (i ∷ s) q) (at (i ∷ s) p)) (count-cons (fits p q) i s)
-      ∙ fit-turn (less (get_or q i 0) (get_or p i 0)) (count (fits p q) s) (countLess (at s q) (at s p)) (length s) (fit-sum s)
+      ap (λ (n : ℕ). n + count_less (at (i ∷ s) q) (at (i ∷ s) p)) (count-cons (fits p q) i s)
+      ∙ fit-turn (less (get_or q i 0) (get_or p i 0)) (count (fits p q) s) (count_less (at s q) (at s p)) (length s) (fit-sum s)
 
   module _ (d : ℕ) (h : d ≤ length p) (l : d ≤ length q) where
-    greater-first : countLess (at (numbersFrom 0 d) q) (at (numbersFrom 0 d) p) ≡ countLess (take d q) (take d p)
-    greater-first = ap₂ countLess (at_first d q l) (at_first d p h)
+    greater-first : count_less (at (numbers_from 0 d) q) (at (numbers_from 0 d) p) ≡ count_less (take d q) (take d p)
+    greater-first = ap₂ count_less (at_first d q l) (at_first d p h)
 
-    fitting : count (fits p q) (numbersFrom 0 d) + countLess (take d q) (take d p) ≡ d
-    fitting = omega (arith, greater-first, fit-sum (numbersFrom 0 d), length-numbers d 0)
+    fitting : count (fits p q) (numbers_from 0 d) + count_less (take d q) (take d p) ≡ d
+    fitting = omega (arith, greater-first, fit-sum (numbers_from 0 d), length-numbers d 0)
 
     -- On some k of the first d costs.
-    pub count-on-k : (k : ℕ) → 1 ≤ k → (leb k (d - countLess (take d q) (take d p)) && somewhereLess (take d p) (take d q)) ≡ dominatesOn d k p q
+    pub count-on-k : (k : ℕ) → 1 ≤ k → (leb k (d - count_less (take d q) (take d p)) && somewhere_less (take d p) (take d q)) ≡ dominates_on d k p q
     count-on-k k m =
-        let fit : d - countLess (take d q) (take d p) ≡ count (fits p q) (numbersFrom 0 d) = omega (arith, fitting) in
-        ap₂ (λ (n : ℕ) (b : Bool). leb k n && b) fit (ap₂ somewhereLess (sym (at_first d p h)) (sym (at_first d q l)) ∙ somewhere-at p q (numbersFrom 0 d))
-        ∙ and_comm (leb k (count (fits p q) (numbersFrom 0 d))) (any (lower p q) (numbersFrom 0 d))
+        let fit : d - count_less (take d q) (take d p) ≡ count (fits p q) (numbers_from 0 d) = omega (arith, fitting) in
+        ap₂ (λ (n : ℕ) (b : Bool). leb k n && b) fit (ap₂ somewhere_less (sym (at_first d p h)) (sym (at_first d q l)) ∙ somewhere-at p q (numbers_from 0 d))
+        ∙ and_comm (leb k (count (fits p q) (numbers_from 0 d))) (any (lower p q) (numbers_from 0 d))
         ∙ sym (dominates-on p q d k m)
 
   -- On those of the first d costs that are in a set.
-  pub exceeds-chosen : (d set : ℕ) → d ≤ rowCosts
-      → let s : List ℕ = chosenCosts rowCosts (set % 2 ^ d) in
-      (not (somewhereLess (at s q) (at s p)) && somewhereLess (at s p) (at s q)) ≡ dominatesAt (chosenCosts d set) p q
-  unfolding dominatesAt
+  pub exceeds-chosen : (d set : ℕ) → d ≤ row_costs
+      → let s : List ℕ = chosen_costs row_costs (set % 2 ^ d) in
+      (not (somewhere_less (at s q) (at s p)) && somewhere_less (at s p) (at s q)) ≡ dominates_at (chosen_costs d set) p q
+  unfolding dominates_at
   exceeds-chosen d set h =
-      exceeds-better (at (chosenCosts rowCosts (set % 2 ^ d)) p) (at (chosenCosts rowCosts (set % 2 ^ d)) q)
-      ∙ ap (λ (s : List ℕ). dominatesAt s p q) (chosen-within rowCosts d set h)
+      exceeds-better (at (chosen_costs row_costs (set % 2 ^ d)) p) (at (chosen_costs row_costs (set % 2 ^ d)) q)
+      ∙ ap (λ (s : List ℕ). dominates_at s p q) (chosen-within row_costs d set h)

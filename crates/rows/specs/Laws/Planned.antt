@@ -10,21 +10,21 @@ use Rattle.std.proofs.Math.Seq.{take-length}
 use Rattle.model.specs.Moves.{Row}
 use Rattle.model.specs.Tree.{Tree}
 use Rattle.model.specs.Calls as calls
-use Rattle.model.specs.Calls.{accepted, refusedWith, or_else, rowsAnswer, Query, queryRefusal, queryRows, queryAnswer}
-use Rattle.model.specs.Laws.Bool.{byCases}
+use Rattle.model.specs.Calls.{accepted, refused_with, or_else, rows_answer, Query, query_refusal, query_rows, query_answer}
+use Rattle.model.specs.Laws.Bool.{by_cases}
 use Rattle.model.specs.Laws.Basics.{map-take, map-drop}
-use Rattle.promises.specs.Layout.{dimensionIn, boardIn}
-use Rattle.model.specs.Opening.{queryOpens}
+use Rattle.promises.specs.Layout.{dimension_in, board_in}
+use Rattle.model.specs.Opening.{query_opens}
 use Rattle.memory.specs.declared.head.Head.{Head}
 use Rattle.promises.specs.Sound.{Stands, Sound}
-use Rattle.promises.specs.Answers.{answer_of, number_of, counted, rowsAfter, result_row, refusedBy, outcomeNumber}
+use Rattle.promises.specs.Answers.{answer_of, number_of, counted, rows_after, result_row, refused_by, outcome_number}
 use Rattle.promises.specs.Promise.{Said, UnsoundSaid, QueryPromise}
 use Rattle.promises.specs.declared.Verdict.{Verdict}
 use Rattle.promises.specs.declared.Outcome.{Outcome}
 use Rattle.promises.specs.declared.Outcome.TheVariants.{Unsound, BadArgument}
 use Rattle.upkeep.specs.declared.found.Found.{Found}
-use Rattle.rows.specs.Telling.{toldRows, filledRows, listing}
-use Rattle.rows.specs.Planned.{answerBy, Foreseen, Tells, QueryPlanned, Refuses, PlansFound, put, answered}
+use Rattle.rows.specs.Telling.{told_rows, filled_rows, listing}
+use Rattle.rows.specs.Planned.{answer_by, Foreseen, Tells, QueryPlanned, Refuses, PlansFound, put, answered}
 use Rattle.rows.specs.Laws.Telling.{filled-all, length_none}
 use Rattle.rows.specs.Laws.Listed.{found_rows, found-count, listed-asked}
 use Rattle.rows.specs.declared.plan.Plan.{Plan}
@@ -40,16 +40,16 @@ first-refuses a b h = ap (λ (t : Bool). cond t b a) (ne_eqb a.number 0 (λ e. o
 pub accepts-first : (a b : calls.Answer) → (or_else a b).number ≡ 0 → a.number ≡ 0
 unfolding or_else
 accepts-first a b e =
-    byCases (eqb a.number 0) (λ t. eqb-true a.number 0 t) (λ f. sym (ap (λ (t : Bool). (cond t b a).number) f) ∙ e)
+    by_cases (eqb a.number 0) (λ t. eqb-true a.number 0 t) (λ f. sym (ap (λ (t : Bool). (cond t b a).number) f) ∙ e)
 
 -- Refusal 8 by the rows needed.
 by_rows : ℕ → Bool → calls.Answer
 by_rows need b = cond b (record { number = 8; detail = need }) accepted
 
-pub few-refuses : (need lent : ℕ) (k : ℕ) → k ≡ (rowsAnswer need lent).number → counted k need ≤ lent
-unfolding counted rowsAnswer accepted by_rows
+pub few-refuses : (need lent : ℕ) (k : ℕ) → k ≡ (rows_answer need lent).number → counted k need ≤ lent
+unfolding counted rows_answer accepted by_rows
 few-refuses need lent zero e =
-    byCases (ltb lent need)
+    by_cases (ltb lent need)
     (λ t. absurd (eight (e ∙ ap (λ (b : Bool). (by_rows need b).number) t)))
     (λ f. ltb-false lent need f)
   where
@@ -58,7 +58,7 @@ few-refuses need lent zero e =
 few-refuses need lent (suc k) e = omega arith
 
 module _ (refusal : calls.Answer) (rows : List Row) (nodes : Tree → ℕ) (m : List ℕ) (lent need opened : ℕ) where
-  pub foreseen-unsound : (Sound m → ⊥) → Foreseen refusal rows nodes m lent (refusedBy Unsound 0) need opened
+  pub foreseen-unsound : (Sound m → ⊥) → Foreseen refusal rows nodes m lent (refused_by Unsound 0) need opened
   foreseen-unsound h = record { sound = λ s. absurd (h s); unsound = λ _. refl; needs = λ s. absurd (h s); opens = λ s. absurd (h s) }
 
   module _ (s : Sound m) where
@@ -66,18 +66,18 @@ module _ (refusal : calls.Answer) (rows : List Row) (nodes : Tree → ℕ) (m : 
     foreseen-refused v e h =
         let some : 0 < refusal.number = subst (λ (a : calls.Answer). 0 < a.number) e h in
         record {
-          sound = λ _. e ∙ sym (first-refuses refusal (rowsAnswer (length rows) lent) some);
+          sound = λ _. e ∙ sym (first-refuses refusal (rows_answer (length rows) lent) some);
           unsound = λ n. absurd (n s);
           needs = λ _ z. absurd (omega arith);
           opens = λ _ z. absurd (omega arith);
         }
 
-    pub foreseen-judged : (v : Verdict) → refusal ≡ accepted → answer_of v ≡ rowsAnswer need lent → need ≡ length rows → ((t : Tree) → Stands m t → opened ≡ nodes t)
+    pub foreseen-judged : (v : Verdict) → refusal ≡ accepted → answer_of v ≡ rows_answer need lent → need ≡ length rows → ((t : Tree) → Stands m t → opened ≡ nodes t)
         → Foreseen refusal rows nodes m lent v need opened
     unfolding or_else accepted
     foreseen-judged v f e is opens =
         record {
-          sound = λ _. e ∙ ap₂ (λ (a : calls.Answer) (i : ℕ). or_else a (rowsAnswer i lent)) (sym f) is;
+          sound = λ _. e ∙ ap₂ (λ (a : calls.Answer) (i : ℕ). or_else a (rows_answer i lent)) (sym f) is;
           unsound = λ n. absurd (n s);
           needs = λ _ _. is;
           opens = λ s _. opens s.tree s.stands;
@@ -102,10 +102,10 @@ counted_same (suc k) a b e = refl
 module _ {refusal : calls.Answer} {rows : List Row} {nodes : Tree → ℕ} {m : List ℕ} {lent : ℕ} {v : Verdict} {need opened : ℕ} (f : Foreseen refusal rows nodes m lent v need opened) where
   -- An accepted call was turned down by nothing.
   pub foreseen-accepts : Sound m → number_of v ≡ 0 → refusal.number ≡ 0
-  foreseen-accepts s z = accepts-first refusal (rowsAnswer (length rows) lent) (sym (ap (λ (a : calls.Answer). a.number) (f.sound s)) ∙ z)
+  foreseen-accepts s z = accepts-first refusal (rows_answer (length rows) lent) (sym (ap (λ (a : calls.Answer). a.number) (f.sound s)) ∙ z)
 
-  module _ (before after : List Row) (e : after ≡ rowsAfter (number_of v) rows before) where
-    pub foreseen-said : (s : Sound m) → Said (answerBy refusal rows lent) rows (nodes s.tree) before (answered v need opened) after
+  module _ (before after : List Row) (e : after ≡ rows_after (number_of v) rows before) where
+    pub foreseen-said : (s : Sound m) → Said (answer_by refusal rows lent) rows (nodes s.tree) before (answered v need opened) after
     foreseen-said s =
         record {
           answers = f.sound s;
@@ -115,14 +115,14 @@ module _ {refusal : calls.Answer} {rows : List Row} {nodes : Tree → ℕ} {m : 
         }
 
     pub foreseen-unsaid : (Sound m → ⊥) → UnsoundSaid before (answered v need opened) after
-    unfolding refusedWith counted rowsAfter outcomeNumber
+    unfolding refused_with counted rows_after outcome_number
     foreseen-unsaid n =
         let three = f.unsound n in
         record {
           answers = ap (λ (w : Verdict). answer_of w) three;
           counts = ap (λ (w : Verdict). counted (number_of w) need) three ∙ sym (ap (λ (w : Verdict). counted (number_of w) 0) three);
           opens = ap (λ (w : Verdict). counted (number_of w) opened) three ∙ sym (ap (λ (w : Verdict). counted (number_of w) 0) three);
-          tells = e ∙ ap (λ (w : Verdict). rowsAfter (number_of w) rows before) three ∙ sym (ap (λ (w : Verdict). rowsAfter (number_of w) [] before) three);
+          tells = e ∙ ap (λ (w : Verdict). rows_after (number_of w) rows before) three ∙ sym (ap (λ (w : Verdict). rows_after (number_of w) [] before) three);
         }
 
 -- ---- the rows after a telling was filled in
@@ -133,14 +133,14 @@ unfolding put
 put-none from rows = ap (λ (k : ℕ). take from rows ++ drop k rows) (add-zero from) ∙ take-append-drop from rows
 
 -- From the first row on, and two parts one after the other.
-pub put_first : (new rows : List Row) → put 0 new rows ≡ new ++ drop (length new) rows
+pub put-first : (new rows : List Row) → put 0 new rows ≡ new ++ drop (length new) rows
 unfolding put
-put_first new rows = ap (λ (k : ℕ). new ++ drop k rows) (zero-add (length new))
+put-first new rows = ap (λ (k : ℕ). new ++ drop k rows) (zero-add (length new))
 
 pub put_both : (ls es rows : List Row) → put (length ls) es (put 0 ls rows) ≡ (ls ++ es) ++ drop (length (ls ++ es)) rows
 unfolding put
 put_both ls es rows =
-    ap (put (length ls) es) (put_first ls rows)
+    ap (put (length ls) es) (put-first ls rows)
     ∙ ap₂ (λ (xs ys : List Row). xs ++ (es ++ ys)) (take_at ls (drop (length ls) rows) (length ls) refl)
     (sym (drop-drop (length es) (length ls) (ls ++ drop (length ls) rows))
     ∙ ap (drop (length es)) (drop_at ls (drop (length ls) rows) (length ls) refl)
@@ -150,7 +150,7 @@ put_both ls es rows =
 
 module _ {v : Verdict} {new : List Row} {m : List ℕ} {t : Telling} (tells : Tells v new m t) where
   abbrev all : List (List ℕ)
-  all = toldRows t.told t.numbers m
+  all = told_rows t.told t.numbers m
 
   some-accepts : 0 < t.count → number_of v ≡ 0
   some-accepts h = by (number_of v) refl
@@ -164,7 +164,7 @@ module _ {v : Verdict} {new : List Row} {m : List ℕ} {t : Telling} (tells : Te
 
   -- Accepted, the rows are put from a row on; refused, all are as they were.
   filled_put : (rows : List (List ℕ)) (from : ℕ) → from + t.count ≤ length rows → 0 < t.count
-      → map result_row (filledRows t.told t.numbers m from t.count rows) ≡ put from new (map result_row rows)
+      → map result_row (filled_rows t.told t.numbers m from t.count rows) ≡ put from new (map result_row rows)
   unfolding put
   filled_put rows from h some =
       let count : t.count ≡ length new = tells.count (some-accepts some) in
@@ -178,37 +178,37 @@ module _ {v : Verdict} {new : List Row} {m : List ℕ} {t : Telling} (tells : Te
       ∙ append_assoc (take from (map result_row rows)) new (drop (from + length new) (map result_row rows))
 
   pub tells-put : (rows : List (List ℕ)) (from : ℕ) → from + t.count ≤ length rows → number_of v ≡ 0
-      → map result_row (filledRows t.told t.numbers m from t.count rows) ≡ put from new (map result_row rows)
-  unfolding filledRows
+      → map result_row (filled_rows t.told t.numbers m from t.count rows) ≡ put from new (map result_row rows)
+  unfolding filled_rows
   tells-put rows from h z = by t.count refl
     where
-      by : (k : ℕ) → t.count ≡ k → map result_row (filledRows t.told t.numbers m from t.count rows) ≡ put from new (map result_row rows)
+      by : (k : ℕ) → t.count ≡ k → map result_row (filled_rows t.told t.numbers m from t.count rows) ≡ put from new (map result_row rows)
       by zero e =
-          ap (λ (k : ℕ). map result_row (filledRows t.told t.numbers m from k rows)) e
+          ap (λ (k : ℕ). map result_row (filled_rows t.told t.numbers m from k rows)) e
           ∙ sym (put-none from (map result_row rows))
           ∙ ap (λ (l : List Row). put from l (map result_row rows)) (sym (length_none new (sym (tells.count z) ∙ e)))
       by (suc k) e = filled_put rows from h (omega (arith, e))
 
-  pub tells_none : (rows : List (List ℕ)) (from : ℕ) → 0 < number_of v → filledRows t.told t.numbers m from t.count rows ≡ rows
-  unfolding filledRows
-  tells_none rows from h = ap (λ (k : ℕ). filledRows t.told t.numbers m from k rows) (tells.none h)
+  pub tells_none : (rows : List (List ℕ)) (from : ℕ) → 0 < number_of v → filled_rows t.told t.numbers m from t.count rows ≡ rows
+  unfolding filled_rows
+  tells_none rows from h = ap (λ (k : ℕ). filled_rows t.told t.numbers m from k rows) (tells.none h)
 
   -- What a list's rows are afterwards.
   pub tells-after : (rows : List (List ℕ)) → t.count ≤ length rows
-      → map result_row (filledRows t.told t.numbers m 0 t.count rows) ≡ rowsAfter (number_of v) new (map result_row rows)
-  unfolding rowsAfter
+      → map result_row (filled_rows t.told t.numbers m 0 t.count rows) ≡ rows_after (number_of v) new (map result_row rows)
+  unfolding rows_after
   tells-after rows h = by (number_of v) refl
     where
-      by : (k : ℕ) → number_of v ≡ k → map result_row (filledRows t.told t.numbers m 0 t.count rows) ≡ rowsAfter k new (map result_row rows)
-      by zero e = tells-put rows 0 (omega arith) e ∙ put_first new (map result_row rows)
+      by : (k : ℕ) → number_of v ≡ k → map result_row (filled_rows t.told t.numbers m 0 t.count rows) ≡ rows_after k new (map result_row rows)
+      by zero e = tells-put rows 0 (omega arith) e ∙ put-first new (map result_row rows)
       by (suc k) e = ap (map result_row) (tells_none rows 0 (omega (arith, e)))
 
 -- ---- lists
 
 pub query-promise : {q : Query} {m : List ℕ} {p : Plan} (before : List (List ℕ)) {after : List Row} → QueryPlanned q m (length (map result_row before)) p
-    → after ≡ map result_row (filledRows p.telling.told p.telling.numbers m 0 p.telling.count before)
+    → after ≡ map result_row (filled_rows p.telling.told p.telling.numbers m 0 p.telling.count before)
     → QueryPromise q m (map result_row before) (answered p.verdict p.need p.opened) after
-unfolding queryAnswer
+unfolding query_answer
 query-promise {p = p} before {after} plan e =
     let rows = e ∙ tells-after plan.tells before (omega (arith, plan.enough, length-map before result_row)) in
     record {
@@ -228,26 +228,26 @@ refuses-tells {v} e h =
 
 module _ (q : Query) (m : List ℕ) (lent : ℕ) {p : Plan} where
   refuses-plans : {v : Verdict} → Refuses v p → 0 < number_of v
-      → Foreseen (queryRefusal (boardIn m) q) (queryRows (boardIn m) q) (queryOpens (dimensionIn m) q) m lent v p.need p.opened → QueryPlanned q m lent p
+      → Foreseen (query_refusal (board_in m) q) (query_rows (board_in m) q) (query_opens (dimension_in m) q) m lent v p.need p.opened → QueryPlanned q m lent p
   refuses-plans {v} e h f =
       record {
-        foreseen = subst (λ (w : Verdict). Foreseen (queryRefusal (boardIn m) q) (queryRows (boardIn m) q) (queryOpens (dimensionIn m) q) m lent w p.need p.opened) (sym e.verdict) f;
+        foreseen = subst (λ (w : Verdict). Foreseen (query_refusal (board_in m) q) (query_rows (board_in m) q) (query_opens (dimension_in m) q) m lent w p.need p.opened) (sym e.verdict) f;
         tells = refuses-tells e h;
         enough = omega (arith, e.count);
       }
 
-  pub query-unsound : Refuses (refusedBy Unsound 0) p → (Sound m → ⊥) → QueryPlanned q m lent p
-  unfolding outcomeNumber
+  pub query-unsound : Refuses (refused_by Unsound 0) p → (Sound m → ⊥) → QueryPlanned q m lent p
+  unfolding outcome_number
   query-unsound e h = refuses-plans e (omega arith) (foreseen-unsound _ _ _ m lent _ _ h)
 
-  pub query-refused : {o : Outcome} {detail : ℕ} → Refuses (refusedBy o detail) p → Sound m → 0 < outcomeNumber o → queryRefusal (boardIn m) q ≡ answer_of (refusedBy o detail) → QueryPlanned q m lent p
-  query-refused {o} {detail} e s h f = refuses-plans e h (foreseen-refused _ _ _ m lent _ _ s (refusedBy o detail) (sym f) h)
+  pub query-refused : {o : Outcome} {detail : ℕ} → Refuses (refused_by o detail) p → Sound m → 0 < outcome_number o → query_refusal (board_in m) q ≡ answer_of (refused_by o detail) → QueryPlanned q m lent p
+  query-refused {o} {detail} e s h f = refuses-plans e h (foreseen-refused _ _ _ m lent _ _ s (refused_by o detail) (sym f) h)
 
-  pub query-bad : Refuses (refusedBy BadArgument 0) p → Sound m → queryRefusal (boardIn m) q ≡ refusedWith 7 → QueryPlanned q m lent p
-  unfolding refusedWith outcomeNumber
+  pub query-bad : Refuses (refused_by BadArgument 0) p → Sound m → query_refusal (board_in m) q ≡ refused_with 7 → QueryPlanned q m lent p
+  unfolding refused_with outcome_number
   query-bad e s f = query-refused e s (omega arith) f
 
-pub found-plans : (h : Head) (found : Found) (opened lent : ℕ) (v : Verdict) (k : ℕ) → answer_of v ≡ rowsAnswer found.count lent → k ≡ counted (number_of v) found.count
+pub found-plans : (h : Head) (found : Found) (opened lent : ℕ) (v : Verdict) (k : ℕ) → answer_of v ≡ rows_answer found.count lent → k ≡ counted (number_of v) found.count
     → PlansFound h found opened lent (record { verdict = v; need = found.count; opened = opened; telling = listing h found.numbers k })
 found-plans h found opened lent v k e few =
     record {

@@ -1,5 +1,5 @@
 -- The rows of a telling, one by one, are all its rows.
-use Rattle.zorder.specs.Address.{rowCosts}
+use Rattle.zorder.specs.Address.{row_costs}
 use Prim.Native.Nat.{ℕ, zero, suc, ◌+◌, ◌-◌, ◌≤◌, ◌<◌}
 use Rattle.std.specs.Prelude.{Bool, true, false, ◌≡◌, ltb, get_or, replicate}
 use Rattle.std.proofs.Math.Bool.{cond}
@@ -10,15 +10,15 @@ use Rattle.std.proofs.Math.Nat.{zero-add}
 use native.Mathlib.Omega.{arith}
 use Rattle.std.proofs.Math.ListN.{length, set, drop, length-set}
 use Rattle.std.proofs.Math.Seq.{paste, paste-zero, paste-suc, drop-drop}
-use Rattle.model.specs.Basics.{consIf, select, numbersFrom, first_or}
-use Rattle.model.specs.Laws.Bool.{byCases, testCases}
+use Rattle.model.specs.Basics.{cons_if, select, numbers_from, first_or}
+use Rattle.model.specs.Laws.Bool.{by_cases, test_cases}
 use Rattle.model.specs.Laws.Basics.{select-append}
 use Rattle.model.specs.Laws.Range.{numbers-append}
-use Rattle.promises.specs.Layout.{moveIn}
-use Rattle.dominance.specs.Move.{asMove}
-use Rattle.upkeep.specs.Change.{placesIn}
-use Rattle.rows.specs.Rows.{moveNumbers}
-use Rattle.rows.specs.Telling.{TellingAsked, tellsPlace, rows_at, comingRows, toldRows, positions, place_of, toldAt, row_at, toldFrom, nextRow, next_at, position, filledRows}
+use Rattle.promises.specs.Layout.{move_in}
+use Rattle.dominance.specs.Move.{as_move}
+use Rattle.upkeep.specs.Change.{places_in}
+use Rattle.rows.specs.Rows.{move_numbers}
+use Rattle.rows.specs.Telling.{TellingAsked, tells_place, rows_at, coming_rows, told_rows, positions, place_of, told_at, row_at, told_from, next_row, next_at, position, filled_rows}
 use Rattle.rows.specs.declared.telling.View.{View}
 
 -- ---- what stands at a position
@@ -34,64 +34,64 @@ module _ (p i : ℕ) where
 
   pub place-below : (n : ℕ) → p ≤ n → i ≤ n → (i ≡ p → ⊥) → place_of p i < n
   place-below n f h other =
-      byCases (ltb i p)
+      by_cases (ltb i p)
       (λ e. let l = ltb-true i p e in omega (arith, place-before l))
       (λ e. let l = ltb-false i p e in omega (arith, place_after l))
 
 module _ (t : View) (numbers m : List ℕ) (i : ℕ) where
-  pub coming-told : i ≡ t.coming.place → toldAt t numbers m i ≡ t.coming.told
-  unfolding toldAt
-  coming-told e = ap (λ (b : Bool). cond b t.coming.told (tellsPlace t numbers m (place_of t.coming.place i))) (eq-eqb i t.coming.place e)
+  pub coming-told : i ≡ t.coming.place → told_at t numbers m i ≡ t.coming.told
+  unfolding told_at
+  coming-told e = ap (λ (b : Bool). cond b t.coming.told (tells_place t numbers m (place_of t.coming.place i))) (eq-eqb i t.coming.place e)
 
-  pub place-told : (i ≡ t.coming.place → ⊥) → (k : ℕ) → place_of t.coming.place i ≡ k → toldAt t numbers m i ≡ tellsPlace t numbers m k
-  unfolding toldAt
-  place-told other k at = λ j. cond (ne_eqb i t.coming.place other j) t.coming.told (tellsPlace t numbers m (at j))
+  pub place-told : (i ≡ t.coming.place → ⊥) → (k : ℕ) → place_of t.coming.place i ≡ k → told_at t numbers m i ≡ tells_place t numbers m k
+  unfolding told_at
+  place-told other k at = λ j. cond (ne_eqb i t.coming.place other j) t.coming.told (tells_place t numbers m (at j))
 
-  pub coming-row : i ≡ t.coming.place → row_at t m i ≡ moveNumbers t.mark (asMove t.coming.entrant)
+  pub coming-row : i ≡ t.coming.place → row_at t m i ≡ move_numbers t.mark (as_move t.coming.entrant)
   unfolding row_at
   coming-row e =
-      ap (λ (b : Bool). cond b (moveNumbers t.mark (asMove t.coming.entrant)) (moveNumbers t.mark (moveIn t.head.size t.head.dimension m (place_of t.coming.place i))))
+      ap (λ (b : Bool). cond b (move_numbers t.mark (as_move t.coming.entrant)) (move_numbers t.mark (move_in t.head.size t.head.dimension m (place_of t.coming.place i))))
       (eq-eqb i t.coming.place e)
 
-  pub place-row : (i ≡ t.coming.place → ⊥) → (k : ℕ) → place_of t.coming.place i ≡ k → row_at t m i ≡ moveNumbers t.mark (moveIn t.head.size t.head.dimension m k)
+  pub place-row : (i ≡ t.coming.place → ⊥) → (k : ℕ) → place_of t.coming.place i ≡ k → row_at t m i ≡ move_numbers t.mark (move_in t.head.size t.head.dimension m k)
   unfolding row_at
   place-row other k at =
-      λ j. cond (ne_eqb i t.coming.place other j) (moveNumbers t.mark (asMove t.coming.entrant)) (moveNumbers t.mark (moveIn t.head.size t.head.dimension m (at j)))
+      λ j. cond (ne_eqb i t.coming.place other j) (move_numbers t.mark (as_move t.coming.entrant)) (move_numbers t.mark (move_in t.head.size t.head.dimension m (at j)))
 
 -- ---- the told positions from one on
 
 module _ (t : View) (numbers m : List ℕ) where
   abbrev from_on : ℕ → List ℕ
-  from_on = toldFrom t numbers m
+  from_on = told_from t numbers m
 
-  from_step : (i : ℕ) → i < positions t → from_on i ≡ consIf (toldAt t numbers m i) i (from_on (suc i))
-  unfolding toldFrom select numbersFrom
+  from_step : (i : ℕ) → i < positions t → from_on i ≡ cons_if (told_at t numbers m i) i (from_on (suc i))
+  unfolding told_from select numbers_from
   from_step i h =
       let more : positions t - i ≡ suc (positions t - suc i) = omega arith in
-      ap (λ (k : ℕ). select (toldAt t numbers m) (numbersFrom i k)) more
+      ap (λ (k : ℕ). select (told_at t numbers m) (numbers_from i k)) more
 
-  pub from_told : (i : ℕ) → i < positions t → toldAt t numbers m i ≡ true → from_on i ≡ i ∷ from_on (suc i)
-  from_told i h e = from_step i h ∙ ap (λ (b : Bool). consIf b i (from_on (suc i))) e
+  pub from_told : (i : ℕ) → i < positions t → told_at t numbers m i ≡ true → from_on i ≡ i ∷ from_on (suc i)
+  from_told i h e = from_step i h ∙ ap (λ (b : Bool). cons_if b i (from_on (suc i))) e
 
-  pub from-other : (i : ℕ) → i < positions t → toldAt t numbers m i ≡ false → from_on i ≡ from_on (suc i)
-  from-other i h e = from_step i h ∙ ap (λ (b : Bool). consIf b i (from_on (suc i))) e
+  pub from-other : (i : ℕ) → i < positions t → told_at t numbers m i ≡ false → from_on i ≡ from_on (suc i)
+  from-other i h e = from_step i h ∙ ap (λ (b : Bool). cons_if b i (from_on (suc i))) e
 
   pub from_end : (i : ℕ) → positions t ≤ i → from_on i ≡ []
-  unfolding toldFrom select numbersFrom
+  unfolding told_from select numbers_from
   from_end i h =
       let none : positions t - i ≡ 0 = omega arith in
-      ap (λ (k : ℕ). select (toldAt t numbers m) (numbersFrom i k)) none
+      ap (λ (k : ℕ). select (told_at t numbers m) (numbers_from i k)) none
 
   -- What the first of them gives, and what is left after it.
-  pub next-told : (i : ℕ) {j : ℕ} {js : List ℕ} → from_on i ≡ j ∷ js → (nextRow t numbers m i ≡ row_at t m j) × (next_at t numbers m i ≡ suc j)
-  unfolding nextRow next_at first_or
+  pub next-told : (i : ℕ) {j : ℕ} {js : List ℕ} → from_on i ≡ j ∷ js → (next_row t numbers m i ≡ row_at t m j) × (next_at t numbers m i ≡ suc j)
+  unfolding next_row next_at first_or
   next-told i e =
-      (ap (λ (js : List ℕ). first_or (replicate (2 + rowCosts) 0) (map (row_at t m) js)) e, ap (λ (js : List ℕ). first_or (positions t) (map suc js)) e)
+      (ap (λ (js : List ℕ). first_or (replicate (2 + row_costs) 0) (map (row_at t m) js)) e, ap (λ (js : List ℕ). first_or (positions t) (map suc js)) e)
 
-  pub next-none : (i : ℕ) → from_on i ≡ [] → (nextRow t numbers m i ≡ replicate (2 + rowCosts) 0) × (next_at t numbers m i ≡ positions t)
-  unfolding nextRow next_at first_or
+  pub next-none : (i : ℕ) → from_on i ≡ [] → (next_row t numbers m i ≡ replicate (2 + row_costs) 0) × (next_at t numbers m i ≡ positions t)
+  unfolding next_row next_at first_or
   next-none i e =
-      (ap (λ (js : List ℕ). first_or (replicate (2 + rowCosts) 0) (map (row_at t m) js)) e, ap (λ (js : List ℕ). first_or (positions t) (map suc js)) e)
+      (ap (λ (js : List ℕ). first_or (replicate (2 + row_costs) 0) (map (row_at t m) js)) e, ap (λ (js : List ℕ). first_or (positions t) (map suc js)) e)
 
   abbrev Rest : List ℕ → Type 0
   Rest js = from_on (first_or (positions t) (map suc js)) ≡ drop 1 js
@@ -102,7 +102,7 @@ module _ (t : View) (numbers m : List ℕ) where
   rest_from (suc k) i e =
       let next = rest_from k (suc i) (omega arith) in
       subst Rest (sym (from_step i (omega arith)))
-      (testCases (λ (b : Bool). Rest (consIf b i (from_on (suc i)))) (toldAt t numbers m i) (λ _. refl) (λ _. next))
+      (test_cases (λ (b : Bool). Rest (cons_if b i (from_on (suc i)))) (told_at t numbers m i) (λ _. refl) (λ _. next))
 
   position_from : (k : ℕ) → from_on (position t numbers m k) ≡ drop k (from_on 0)
   unfolding position next_at
@@ -127,104 +127,104 @@ length_none (x ∷ l) e = absurd (omega arith)
 -- ---- the told positions give the told rows
 
 module _ {A : Type 0} (f g : ℕ → A) where
-  keep : (b : Bool) (i j : ℕ) (is js : List ℕ) → f i ≡ g j → map f is ≡ map g js → map f (consIf b i is) ≡ map g (consIf b j js)
+  keep : (b : Bool) (i j : ℕ) (is js : List ℕ) → f i ≡ g j → map f is ≡ map g js → map f (cons_if b i is) ≡ map g (cons_if b j js)
   keep true i j is js e h = ap₂ (λ (x : A) (l : List A). x ∷ l) e h
   keep false i j is js e h = h
 
   -- The same choice of the same entries, s positions on.
   shifted : (q r : ℕ → Bool) (s a k : ℕ) → ((i : ℕ) → a ≤ i → i < a + k → (q (s + i) ≡ r i) × (f (s + i) ≡ g i))
-      → map f (select q (numbersFrom (s + a) k)) ≡ map g (select r (numbersFrom a k))
-  unfolding select numbersFrom
+      → map f (select q (numbers_from (s + a) k)) ≡ map g (select r (numbers_from a k))
+  unfolding select numbers_from
   shifted q r s a zero h = refl
   shifted q r s a (suc k) h =
       let here = h a (omega arith) (omega arith) in
-      ap (λ (b : Bool). map f (consIf b (s + a) (select q (numbersFrom (suc (s + a)) k)))) here.0
-      ∙ keep (r a) (s + a) a (select q (numbersFrom (suc (s + a)) k)) (select r (numbersFrom (suc a) k)) here.1
-      (ap (λ (j : ℕ). map f (select q (numbersFrom j k))) (sym (add-suc s a))
+      ap (λ (b : Bool). map f (cons_if b (s + a) (select q (numbers_from (suc (s + a)) k)))) here.0
+      ∙ keep (r a) (s + a) a (select q (numbers_from (suc (s + a)) k)) (select r (numbers_from (suc a) k)) here.1
+      (ap (λ (j : ℕ). map f (select q (numbers_from j k))) (sym (add-suc s a))
       ∙ shifted q r s (suc a) k (λ i l u. h i (omega arith) (omega arith)))
 
 module _ {A : Type 0} (f : ℕ → A) (q : ℕ → Bool) where
-  run : (a j k : ℕ) → map f (select q (numbersFrom a (j + k))) ≡ map f (select q (numbersFrom a j)) ++ map f (select q (numbersFrom (a + j) k))
+  run : (a j k : ℕ) → map f (select q (numbers_from a (j + k))) ≡ map f (select q (numbers_from a j)) ++ map f (select q (numbers_from (a + j) k))
   run a j k =
       ap (λ (is : List ℕ). map f (select q is)) (numbers-append a j k)
-      ∙ ap (map f) (select-append q (numbersFrom a j) (numbersFrom (a + j) k))
-      ∙ map-append f (select q (numbersFrom a j)) (select q (numbersFrom (a + j) k))
+      ∙ ap (map f) (select-append q (numbers_from a j) (numbers_from (a + j) k))
+      ∙ map-append f (select q (numbers_from a j)) (select q (numbers_from (a + j) k))
 
-  one : (a : ℕ) {b : Bool} {x : A} → q a ≡ b → f a ≡ x → map f (select q (numbersFrom a 1)) ≡ cond b (x ∷ []) []
-  unfolding select numbersFrom
+  one : (a : ℕ) {b : Bool} {x : A} → q a ≡ b → f a ≡ x → map f (select q (numbers_from a 1)) ≡ cond b (x ∷ []) []
+  unfolding select numbers_from
   one a {b} {x} e g =
-      ap (λ (c : Bool). map f (consIf c a [])) e
-      ∙ testCases (λ (c : Bool). map f (consIf c a []) ≡ cond c (x ∷ []) []) b (λ _. ap (λ (y : A). y ∷ []) g) (λ _. refl)
+      ap (λ (c : Bool). map f (cons_if c a [])) e
+      ∙ test_cases (λ (c : Bool). map f (cons_if c a []) ≡ cond c (x ∷ []) []) b (λ _. ap (λ (y : A). y ∷ []) g) (λ _. refl)
 
 module _ (t : View) (numbers m : List ℕ) where
   abbrev told : List (List ℕ)
-  told = map (row_at t m) (toldFrom t numbers m 0)
+  told = map (row_at t m) (told_from t numbers m 0)
 
   part : (s from to : ℕ)
-      → ((i : ℕ) → from ≤ i → i < from + (to - from) → (toldAt t numbers m (s + i) ≡ tellsPlace t numbers m i) × (row_at t m (s + i) ≡ moveNumbers t.mark (moveIn t.head.size t.head.dimension m i)))
-      → map (row_at t m) (select (toldAt t numbers m) (numbersFrom (s + from) (to - from))) ≡ rows_at t.head.size t.head.dimension t.mark (placesIn from to (tellsPlace t numbers m)) m
-  unfolding rows_at placesIn
-  part s from to h = shifted (row_at t m) (λ i. moveNumbers t.mark (moveIn t.head.size t.head.dimension m i)) (toldAt t numbers m) (tellsPlace t numbers m) s from (to - from) h
+      → ((i : ℕ) → from ≤ i → i < from + (to - from) → (told_at t numbers m (s + i) ≡ tells_place t numbers m i) × (row_at t m (s + i) ≡ move_numbers t.mark (move_in t.head.size t.head.dimension m i)))
+      → map (row_at t m) (select (told_at t numbers m) (numbers_from (s + from) (to - from))) ≡ rows_at t.head.size t.head.dimension t.mark (places_in from to (tells_place t numbers m)) m
+  unfolding rows_at places_in
+  part s from to h = shifted (row_at t m) (λ i. move_numbers t.mark (move_in t.head.size t.head.dimension m i)) (told_at t numbers m) (tells_place t numbers m) s from (to - from) h
 
   -- The place i at position j.
   shown : (j i : ℕ) → (j ≡ t.coming.place → ⊥) → place_of t.coming.place j ≡ i
-      → (toldAt t numbers m j ≡ tellsPlace t numbers m i) × (row_at t m j ≡ moveNumbers t.mark (moveIn t.head.size t.head.dimension m i))
+      → (told_at t numbers m j ≡ tells_place t numbers m i) × (row_at t m j ≡ move_numbers t.mark (move_in t.head.size t.head.dimension m i))
   shown j i other at = (place-told t numbers m j other i at, place-row t numbers m j other i at)
 
-  told-all : t.coming.place ≤ t.head.count → told ≡ toldRows t numbers m
-  unfolding toldRows toldFrom comingRows
+  told-all : t.coming.place ≤ t.head.count → told ≡ told_rows t numbers m
+  unfolding told_rows told_from coming_rows
   told-all f =
       let n = t.head.count in
       let p = t.coming.place in
       let all : positions t - 0 ≡ (p - 0) + (1 + (n - p)) = omega arith in
-      let rows : ℕ → ℕ → List (List ℕ) = λ a k. map (row_at t m) (select (toldAt t numbers m) (numbersFrom a k)) in
+      let rows : ℕ → ℕ → List (List ℕ) = λ a k. map (row_at t m) (select (told_at t numbers m) (numbers_from a k)) in
       let second : 0 + (p - 0) ≡ p = omega arith in
       let third : p + 1 ≡ 1 + p = omega arith in
       ap (rows 0) all
-      ∙ run (row_at t m) (toldAt t numbers m) 0 (p - 0) (1 + (n - p))
+      ∙ run (row_at t m) (told_at t numbers m) 0 (p - 0) (1 + (n - p))
       ∙ ap₂ ◌++◌
       (part 0 0 p (λ i l h. let low : 0 + i < p = omega arith in shown (0 + i) i (λ e. omega arith) (place-before p (0 + i) low ∙ zero-add i)))
       (ap (λ (a : ℕ). rows a (1 + (n - p))) second
-      ∙ run (row_at t m) (toldAt t numbers m) p 1 (n - p)
+      ∙ run (row_at t m) (told_at t numbers m) p 1 (n - p)
       ∙ ap₂ ◌++◌
-      (one (row_at t m) (toldAt t numbers m) p (coming-told t numbers m p refl) (coming-row t numbers m p refl))
+      (one (row_at t m) (told_at t numbers m) p (coming-told t numbers m p refl) (coming-row t numbers m p refl))
       (ap (λ (a : ℕ). rows a (n - p)) third
       ∙ part 1 p n (λ i l h. let past : p ≤ 1 + i = omega arith in let here : 1 + i - 1 ≡ i = omega arith in
       shown (1 + i) i (λ e. omega arith) (place_after p (1 + i) past ∙ here))))
 
   -- ---- put one by one
 
-  next_row : (k : ℕ) → nextRow t numbers m (position t numbers m k) ≡ get_or told k (replicate (2 + rowCosts) 0)
-  unfolding nextRow
-  next_row k =
-      ap (λ (js : List ℕ). first_or (replicate (2 + rowCosts) 0) (map (row_at t m) js)) (position_from t numbers m k)
-      ∙ first-drop (row_at t m) (replicate (2 + rowCosts) 0) k (toldFrom t numbers m 0)
+  next-row : (k : ℕ) → next_row t numbers m (position t numbers m k) ≡ get_or told k (replicate (2 + row_costs) 0)
+  unfolding next_row
+  next-row k =
+      ap (λ (js : List ℕ). first_or (replicate (2 + row_costs) 0) (map (row_at t m) js)) (position_from t numbers m k)
+      ∙ first-drop (row_at t m) (replicate (2 + row_costs) 0) k (told_from t numbers m 0)
 
-  pub told-row : TellingAsked t m → (k : ℕ) → nextRow t numbers m (position t numbers m k) ≡ get_or (toldRows t numbers m) k (replicate (2 + rowCosts) 0)
+  pub told-row : TellingAsked t m → (k : ℕ) → next_row t numbers m (position t numbers m k) ≡ get_or (told_rows t numbers m) k (replicate (2 + row_costs) 0)
   told-row asked k =
-      next_row k ∙ ap (λ (rows : List (List ℕ)). get_or rows k (replicate (2 + rowCosts) 0)) (told-all asked.place)
+      next-row k ∙ ap (λ (rows : List (List ℕ)). get_or rows k (replicate (2 + row_costs) 0)) (told-all asked.place)
 
-  filled-some : (rows : List (List ℕ)) (from k : ℕ) → k ≤ length told → from + k ≤ length rows → filledRows t numbers m from k rows ≡ paste rows from told k
-  unfolding filledRows
+  filled-some : (rows : List (List ℕ)) (from k : ℕ) → k ≤ length told → from + k ≤ length rows → filled_rows t numbers m from k rows ≡ paste rows from told k
+  unfolding filled_rows
   filled-some rows from zero h l = paste-zero rows from told
   filled-some rows from (suc k) h l =
       let before = filled-some rows from k (omega arith) (omega arith) in
-      (λ j. set (before j) (from + k) (next_row k j))
-      ∙ paste-suc rows from told k (replicate (2 + rowCosts) 0) (omega arith) (omega arith)
+      (λ j. set (before j) (from + k) (next-row k j))
+      ∙ paste-suc rows from told k (replicate (2 + row_costs) 0) (omega arith) (omega arith)
 
   -- So many rows as are told, whatever the memory where there are none.
-  pub filled-all : (rows : List (List ℕ)) (from count : ℕ) → (0 < count → TellingAsked t m) → (0 < count → length (toldRows t numbers m) ≡ count) → from + count ≤ length rows
-      → filledRows t numbers m from count rows ≡ paste rows from (toldRows t numbers m) count
-  unfolding filledRows
-  filled-all rows from zero asked e h = paste-zero rows from (toldRows t numbers m)
+  pub filled-all : (rows : List (List ℕ)) (from count : ℕ) → (0 < count → TellingAsked t m) → (0 < count → length (told_rows t numbers m) ≡ count) → from + count ≤ length rows
+      → filled_rows t numbers m from count rows ≡ paste rows from (told_rows t numbers m) count
+  unfolding filled_rows
+  filled-all rows from zero asked e h = paste-zero rows from (told_rows t numbers m)
   filled-all rows from (suc k) asked e h =
       let all = told-all (asked (omega arith)).place in
       filled-some rows from (suc k) (omega (arith, ap length all, e (omega arith))) h
       ∙ ap (λ (new : List (List ℕ)). paste rows from new (suc k)) all
 
   -- There are as many rows as before.
-  pub filled-length : (rows : List (List ℕ)) (from k : ℕ) → length (filledRows t numbers m from k rows) ≡ length rows
-  unfolding filledRows
+  pub filled-length : (rows : List (List ℕ)) (from k : ℕ) → length (filled_rows t numbers m from k rows) ≡ length rows
+  unfolding filled_rows
   filled-length rows from zero = refl
   filled-length rows from (suc k) =
-      length-set (filledRows t numbers m from k rows) (from + k) (nextRow t numbers m (position t numbers m k)) ∙ filled-length rows from k
+      length-set (filled_rows t numbers m from k rows) (from + k) (next_row t numbers m (position t numbers m k)) ∙ filled-length rows from k

@@ -11,13 +11,13 @@ use Rattle.std.specs.Int.Bits.{bit_or, or_add_and}
 use Rattle.std.proofs.lemmas.Nat.{and_le_l, and_le_r}
 use Rattle.std.proofs.Math.Dec.{leb}
 use Rattle.std.proofs.Math.ListN.{length, get_or, get_or-eq_default}
-use Rattle.zorder.specs.Address.{rowCosts}
-use Rattle.model.specs.Dominance.{less, nowhereGreater}
-use Rattle.model.specs.Laws.Bool.{byCases, both_ways, and_left, and_right, and_both, same_test}
+use Rattle.zorder.specs.Address.{row_costs}
+use Rattle.model.specs.Dominance.{less, nowhere_greater}
+use Rattle.model.specs.Laws.Bool.{by_cases, both_ways, and_left, and_right, and_both, same_test}
 use Rattle.model.specs.Laws.Dominance.{nowhere-greater-places, places-nowhere-greater}
-use Rattle.memory.specs.Tests.{allTo}
-use Rattle.search.specs.Columns.{columnFits, fitting, Column, Bounds, FittingColumn, NoneFits, SomeFits, Put}
-use Rattle.memory.specs.Laws.Places.{allTo-at, allTo-all}
+use Rattle.memory.specs.Tests.{all_to}
+use Rattle.search.specs.Columns.{column_fits, fitting, Column, Bounds, FittingColumn, NoneFits, SomeFits, Put}
+use Rattle.memory.specs.Laws.Places.{all_to-at, all_to-all}
 use Rattle.search.specs.Laws.Counts.{count-zero, count-some}
 
 -- ---- one column asked
@@ -41,59 +41,59 @@ or-zero w a b =
     eq-eqb (bit_or w (a - b)) 0 (omega (arith, x, y, or_add_and w (a - b))))
 
 module _ (columns q : List ℕ) (j : ℕ) where
-  pub asked-none : eqb 0 0 ≡ columnFits 0 columns q j
-  unfolding columnFits allTo
+  pub asked-none : eqb 0 0 ≡ column_fits 0 columns q j
+  unfolding column_fits all_to
   asked-none = refl
 
-  pub asked-more : (w k : ℕ) → eqb w 0 ≡ columnFits k columns q j
-      → eqb (bit_or w (get_or columns (64 * k + j) 0 - get_or q k 0)) 0 ≡ columnFits (k + 1) columns q j
-  unfolding columnFits allTo
+  pub asked-more : (w k : ℕ) → eqb w 0 ≡ column_fits k columns q j
+      → eqb (bit_or w (get_or columns (64 * k + j) 0 - get_or q k 0)) 0 ≡ column_fits (k + 1) columns q j
+  unfolding column_fits all_to
   asked-more w k e =
       or-zero w (get_or columns (64 * k + j) 0) (get_or q k 0)
       ∙ ap (λ (b : Bool). b && leb (get_or columns (64 * k + j) 0) (get_or q k 0)) e
-      ∙ ap (allTo (λ i. leb (get_or columns (64 * i + j) 0) (get_or q i 0))) (sym (add-one k))
+      ∙ ap (all_to (λ i. leb (get_or columns (64 * i + j) 0) (get_or q i 0))) (sym (add-one k))
 
   -- A column that is nowhere greater is found by any number of costs.
-  pub column_fits : (row : List ℕ) → length row ≡ rowCosts → length q ≡ rowCosts → Column columns j row → nowhereGreater row q ≡ true
-      → (w : ℕ) → w ≤ rowCosts → columnFits w columns q j ≡ true
-  unfolding columnFits
-  column_fits row e f h g w l =
-      allTo-all (λ k. leb (get_or columns (64 * k + j) 0) (get_or q k 0)) w
+  pub column-fits : (row : List ℕ) → length row ≡ row_costs → length q ≡ row_costs → Column columns j row → nowhere_greater row q ≡ true
+      → (w : ℕ) → w ≤ row_costs → column_fits w columns q j ≡ true
+  unfolding column_fits
+  column-fits row e f h g w l =
+      all_to-all (λ k. leb (get_or columns (64 * k + j) 0) (get_or q k 0)) w
       (λ k i. le-leb (get_or columns (64 * k + j) 0) (get_or q k 0) (omega (arith, h k (omega arith), nowhere-greater-places row q (e ∙ sym f) g k)))
 
 -- ---- all columns asked
 
-module _ (columns q : List ℕ) (wide : length q ≡ rowCosts) (w count : ℕ) (counted : count ≡ fitting w columns q) where
+module _ (columns q : List ℕ) (wide : length q ≡ row_costs) (w count : ℕ) (counted : count ≡ fitting w columns q) where
   -- Where none is counted, by any number of costs, none is nowhere greater.
-  none-counted : w ≤ rowCosts → ltb 0 count ≡ false → NoneFits columns q
+  none-counted : w ≤ row_costs → ltb 0 count ≡ false → NoneFits columns q
   unfolding fitting
   none-counted few none t l row e held =
-      byCases (nowhereGreater row q)
-      (λ g. both_ways (column_fits columns q t row e wide held g w few)
-      (count-zero (columnFits w columns q) 64 t l (omega (arith, counted, ltb-false 0 count none))))
+      by_cases (nowhere_greater row q)
+      (λ g. both_ways (column-fits columns q t row e wide held g w few)
+      (count-zero (column_fits w columns q) 64 t l (omega (arith, counted, ltb-false 0 count none))))
       (λ g. g)
 
   -- Where one is counted by all costs that count, it is.
   some-counted : Bounds w q → ltb 0 count ≡ true → FittingColumn columns q
-  unfolding fitting columnFits
+  unfolding fitting column_fits
   some-counted bounds some =
-      let one = count-some (columnFits w columns q) 64 (omega (arith, counted, ltb-true 0 count some)) in
+      let one = count-some (column_fits w columns q) 64 (omega (arith, counted, ltb-true 0 count some)) in
       record {
         column = one.0;
         inside = one.1;
         fits = λ row e small held.
-            places-nowhere-greater row q (λ k. go one.0 one.2 row e small held k (dec_lt k rowCosts) (dec_lt k w));
+            places-nowhere-greater row q (λ k. go one.0 one.2 row e small held k (dec_lt k row_costs) (dec_lt k w));
       }
     where
-      go : (t : ℕ) → allTo (λ k. leb (get_or columns (64 * k + t) 0) (get_or q k 0)) w ≡ true → (row : List ℕ) → length row ≡ rowCosts
-          → ((k : ℕ) → get_or row k 0 < 65536) → Column columns t row → (k : ℕ) → Dec (k < rowCosts) → Dec (k < w) → get_or row k 0 ≤ get_or q k 0
+      go : (t : ℕ) → all_to (λ k. leb (get_or columns (64 * k + t) 0) (get_or q k 0)) w ≡ true → (row : List ℕ) → length row ≡ row_costs
+          → ((k : ℕ) → get_or row k 0 < 65536) → Column columns t row → (k : ℕ) → Dec (k < row_costs) → Dec (k < w) → get_or row k 0 ≤ get_or q k 0
       go t fits row e small held k (yes l) (yes asked) =
-          omega (arith, held k l, leb-true (get_or columns (64 * k + t) 0) (get_or q k 0) (allTo-at (λ i. leb (get_or columns (64 * i + t) 0) (get_or q i 0)) w k asked fits))
+          omega (arith, held k l, leb-true (get_or columns (64 * k + t) 0) (get_or q k 0) (all_to-at (λ i. leb (get_or columns (64 * i + t) 0) (get_or q i 0)) w k asked fits))
       go t fits row e small held k (yes l) (no past) = omega (arith, small k, bounds k (omega arith) l)
       go t fits row e small held k (no past) _ =
           let none : get_or row k 0 ≡ 0 = get_or-eq_default row 0 {n = k} (omega (arith, e)) in omega arith
 
-  pub fits_said : w ≤ rowCosts → Bounds w q → SomeFits columns q (ltb 0 count)
+  pub fits_said : w ≤ row_costs → Bounds w q → SomeFits columns q (ltb 0 count)
   fits_said few bounds = record { true-says = some-counted bounds; false-says = none-counted few }
 
 -- ---- one column filled
@@ -122,7 +122,7 @@ module _ {old : List ℕ} {t : ℕ} {row : List ℕ} where
           ∙ ap (λ (i : ℕ). get_or row i 0) (sym same)
       go k l (no differs) = get_or-set_other new (64 * n + t) (64 * k + t) (get_or row n 0) 0 (λ g. differs (omega arith)) ∙ h.here k (omega arith)
 
-  pub put_all : {n : ℕ} {new : List ℕ} → rowCosts ≤ n → PutTo old t row n new → Put old t row new
+  pub put_all : {n : ℕ} {new : List ℕ} → row_costs ≤ n → PutTo old t row n new → Put old t row new
   put_all l h = record { here = λ k g. h.here k (omega arith); other = h.other }
 
 -- ---- every column filled, one after another

@@ -8,7 +8,7 @@ use Rattle.std.proofs.Common.{sym, ◌∙◌, eq-or-lt_of_le, le_of_suc-le-suc, 
 use Rattle.std.proofs.Math.Nat.{add-zero}
 use native.Mathlib.Omega.{arith}
 use Rattle.model.specs.Basics.{count, select}
-use Rattle.model.specs.Laws.Bool.{byCases, both_ways}
+use Rattle.model.specs.Laws.Bool.{by_cases, both_ways}
 use Rattle.model.specs.Laws.Basics.{at_most_one, count-append, count-cons}
 use Rattle.promises.specs.Layout.{tab}
 use Rattle.search.specs.Columns.{count_to}
@@ -55,13 +55,13 @@ module _ (p : ℕ → Bool) where
   count-passed i n l e = omega (arith, count-grows (i + 1) n (omega arith), count-more i, one (p i) e)
 
   pub count-zero : (n i : ℕ) → i < n → count_to p n ≤ 0 → p i ≡ false
-  count-zero n i l few = byCases (p i) (λ e. absurd (omega (arith, count-passed i n l e))) (λ e. e)
+  count-zero n i l few = by_cases (p i) (λ e. absurd (omega (arith, count-passed i n l e))) (λ e. e)
 
   pub count-some : (n : ℕ) → 0 < count_to p n → (i : ℕ) × (i < n) × (p i ≡ true)
   unfolding count_to
   count-some zero l = absurd (omega arith)
   count-some (suc n) l =
-      byCases (p n) (λ e. (n, omega arith, e))
+      by_cases (p n) (λ e. (n, omega arith, e))
       (λ e. let more = count-some n (omega (arith, ap (λ (t : Bool). cond {A = ℕ} t 1 0) e)) in (more.0, omega (arith, more.1), more.2))
 
 -- The entries of a list by places that pass a test.
@@ -83,7 +83,7 @@ pub record CountedTo (fit test : ℕ → Bool) (n j k : ℕ) : Type 0 where
 -- What passes the test is found.
 module _ {fit test : ℕ → Bool} {n : ℕ} (finds : (j : ℕ) → j < n → test j ≡ true → fit j ≡ true) where
   passed_none : {i r : ℕ} → First fit i n r → None test i r
-  passed_none f j a g = byCases (test j) (λ t. both_ways (finds j (omega (arith, f.to)) t) (f.passed j a g)) (λ t. t)
+  passed_none f j a g = by_cases (test j) (λ t. both_ways (finds j (omega (arith, f.to)) t) (f.passed j a g)) (λ t. t)
 
   pub counted-first : {i r k : ℕ} → None test 0 i → First fit i n r → k ≡ 0 → CountedTo fit test n r k
   counted-first {i} {r} none f e =

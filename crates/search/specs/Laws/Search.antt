@@ -7,65 +7,65 @@ use Rattle.std.proofs.Math.Path.{ap}
 use Rattle.std.proofs.Math.Decide.{ℕ_discrete, dec_lt}
 use Rattle.std.proofs.Math.Nat.{min-le_left}
 use Rattle.std.proofs.Math.ListN.{get_or-eq_default}
-use Rattle.zorder.specs.Address.{rowCosts}
-use Rattle.model.specs.Dominance.{nowhereGreater, somewhereLess}
-use Rattle.model.specs.Laws.Bool.{byCases, both_ways, and-false-right}
+use Rattle.zorder.specs.Address.{row_costs}
+use Rattle.model.specs.Dominance.{nowhere_greater, somewhere_less}
+use Rattle.model.specs.Laws.Bool.{by_cases, both_ways, and-false-right}
 use Rattle.model.specs.Laws.Dominance.{nowhere-greater-places, somewhere-less-place}
-use Rattle.dominance.specs.Lanes.{Lanes, bound, isFirst, lesser}
+use Rattle.dominance.specs.Lanes.{Lanes, bound, is_first, lesser}
 use Rattle.dominance.specs.Laws.Lanes.{lesser-below}
 use Rattle.dominance.specs.Laws.Sums.{nowhere-somewhere}
-use Rattle.promises.specs.Layout.{number_in, costsIn, tab}
-use Rattle.promises.specs.Laws.Tab.{length-tab, getD-tab, tab-of}
+use Rattle.promises.specs.Layout.{number_in, costs_in, tab}
+use Rattle.promises.specs.Laws.Tab.{length-tab, get_or-tab, tab-of}
 use Rattle.memory.specs.Laws.Costs.{row-length}
-use Rattle.search.specs.Search.{looksAt, seen, seen_at, boundsAt, fits, None, First, Some, Below, Under, Corners, CornerWith}
+use Rattle.search.specs.Search.{looks_at, seen, seen_at, bounds_at, fits, None, First, Some, Below, Under, Corners, CornerWith}
 use Rattle.search.specs.declared.search.Among.{Among}
 use Rattle.search.specs.declared.search.Among.TheVariants.{All, Listed, Hidden, InBlocks}
 
 -- ---- rows
 
-pub lanes-tab : {f : ℕ → ℕ} {row : List ℕ} → Lanes f row → row ≡ tab f rowCosts
-lanes-tab {f} {row} h = tab-of f 0 rowCosts row h.wide h.holds
+pub lanes-tab : {f : ℕ → ℕ} {row : List ℕ} → Lanes f row → row ≡ tab f row_costs
+lanes-tab {f} {row} h = tab-of f 0 row_costs row h.wide h.holds
 
-pub length_seen : (a : Among) (costs : List ℕ) → length costs ≡ rowCosts → length (seen a costs) ≡ rowCosts
+pub length_seen : (a : Among) (costs : List ℕ) → length costs ≡ row_costs → length (seen a costs) ≡ row_costs
 unfolding seen
 length_seen All costs e = e
 length_seen Listed costs e = e
-length_seen Hidden costs e = length-tab (λ i. 65535 - get_or costs i 0) rowCosts
+length_seen Hidden costs e = length-tab (λ i. 65535 - get_or costs i 0) row_costs
 length_seen (InBlocks blocks) costs e = e
 
-pub length-seen-at : (a : Among) (c : ℕ) (m : List ℕ) (i : ℕ) → length (seen_at a c m i) ≡ rowCosts
+pub length-seen-at : (a : Among) (c : ℕ) (m : List ℕ) (i : ℕ) → length (seen_at a c m i) ≡ row_costs
 unfolding seen_at
-length-seen-at a c m i = length_seen a (costsIn c rowCosts m (number_in c m i)) (row-length c rowCosts m (number_in c m i) (omega arith))
+length-seen-at a c m i = length_seen a (costs_in c row_costs m (number_in c m i)) (row-length c row_costs m (number_in c m i) (omega arith))
 
-pub bounds-lanes : (c d : ℕ) (m : List ℕ) (j : ℕ) → Lanes (bound (isFirst d) (seen_at Listed c m j)) (boundsAt c d m j)
-unfolding boundsAt
+pub bounds-lanes : (c d : ℕ) (m : List ℕ) (j : ℕ) → Lanes (bound (is_first d) (seen_at Listed c m j)) (bounds_at c d m j)
+unfolding bounds_at
 bounds-lanes c d m j = record {
-  wide = length-tab (bound (isFirst d) (seen_at Listed c m j)) rowCosts;
-  holds = λ i l. getD-tab (bound (isFirst d) (seen_at Listed c m j)) 0 rowCosts i l;
+  wide = length-tab (bound (is_first d) (seen_at Listed c m j)) row_costs;
+  holds = λ i l. get_or-tab (bound (is_first d) (seen_at Listed c m j)) 0 row_costs i l;
 }
 
 -- "Somewhere greater" as the code asks it.
-pub whole_row : (p q : List ℕ) → length p ≡ rowCosts → length q ≡ rowCosts → not (somewhereLess (take rowCosts q) (take rowCosts p)) ≡ nowhereGreater p q
+pub whole_row : (p q : List ℕ) → length p ≡ row_costs → length q ≡ row_costs → not (somewhere_less (take row_costs q) (take row_costs p)) ≡ nowhere_greater p q
 whole_row p q e f =
-    ap₂ (λ (x y : List ℕ). not (somewhereLess x y)) (take_all rowCosts q (omega arith)) (take_all rowCosts p (omega arith)) ∙ sym (nowhere-somewhere p q)
+    ap₂ (λ (x y : List ℕ). not (somewhere_less x y)) (take_all row_costs q (omega arith)) (take_all row_costs p (omega arith)) ∙ sym (nowhere-somewhere p q)
 
 -- What a corner exceeds, every row that it lies below exceeds; and so it does what is nowhere greater than that.
-pub corner-exceeds : (low high p q : List ℕ) → length p ≡ rowCosts → length q ≡ rowCosts → Below low p → Under q high
-    → somewhereLess (take rowCosts high) (take rowCosts low) ≡ true → nowhereGreater p q ≡ false
-corner-exceeds low high p q e f below under h = byCases (nowhereGreater p q) (λ g. absurd (against g)) (λ g. g)
+pub corner-exceeds : (low high p q : List ℕ) → length p ≡ row_costs → length q ≡ row_costs → Below low p → Under q high
+    → somewhere_less (take row_costs high) (take row_costs low) ≡ true → nowhere_greater p q ≡ false
+corner-exceeds low high p q e f below under h = by_cases (nowhere_greater p q) (λ g. absurd (against g)) (λ g. g)
   where
-    at : (i : ℕ) × (i < length (take rowCosts high)) × (get_or (take rowCosts high) i 0 < get_or (take rowCosts low) i 0)
-    at = somewhere-less-place (take rowCosts high) (take rowCosts low) h
+    at : (i : ℕ) × (i < length (take row_costs high)) × (get_or (take row_costs high) i 0 < get_or (take row_costs low) i 0)
+    at = somewhere-less-place (take row_costs high) (take row_costs low) h
 
     i : ℕ
     i = at.0
 
-    few : i < rowCosts
-    few = omega (arith, at.1, length-take rowCosts high, min-le_left rowCosts (length high))
+    few : i < row_costs
+    few = omega (arith, at.1, length-take row_costs high, min-le_left row_costs (length high))
 
-    against : nowhereGreater p q ≡ true → ⊥
+    against : nowhere_greater p q ≡ true → ⊥
     against g =
-        omega (arith, nowhere-greater-places p q (e ∙ sym f) g i, at.2, get_or-take rowCosts high i 0 few, get_or-take rowCosts low i 0 few, below i, under i few)
+        omega (arith, nowhere-greater-places p q (e ∙ sym f) g i, at.2, get_or-take row_costs high i 0 few, get_or-take row_costs low i 0 few, below i, under i few)
 
 -- ---- no place, the first, some place
 
@@ -96,17 +96,17 @@ first_some f = record { to = f.to; found = f.found; none = λ l k a g. f.passed 
 -- ---- what fits
 
 module _ (a : Among) (c : ℕ) (m q : List ℕ) (i : ℕ) where
-  pub fits-unlooked : looksAt a c m i ≡ false → fits a c m q i ≡ false
+  pub fits-unlooked : looks_at a c m i ≡ false → fits a c m q i ≡ false
   unfolding fits
-  fits-unlooked e = ap (λ (b : Bool). b && nowhereGreater (seen_at a c m i) q) e
+  fits-unlooked e = ap (λ (b : Bool). b && nowhere_greater (seen_at a c m i) q) e
 
-  pub fits-within : nowhereGreater (seen_at a c m i) q ≡ true → fits a c m q i ≡ looksAt a c m i
+  pub fits-within : nowhere_greater (seen_at a c m i) q ≡ true → fits a c m q i ≡ looks_at a c m i
   unfolding fits
-  fits-within e = ap (λ (b : Bool). looksAt a c m i && b) e ∙ and-true (looksAt a c m i)
+  fits-within e = ap (λ (b : Bool). looks_at a c m i && b) e ∙ and-true (looks_at a c m i)
 
-  pub fits-exceeding : nowhereGreater (seen_at a c m i) q ≡ false → fits a c m q i ≡ false
+  pub fits-exceeding : nowhere_greater (seen_at a c m i) q ≡ false → fits a c m q i ≡ false
   unfolding fits
-  fits-exceeding = and-false-right (looksAt a c m i) (nowhereGreater (seen_at a c m i) q)
+  fits-exceeding = and-false-right (looks_at a c m i) (nowhere_greater (seen_at a c m i) q)
 
 -- ---- a row for each run of 64 places
 
@@ -135,11 +135,11 @@ module _ {a : Among} {c : ℕ} {m : List ℕ} where
   corners-fewer few h = record { runs = h.runs; below = λ k l. h.below k (omega arith) }
 
   -- A place that the search doesn't look at changes none.
-  pub corners-unlooked : (i : ℕ) (corners : List (List ℕ)) → looksAt a c m i ≡ false → Corners a c m i corners → Corners a c m (i + 1) corners
+  pub corners-unlooked : (i : ℕ) (corners : List (List ℕ)) → looks_at a c m i ≡ false → Corners a c m i corners → Corners a c m (i + 1) corners
   corners-unlooked i corners e h = record { runs = h.runs; below = λ k l t. go k l t (ℕ_discrete k i) }
     where
-      go : (k : ℕ) → k < i + 1 → looksAt a c m k ≡ true → Dec (k ≡ i) → Below (get_or corners (k / 64) []) (seen_at a c m k)
-      go k l t (yes same) = both_ways t (ap (looksAt a c m) same ∙ e)
+      go : (k : ℕ) → k < i + 1 → looks_at a c m k ≡ true → Dec (k ≡ i) → Below (get_or corners (k / 64) []) (seen_at a c m k)
+      go k l t (yes same) = both_ways t (ap (looks_at a c m) same ∙ e)
       go k l t (no other) = h.below k (omega arith) t
 
   -- The corner of i's run becomes r, with the moves from place i up to place e: a turn of every loop that keeps corners.
@@ -147,7 +147,7 @@ module _ {a : Among} {c : ℕ} {m : List ℕ} where
       → CornerWith a c m i e (get_or corners (i / 64) []) r → Corners a c m e (set corners (i / 64) r)
   corners-more i e corners r small end h w = record {
     runs = length-set corners (i / 64) r ∙ h.runs;
-    below = runs-more (λ k y. looksAt a c m k ≡ true → Below y (seen_at a c m k)) i e corners r h.runs small end h.below w.new
+    below = runs-more (λ k y. looks_at a c m k ≡ true → Below y (seen_at a c m k)) i e corners r h.runs small end h.below w.new
         (λ k g t j. omega (arith, w.old j, g t j));
   }
 
@@ -158,36 +158,36 @@ module _ {a : Among} {c : ℕ} {m : List ℕ} where
   pub corner-join : (i j e : ℕ) (low p r : List ℕ) → CornerWith a c m i j low p → CornerWith a c m j e p r → CornerWith a c m i e low r
   corner-join i j e low p r v w = record { old = λ k. omega (arith, v.old k, w.old k); new = λ k l g t. go k l g t (dec_lt k j) }
     where
-      go : (k : ℕ) → i ≤ k → k < e → looksAt a c m k ≡ true → Dec (k < j) → Below r (seen_at a c m k)
+      go : (k : ℕ) → i ≤ k → k < e → looks_at a c m k ≡ true → Dec (k < j) → Below r (seen_at a c m k)
       go k l g t (yes before) = λ n. omega (arith, w.old n, v.new k l before t n)
       go k l g t (no after) = w.new k (omega arith) g t
 
 module _ (a : Among) (c : ℕ) (m : List ℕ) (i : ℕ) (low : List ℕ) where
   -- One place.
-  corner-at : (r : List ℕ) → Below r low → (looksAt a c m i ≡ true → Below r (seen_at a c m i)) → CornerWith a c m i (i + 1) low r
+  corner-at : (r : List ℕ) → Below r low → (looks_at a c m i ≡ true → Below r (seen_at a c m i)) → CornerWith a c m i (i + 1) low r
   corner-at r old new = record { old = old; new = λ k l g. at k (omega arith) }
     where
-      at : (k : ℕ) → k ≡ i → looksAt a c m k ≡ true → Below r (seen_at a c m k)
-      at k e t = subst (λ (n : ℕ). Below r (seen_at a c m n)) (sym e) (new (ap (looksAt a c m) (sym e) ∙ t))
+      at : (k : ℕ) → k ≡ i → looks_at a c m k ≡ true → Below r (seen_at a c m k)
+      at k e t = subst (λ (n : ℕ). Below r (seen_at a c m n)) (sym e) (new (ap (looks_at a c m) (sym e) ∙ t))
 
-  pub corner-same : looksAt a c m i ≡ false → CornerWith a c m i (i + 1) low low
+  pub corner-same : looks_at a c m i ≡ false → CornerWith a c m i (i + 1) low low
   corner-same e = corner-at low (λ k. omega arith) (λ t. both_ways t e)
 
   pub corner-least : (r : List ℕ) → Lanes (lesser low (seen_at a c m i)) r → CornerWith a c m i (i + 1) low r
-  corner-least r h = corner-at r (λ k. (below k (dec_lt k rowCosts)).0) (λ t k. (below k (dec_lt k rowCosts)).1)
+  corner-least r h = corner-at r (λ k. (below k (dec_lt k row_costs)).0) (λ t k. (below k (dec_lt k row_costs)).1)
     where
-      below : (k : ℕ) → Dec (k < rowCosts) → (get_or r k 0 ≤ get_or low k 0) × (get_or r k 0 ≤ get_or (seen_at a c m i) k 0)
+      below : (k : ℕ) → Dec (k < row_costs) → (get_or r k 0 ≤ get_or low k 0) × (get_or r k 0 ≤ get_or (seen_at a c m i) k 0)
       below k (yes l) = (omega (arith, h.holds k l, lesser-below low (seen_at a c m i) k), omega (arith, h.holds k l, lesser-below low (seen_at a c m i) k))
       below k (no l) =
           let past : get_or r k 0 ≡ 0 = get_or-eq_default r 0 {n = k} (omega (arith, h.wide)) in
           (omega arith, omega arith)
 
 -- A run whose corner exceeds q has nothing that fits.
-pub run-passed : (a : Among) (c : ℕ) (m q : List ℕ) (n f e : ℕ) (corners : List (List ℕ)) → Corners a c m n corners → length q ≡ rowCosts
+pub run-passed : (a : Among) (c : ℕ) (m q : List ℕ) (n f e : ℕ) (corners : List (List ℕ)) → Corners a c m n corners → length q ≡ row_costs
     → e ≤ 64 * (f / 64) + 64 → e ≤ n
-    → somewhereLess (take rowCosts q) (take rowCosts (get_or corners (f / 64) [])) ≡ true → None (fits a c m q) f e
+    → somewhere_less (take row_costs q) (take row_costs (get_or corners (f / 64) [])) ≡ true → None (fits a c m q) f e
 run-passed a c m q n f e corners h wide end room over k l g =
-    byCases (looksAt a c m k)
+    by_cases (looks_at a c m k)
     (λ t. fits-exceeding a c m q k (corner-exceeds (get_or corners (f / 64) []) q (seen_at a c m k) q (length-seen-at a c m k) wide
     (subst (λ (r : ℕ). Below (get_or corners r []) (seen_at a c m k)) same (h.below k (omega arith) t)) (λ i l. omega arith) over))
     (fits-unlooked a c m q k)

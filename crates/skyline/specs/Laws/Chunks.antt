@@ -3,13 +3,13 @@
 use Rattle.std.specs.Prelude.{ℕ, ◌+◌, ◌≤◌, ◌<◌, Bool, true, false, cond, ◌&&◌, List, ◌⊎◌, ◌≡◌, ltb, length, get_or, take}
 use Rattle.std.proofs.Common.{⊎_elim, sym, ap, ◌∙◌, subst, arith, lt-ltb, le-ltb, ltb-false}
 use Rattle.std.proofs.Math.Decide.{ℕ_discrete}
-use Rattle.zorder.specs.Address.{rowCosts}
-use Rattle.model.specs.Dominance.{nowhereGreater, somewhereLess}
-use Rattle.model.specs.Laws.Bool.{byCases, both_ways, and_both}
+use Rattle.zorder.specs.Address.{row_costs}
+use Rattle.model.specs.Dominance.{nowhere_greater, somewhere_less}
+use Rattle.model.specs.Laws.Bool.{by_cases, both_ways, and_both}
 use Rattle.dominance.specs.Lanes.{Lanes, lesser}
 use Rattle.promises.specs.Layout.{number_in}
 use Rattle.promises.specs.Run.{Bytes}
-use Rattle.search.specs.Search.{seen, seen_at, boundsAt, fits, Below, Under, CornerWith}
+use Rattle.search.specs.Search.{seen, seen_at, bounds_at, fits, Below, Under, CornerWith}
 use Rattle.search.specs.Columns.{count_to, Column, Bounds, FittingColumn, NoneFits, Put, Filled}
 use Rattle.skyline.specs.Chunks.{listed, slot, ListedColumn, ListedColumns, Gathered, NoneBefore, FitsBefore}
 use Rattle.memory.specs.Laws.Costs.{words_small}
@@ -17,7 +17,7 @@ use Rattle.search.specs.Laws.Counts.{count-more, count-grows, count-passed}
 use Rattle.search.specs.Laws.Search.{bounds-lanes, length-seen-at, fits-unlooked, fits-exceeding, corner-exceeds, corner-least}
 use Rattle.search.specs.declared.search.Among.TheVariants.{Listed}
 
-pub bounds-past : (c d : ℕ) (m : List ℕ) (j : ℕ) → Bounds d (boundsAt c d m j)
+pub bounds-past : (c d : ℕ) (m : List ℕ) (j : ℕ) → Bounds d (bounds_at c d m j)
 bounds-past c d m j k l g = (bounds-lanes c d m j).holds k g ∙ ap (λ (t : Bool). cond {A = ℕ} t (get_or (seen_at Listed c m j) k 0) 65535) (le-ltb k d l)
 
 -- ---- the loop
@@ -62,7 +62,7 @@ module _ (c : ℕ) (m : List ℕ) (a : ℕ) where
     none-gathered e j l g t = omega (arith, counted, count-grows (listed c m) a j l, count-passed (listed c m) j i g t)
 
     pub none-fits-before : count ≡ 0 → (q : List ℕ) → NoneBefore c m q a i i
-    none-fits-before e q k l n before = byCases (listed c m k) (λ t. absurd (none-gathered e k l n t)) (fits-unlooked Listed c m q k)
+    none-fits-before e q k l n before = by_cases (listed c m k) (λ t. absurd (none-gathered e k l n t)) (fits-unlooked Listed c m q k)
 
     -- Before a listed one is put: the first of the chunk is every column, for another the columns are as they were.
     abbrev pub Ready : List ℕ → Type 0
@@ -127,30 +127,30 @@ module _ (c : ℕ) (m : List ℕ) (a : ℕ) where
 -- The loop that gathers takes one place at least.
 pub chunk-grows : (a n i count : ℕ) → a < n → count + a ≤ i → (ltb i n && ltb count 64) ≡ false → a < i
 chunk-grows a n i count l k e =
-    byCases (ltb i n)
-    (λ t. byCases (ltb count 64) (λ u. both_ways (and_both (ltb i n) (ltb count 64) t u) e) (λ u. omega (arith, ltb-false count 64 u)))
+    by_cases (ltb i n)
+    (λ t. by_cases (ltb count 64) (λ u. both_ways (and_both (ltb i n) (ltb count 64) t u) e) (λ u. omega (arith, ltb-false count 64 u)))
     (λ t. omega (arith, ltb-false i n t))
 
 -- A chunk that does not go to the last place is full.
 pub chunk-some : (n i count : ℕ) → (ltb i n && ltb count 64) ≡ false → i < n → 0 < count
 chunk-some n i count e l =
-    byCases (ltb count 64) (λ t. both_ways (and_both (ltb i n) (ltb count 64) (lt-ltb i n l) t) e) (λ t. omega (arith, ltb-false count 64 t))
+    by_cases (ltb count 64) (λ t. both_ways (and_both (ltb i n) (ltb count 64) (lt-ltb i n l) t) e) (λ t. omega (arith, ltb-false count 64 t))
 
 -- ---- what is known of them
 
-module _ (c : ℕ) (m : List ℕ) (a b : ℕ) (columns low q : List ℕ) (h : Gathered c m a b columns low) (wide : length q ≡ rowCosts) where
+module _ (c : ℕ) (m : List ℕ) (a b : ℕ) (columns low q : List ℕ) (h : Gathered c m a b columns low) (wide : length q ≡ row_costs) where
   -- What `low` exceeds they all do.
-  pub gathered-exceeds : (high : List ℕ) → Under q high → somewhereLess (take rowCosts high) (take rowCosts low) ≡ true
+  pub gathered-exceeds : (high : List ℕ) → Under q high → somewhere_less (take row_costs high) (take row_costs low) ≡ true
       → (k : ℕ) → a ≤ k → k < b → fits Listed c m q k ≡ false
   gathered-exceeds high under e k l g =
-      byCases (listed c m k)
+      by_cases (listed c m k)
       (λ t. fits-exceeding Listed c m q k (corner-exceeds low high (seen_at Listed c m k) q (length-seen-at Listed c m k) wide (h.below k l g t) under e))
       (fits-unlooked Listed c m q k)
 
   -- Each is a column.
   pub gathered-none-fits : NoneFits columns q → (k : ℕ) → a ≤ k → k < b → fits Listed c m q k ≡ false
   gathered-none-fits none k l g =
-      byCases (listed c m k)
+      by_cases (listed c m k)
       (λ t.
       fits-exceeding Listed c m q k
       (none (slot c m a k) (omega (arith, h.few, count-grows (listed c m) a k l, count-passed (listed c m) k b g t))
@@ -165,6 +165,6 @@ module _ (c : ℕ) (m : List ℕ) (a b : ℕ) (columns low q : List ℕ) (h : Ga
       record {
         place = one.place;
         earlier = omega (arith, one.before);
-        fitting = and_both (listed c m one.place) (nowhereGreater (seen_at Listed c m one.place) q) one.shown
+        fitting = and_both (listed c m one.place) (nowhere_greater (seen_at Listed c m one.place) q) one.shown
             (column.fits (seen_at Listed c m one.place) (length-seen-at Listed c m one.place) (words_small c m (number_in c m one.place) bytes) one.held);
       }

@@ -5,21 +5,21 @@ use Rattle.std.proofs.Math.Path.{ap}
 use Rattle.model.specs.Tree.{Tree}
 use Rattle.model.specs.Calls.{Board}
 use Rattle.model.specs.Sound.{BlocksFit}
-use Rattle.model.specs.Laws.Bool.{byCases, both_ways}
-use Rattle.line.specs.Line.{heightsIn}
-use Rattle.line.specs.Heights.{heightsRight}
-use Rattle.promises.specs.Layout.{sizeIn, dimensionIn, countIn, lineIn, boardIn}
+use Rattle.model.specs.Laws.Bool.{by_cases, both_ways}
+use Rattle.line.specs.Line.{heights_in}
+use Rattle.line.specs.Heights.{heights_right}
+use Rattle.promises.specs.Layout.{size_in, dimension_in, count_in, line_in, board_in}
 use Rattle.promises.specs.Sound.{Stands, Sound, Holding}
 use Rattle.promises.specs.Used.{SameInUse}
 use Rattle.promises.specs.Run.{Bytes}
-use Rattle.memory.specs.Tests.{headRight, numbersRight, orderRight, flagsRight}
+use Rattle.memory.specs.Tests.{head_right, numbers_right, order_right, flags_right}
 use Rattle.soundness.specs.Laws.Decide.{sound-head, sound-numbers, sound-order, sound-heights, sound-flags, right-sound}
 use Rattle.soundness.specs.Laws.Used.{used-board, used-alone}
 use Rattle.soundness.specs.Laws.Front.{one-tree}
 
 -- The same board, and the same trees stand in both. So either both are sound or neither is.
 pub record Alike (m m' : List ℕ) : Type 0 where
-  pub board : boardIn m' ≡ boardIn m
+  pub board : board_in m' ≡ board_in m
   pub trees : (t : Tree) → (Stands m t → Stands m' t) × (Stands m' t → Stands m t)
 
 pub same_alike : (m : List ℕ) → Alike m m
@@ -41,23 +41,23 @@ holding-alike {m} {m'} {b} {t} h h' =
 -- Memory is sound or not.
 pub sound-or-not : (m : List ℕ) → Bytes m → Sound m ⊎ (Sound m → ⊥)
 sound-or-not m b =
-    byCases (headRight m)
+    by_cases (head_right m)
     (λ e.
-    byCases (numbersRight (sizeIn m) (countIn m) m)
+    by_cases (numbers_right (size_in m) (count_in m) m)
     (λ f.
-    byCases (orderRight (sizeIn m) (dimensionIn m) (countIn m) m)
+    by_cases (order_right (size_in m) (dimension_in m) (count_in m) m)
     (λ g.
-    byCases (heightsRight (heightsIn (lineIn m)))
+    by_cases (heights_right (heights_in (line_in m)))
     (λ h.
-    byCases (flagsRight (sizeIn m) (dimensionIn m) (countIn m) m) (λ k. inl (right-sound m b e f g h k)) (λ k. inr (λ s. both_ways (sound-flags m b s) k)))
+    by_cases (flags_right (size_in m) (dimension_in m) (count_in m) m) (λ k. inl (right-sound m b e f g h k)) (λ k. inr (λ s. both_ways (sound-flags m b s) k)))
     (λ h. inr (λ s. both_ways (sound-heights m s) h)))
     (λ g. inr (λ s. both_ways (sound-order m s) g)))
     (λ f. inr (λ s. both_ways (sound-numbers m s) f)))
     (λ e. inr (λ s. both_ways (sound-head m s) e))
 
 module _ {m n : List ℕ} (alike : Alike m n) where
-  pub alike-dimension : dimensionIn n ≡ dimensionIn m
-  unfolding boardIn
+  pub alike-dimension : dimension_in n ≡ dimension_in m
+  unfolding board_in
   alike-dimension = ap (λ (b : Board). b.dimension) alike.board
 
   -- Where one is sound the other is, with the same tree.

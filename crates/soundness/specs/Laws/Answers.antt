@@ -5,15 +5,15 @@ use Rattle.std.proofs.Common.{sym, ap, ◌∙◌, subst, subst₂}
 use Rattle.std.proofs.Math.Path.{subst₃}
 use Rattle.model.specs.Moves.{InputRow, Row, move_of}
 use Rattle.model.specs.Tree.{Tree}
-use Rattle.model.specs.Loading.{loadTree}
+use Rattle.model.specs.Loading.{load_tree}
 use Rattle.model.specs.Calls as calls
-use Rattle.model.specs.Calls.{Board, loadAnswer, loaded, Query, Change, changed}
-use Rattle.model.specs.Changing.{changeTree}
-use Rattle.model.specs.Opening.{queryOpens, changeOpens}
-use Rattle.promises.specs.Layout.{sizeIn, dimensionIn, boardIn}
-use Rattle.promises.specs.Written.{changeWrites, loadWrites}
+use Rattle.model.specs.Calls.{Board, load_answer, loaded, Query, Change, changed}
+use Rattle.model.specs.Changing.{change_tree}
+use Rattle.model.specs.Opening.{query_opens, change_opens}
+use Rattle.promises.specs.Layout.{size_in, dimension_in, board_in}
+use Rattle.promises.specs.Written.{change_writes, load_writes}
 use Rattle.promises.specs.Used.{SameInUse}
-use Rattle.promises.specs.Answers.{answer_of, number_of, counted, rowsAfter, outcomeNumber}
+use Rattle.promises.specs.Answers.{answer_of, number_of, counted, rows_after, outcome_number}
 use Rattle.promises.specs.Promise.{MemoryAfter, LoadPromise, Said, QuerySaidOn, QueryPromise, ChangeSaidOn, ChangeSaid, ChangePromise, PreviewPromise}
 use Rattle.promises.specs.Run.{Bytes}
 use Rattle.promises.specs.declared.Verdict.{Verdict}
@@ -25,16 +25,16 @@ use Rattle.soundness.specs.Laws.Alike.{Alike, same_alike, used-alike, holding-al
 -- ---- what is said
 
 -- The outcome with this number.
-outcomeOf : ℕ → Outcome
-outcomeOf k =
+outcome_of : ℕ → Outcome
+outcome_of k =
     cond (eqb k 0) Accepted
     (cond (eqb k 1) ShortMemory
     (cond (eqb k 2) OutOfRange
     (cond (eqb k 3) Unsound
     (cond (eqb k 4) NumberTooLarge (cond (eqb k 5) NumberTwice (cond (eqb k 6) NumberAbsent (cond (eqb k 7) BadArgument (cond (eqb k 8) FewRows (cond (eqb k 11) BlockTooLarge BadHours)))))))))
 
-outcome-of : (o : Outcome) → outcomeOf (outcomeNumber o) ≡ o
-unfolding outcomeOf outcomeNumber
+outcome-of : (o : Outcome) → outcome_of (outcome_number o) ≡ o
+unfolding outcome_of outcome_number
 outcome-of Accepted = refl
 outcome-of ShortMemory = refl
 outcome-of OutOfRange = refl
@@ -49,7 +49,7 @@ outcome-of BadHours = refl
 
 verdict-same : (v w : Verdict) → answer_of v ≡ answer_of w → v ≡ w
 verdict-same v w e =
-    let outcome = sym (outcome-of v.outcome) ∙ ap (λ (a : calls.Answer). outcomeOf a.number) e ∙ outcome-of w.outcome in
+    let outcome = sym (outcome-of v.outcome) ∙ ap (λ (a : calls.Answer). outcome_of a.number) e ∙ outcome-of w.outcome in
     (λ i. record { outcome = outcome i; detail = (e i).detail })
 
 said_same : {a : calls.Answer} {rows : List Row} {nodes : ℕ} {lent lent' lent'' : List Row} {r s : CallResult}
@@ -59,7 +59,7 @@ said_same {a} {rows} {nodes} {lent} {r = r} {s = s} p q =
     let count = q.counts ∙ ap (λ (w : Verdict). counted (number_of w) (length rows)) e ∙ sym p.counts in
     let opened = q.opens ∙ ap (λ (w : Verdict). counted (number_of w) nodes) e ∙ sym p.opens in (
       (λ i. record { verdict = e i; count = count i; opened = opened i }),
-      q.tells ∙ ap (λ (w : Verdict). rowsAfter (number_of w) rows lent) e ∙ sym p.tells,
+      q.tells ∙ ap (λ (w : Verdict). rows_after (number_of w) rows lent) e ∙ sym p.tells,
     )
 
 -- ---- what is left
@@ -77,12 +77,12 @@ module _ {m n : List ℕ} (alike : Alike m n) (m' n' : List ℕ) where
 
 module _ (c d : ℕ) (rows : List InputRow) {m n m' n' : List ℕ} (alike : Alike m n) {v w : Verdict} (p : LoadPromise c d rows m v m') (p' : LoadPromise c d rows n w n') (same : length n ≡ length m) where
   load-alone : w ≡ v
-  load-alone = verdict-same w v (p'.said ∙ ap (λ (k : ℕ). loadAnswer k c d rows) same ∙ sym p.said)
+  load-alone = verdict-same w v (p'.said ∙ ap (λ (k : ℕ). load_answer k c d rows) same ∙ sym p.said)
 
   load-alike : Alike m' n'
   load-alike =
-      let after : Verdict → Type 0 = λ u. MemoryAfter (loadWrites c) (number_of u) n n' (loaded c d rows) (loadTree d (map move_of rows)) in
-      after-alike alike m' n' (loadWrites c) (loadWrites c) (number_of v) (loaded c d rows) (loadTree d (map move_of rows)) p.left (subst after load-alone p'.left)
+      let after : Verdict → Type 0 = λ u. MemoryAfter (load_writes c) (number_of u) n n' (loaded c d rows) (load_tree d (map move_of rows)) in
+      after-alike alike m' n' (load_writes c) (load_writes c) (number_of v) (loaded c d rows) (load_tree d (map move_of rows)) p.left (subst after load-alone p'.left)
 
 module _ {m n : List ℕ} (bytes : Bytes m) (alike : Alike m n) {lent lent' lent'' : List Row} {r s : CallResult} where
   query-alone : (q : Query) → QueryPromise q m lent r lent' → QueryPromise q n lent s lent'' → (s ≡ r) × (lent'' ≡ lent')
@@ -90,7 +90,7 @@ module _ {m n : List ℕ} (bytes : Bytes m) (alike : Alike m n) {lent lent' lent
       by-soundness alike bytes
       (λ k.
       said_same (p.sound k)
-      (subst₂ (λ (b : Board) (d : ℕ). QuerySaidOn q b (queryOpens d q k.tree) lent s lent'') alike.board (alike-dimension alike) (p'.sound (alike-sound alike k))))
+      (subst₂ (λ (b : Board) (d : ℕ). QuerySaidOn q b (query_opens d q k.tree) lent s lent'') alike.board (alike-dimension alike) (p'.sound (alike-sound alike k))))
       (λ f f'. said_same (p.unsound f) (p'.unsound f'))
 
   -- A change, be it made or previewed.
@@ -99,7 +99,7 @@ module _ {m n : List ℕ} (bytes : Bytes m) (alike : Alike m n) {lent lent' lent
       by-soundness alike bytes
       (λ k.
       said_same (p.sound k)
-      (subst₂ (λ (b : Board) (d : ℕ). ChangeSaidOn x b (changeOpens d x k.tree) lent s lent'') alike.board (alike-dimension alike) (p'.sound (alike-sound alike k))))
+      (subst₂ (λ (b : Board) (d : ℕ). ChangeSaidOn x b (change_opens d x k.tree) lent s lent'') alike.board (alike-dimension alike) (p'.sound (alike-sound alike k))))
       (λ f f'. said_same (p.unsound f) (p'.unsound f'))
 
   module _ (x : Change) {m' n' : List ℕ} (p : ChangePromise x m lent r m' lent') (p' : ChangePromise x n lent s n' lent'') where
@@ -107,10 +107,10 @@ module _ {m n : List ℕ} (bytes : Bytes m) (alike : Alike m n) {lent lent' lent
     change-alike =
         by-soundness alike bytes
         (λ k.
-        after-alike alike m' n' (changeWrites (sizeIn m) x) (changeWrites (sizeIn n) x) (number_of r.verdict) (changed (boardIn m) x) (changeTree (dimensionIn m) x k.tree)
+        after-alike alike m' n' (change_writes (size_in m) x) (change_writes (size_in n) x) (number_of r.verdict) (changed (board_in m) x) (change_tree (dimension_in m) x k.tree)
         (p.left k)
         (subst₃
-        (λ (v : Verdict) (b : Board) (d : ℕ). MemoryAfter (changeWrites (sizeIn n) x) (number_of v) n n' (changed b x) (changeTree d x k.tree))
+        (λ (v : Verdict) (b : Board) (d : ℕ). MemoryAfter (change_writes (size_in n) x) (number_of v) n n' (changed b x) (change_tree d x k.tree))
         (ap (λ (a : CallResult). a.verdict) (change-alone x p.said p'.said).0) alike.board (alike-dimension alike) (p'.left (alike-sound alike k))))
         (λ f f'. same_memory alike m' n' (p.unsound f) (p'.unsound f'))
 

@@ -11,154 +11,154 @@ use Rattle.std.proofs.Math.Seq.{drop-length}
 use Rattle.std.proofs.lemmas.Bool.{lt-leb}
 use Rattle.model.specs.Basics.{within}
 use Rattle.model.specs.Laws.Bool.{and_both, and-false-right}
-use Rattle.line.specs.Heights.{firstHighest, countsFrom, countsAt, rootCount, levelsRight, heightsRight}
-use Rattle.promises.specs.Layout.{heightIn, tab, heightsFrom}
-use Rattle.memory.specs.Tests.{allTo}
+use Rattle.line.specs.Heights.{first_highest, counts_from, counts_at, root_count, levels_right, heights_right}
+use Rattle.promises.specs.Layout.{height_in, tab, heights_from}
+use Rattle.memory.specs.Tests.{all_to}
 use Rattle.promises.specs.Laws.Tab.{tab-cons}
-use Rattle.memory.specs.Laws.Lines.{length-heightsFrom, getD-heightsFrom}
-use Rattle.memory.specs.Laws.Places.{allTo-fails, allTo-next, all-tab}
+use Rattle.memory.specs.Laws.Lines.{length-heights_from, get_or-heights_from}
+use Rattle.memory.specs.Laws.Places.{all_to-fails, all_to-next, all-tab}
 
 -- The place after i is lower than the first.
-abbrev pub lowerNext : ℕ → List ℕ → ℕ → Bool
-lowerNext c m i = ltb (heightIn c m (suc i)) (heightIn c m 0)
+abbrev pub lower_next : ℕ → List ℕ → ℕ → Bool
+lower_next c m i = ltb (height_in c m (suc i)) (height_in c m 0)
 
-pub lower-next : (c : ℕ) (m : List ℕ) (i : ℕ) → 0 < i → allTo (lowerNext c m) (i - 1) ≡ true → heightIn c m i < heightIn c m 0 → allTo (lowerNext c m) (i + 1 - 1) ≡ true
+pub lower-next : (c : ℕ) (m : List ℕ) (i : ℕ) → 0 < i → all_to (lower_next c m) (i - 1) ≡ true → height_in c m i < height_in c m 0 → all_to (lower_next c m) (i + 1 - 1) ≡ true
 lower-next c m i l h g =
     let e : suc (i - 1) ≡ i = omega arith in
-    allTo-next (lowerNext c m) i l h
-    (ap (λ (j : ℕ). ltb (heightIn c m j) (heightIn c m 0)) e ∙ lt-ltb (heightIn c m i) (heightIn c m 0) g)
+    all_to-next (lower_next c m) i l h
+    (ap (λ (j : ℕ). ltb (height_in c m j) (height_in c m 0)) e ∙ lt-ltb (height_in c m i) (height_in c m 0) g)
 
 -- ---- the line by places
 
 module _ (c : ℕ) (m : List ℕ) where
-  line_first : (n : ℕ) → heightsFrom c (suc n) m ≡ heightIn c m 0 ∷ tab (λ i. heightIn c m (suc i)) n
-  unfolding heightsFrom
-  line_first n = tab-cons (heightIn c m) n
+  line_first : (n : ℕ) → heights_from c (suc n) m ≡ height_in c m 0 ∷ tab (λ i. height_in c m (suc i)) n
+  unfolding heights_from
+  line_first n = tab-cons (height_in c m) n
 
-  drop-line : (n i : ℕ) → i < n → drop i (heightsFrom c n m) ≡ heightIn c m i ∷ drop (i + 1) (heightsFrom c n m)
+  drop-line : (n i : ℕ) → i < n → drop i (heights_from c n m) ≡ height_in c m i ∷ drop (i + 1) (heights_from c n m)
   drop-line n i l =
-      drop-cons (heightsFrom c n m) i 0 (omega (arith, length-heightsFrom c n m))
-      ∙ ap₂ (λ (k j : ℕ). k ∷ drop j (heightsFrom c n m)) (getD-heightsFrom c n m i l) (sym (add-one i))
+      drop-cons (heights_from c n m) i 0 (omega (arith, length-heights_from c n m))
+      ∙ ap₂ (λ (k j : ℕ). k ∷ drop j (heights_from c n m)) (get_or-heights_from c n m i l) (sym (add-one i))
 
-  drop_all : (n : ℕ) → drop n (heightsFrom c n m) ≡ []
-  drop_all n = ap (λ (k : ℕ). drop k (heightsFrom c n m)) (sym (length-heightsFrom c n m)) ∙ drop-length (heightsFrom c n m)
+  drop_all : (n : ℕ) → drop n (heights_from c n m) ≡ []
+  drop_all n = ap (λ (k : ℕ). drop k (heights_from c n m)) (sym (length-heights_from c n m)) ∙ drop-length (heights_from c n m)
 
   -- ---- the first is the highest
 
-  highest-places : (n : ℕ) → 0 < n → firstHighest (heightsFrom c n m) ≡ (ltb 0 (heightIn c m 0) && allTo (lowerNext c m) (n - 1))
-  unfolding firstHighest
+  highest-places : (n : ℕ) → 0 < n → first_highest (heights_from c n m) ≡ (ltb 0 (height_in c m 0) && all_to (lower_next c m) (n - 1))
+  unfolding first_highest
   highest-places zero l = absurd (omega arith)
   highest-places (suc n) l =
       let e : suc n - 1 ≡ n = omega arith in
-      ap firstHighest (line_first n)
-      ∙ ap (λ (b : Bool). ltb 0 (heightIn c m 0) && b) (all-tab (λ i. heightIn c m (suc i)) (λ r. ltb r (heightIn c m 0)) n)
-      ∙ ap (λ (k : ℕ). ltb 0 (heightIn c m 0) && allTo (lowerNext c m) k) (sym e)
+      ap first_highest (line_first n)
+      ∙ ap (λ (b : Bool). ltb 0 (height_in c m 0) && b) (all-tab (λ i. height_in c m (suc i)) (λ r. ltb r (height_in c m 0)) n)
+      ∙ ap (λ (k : ℕ). ltb 0 (height_in c m 0) && all_to (lower_next c m) k) (sym e)
 
-  pub highest-none : (n : ℕ) → n ≡ 0 → firstHighest (heightsFrom c n m) ≡ true
-  unfolding firstHighest heightsFrom tab
-  highest-none n e = ap (λ (k : ℕ). firstHighest (heightsFrom c k m)) e
+  pub highest-none : (n : ℕ) → n ≡ 0 → first_highest (heights_from c n m) ≡ true
+  unfolding first_highest heights_from tab
+  highest-none n e = ap (λ (k : ℕ). first_highest (heights_from c k m)) e
 
   module _ (n : ℕ) (l : 0 < n) where
-    pub highest-found : 0 < heightIn c m 0 → allTo (lowerNext c m) (n - 1) ≡ true → firstHighest (heightsFrom c n m) ≡ true
+    pub highest-found : 0 < height_in c m 0 → all_to (lower_next c m) (n - 1) ≡ true → first_highest (heights_from c n m) ≡ true
     highest-found h e =
-        highest-places n l ∙ and_both (ltb 0 (heightIn c m 0)) (allTo (lowerNext c m) (n - 1)) (lt-ltb 0 (heightIn c m 0) h) e
+        highest-places n l ∙ and_both (ltb 0 (height_in c m 0)) (all_to (lower_next c m) (n - 1)) (lt-ltb 0 (height_in c m 0) h) e
 
-    pub highest-flat : heightIn c m 0 ≡ 0 → firstHighest (heightsFrom c n m) ≡ false
+    pub highest-flat : height_in c m 0 ≡ 0 → first_highest (heights_from c n m) ≡ false
     highest-flat e =
-        highest-places n l ∙ ap (λ (k : ℕ). ltb 0 k && allTo (lowerNext c m) (n - 1)) e
+        highest-places n l ∙ ap (λ (k : ℕ). ltb 0 k && all_to (lower_next c m) (n - 1)) e
 
-    pub highest-lost : (i : ℕ) → 0 < i → i < n → heightIn c m 0 ≤ heightIn c m i → firstHighest (heightsFrom c n m) ≡ false
+    pub highest-lost : (i : ℕ) → 0 < i → i < n → height_in c m 0 ≤ height_in c m i → first_highest (heights_from c n m) ≡ false
     highest-lost i k f g =
         let e : suc (i - 1) ≡ i = omega arith in
         highest-places n l
-        ∙ and-false-right (ltb 0 (heightIn c m 0)) (allTo (lowerNext c m) (n - 1))
-        (allTo-fails (lowerNext c m) (n - 1) (i - 1) (omega arith)
-        (ap (λ (j : ℕ). ltb (heightIn c m j) (heightIn c m 0)) e ∙ le-ltb (heightIn c m i) (heightIn c m 0) g))
+        ∙ and-false-right (ltb 0 (height_in c m 0)) (all_to (lower_next c m) (n - 1))
+        (all_to-fails (lower_next c m) (n - 1) (i - 1) (omega arith)
+        (ap (λ (j : ℕ). ltb (height_in c m j) (height_in c m 0)) e ∙ le-ltb (height_in c m i) (height_in c m 0) g))
 
   -- ---- the numbers of entries
 
-  pub counts-first : (l lo n : ℕ) → 0 < n → countsFrom l lo 1 (drop 1 (heightsFrom c n m)) ≡ countsAt l lo (heightsFrom c n m)
-  unfolding countsAt
+  pub counts-first : (l lo n : ℕ) → 0 < n → counts_from l lo 1 (drop 1 (heights_from c n m)) ≡ counts_at l lo (heights_from c n m)
+  unfolding counts_at
   counts-first l lo zero h = absurd (omega arith)
   counts-first l lo (suc n) h =
-      ap (λ (rs : List ℕ). countsFrom l lo 1 (drop 1 rs)) (line_first n) ∙ ap (countsAt l lo) (sym (line_first n))
+      ap (λ (rs : List ℕ). counts_from l lo 1 (drop 1 rs)) (line_first n) ∙ ap (counts_at l lo) (sym (line_first n))
 
-  pub counts-last : (l lo k n : ℕ) → countsFrom l lo k (drop n (heightsFrom c n m)) ≡ within lo 8 k
-  unfolding countsFrom
-  counts-last l lo k n = ap (countsFrom l lo k) (drop_all n)
+  pub counts-last : (l lo k n : ℕ) → counts_from l lo k (drop n (heights_from c n m)) ≡ within lo 8 k
+  unfolding counts_from
+  counts-last l lo k n = ap (counts_from l lo k) (drop_all n)
 
   -- ---- the whole test
 
-  pub heights-none : (n : ℕ) → n ≡ 0 → heightsRight (heightsFrom c n m) ≡ true
-  unfolding heightsRight heightsFrom tab
-  heights-none n e = ap (λ (k : ℕ). heightsRight (heightsFrom c k m)) e
+  pub heights-none : (n : ℕ) → n ≡ 0 → heights_right (heights_from c n m) ≡ true
+  unfolding heights_right heights_from tab
+  heights-none n e = ap (λ (k : ℕ). heights_right (heights_from c k m)) e
 
   heights-places : (n : ℕ) → 0 < n
-      → heightsRight (heightsFrom c n m) ≡ (firstHighest (heightsFrom c n m) && levelsRight (heightIn c m 0) (heightIn c m 0) (heightsFrom c n m))
-  unfolding heightsRight
+      → heights_right (heights_from c n m) ≡ (first_highest (heights_from c n m) && levels_right (height_in c m 0) (height_in c m 0) (heights_from c n m))
+  unfolding heights_right
   heights-places zero l = absurd (omega arith)
   heights-places (suc n) l =
-      ap heightsRight (line_first n)
-      ∙ ap (λ (rs : List ℕ). firstHighest rs && levelsRight (heightIn c m 0) (heightIn c m 0) rs) (sym (line_first n))
+      ap heights_right (line_first n)
+      ∙ ap (λ (rs : List ℕ). first_highest rs && levels_right (height_in c m 0) (height_in c m 0) rs) (sym (line_first n))
 
-  pub heights-by : (n : ℕ) → 0 < n → (highest : Bool) → firstHighest (heightsFrom c n m) ≡ highest
-      → heightsRight (heightsFrom c n m) ≡ (highest && levelsRight (heightIn c m 0) (heightIn c m 0) (heightsFrom c n m))
+  pub heights-by : (n : ℕ) → 0 < n → (highest : Bool) → first_highest (heights_from c n m) ≡ highest
+      → heights_right (heights_from c n m) ≡ (highest && levels_right (height_in c m 0) (height_in c m 0) (heights_from c n m))
   heights-by n l highest e =
-      heights-places n l ∙ ap (λ (b : Bool). b && levelsRight (heightIn c m 0) (heightIn c m 0) (heightsFrom c n m)) e
+      heights-places n l ∙ ap (λ (b : Bool). b && levels_right (height_in c m 0) (height_in c m 0) (heights_from c n m)) e
 
 -- ---- one row of a level
 
 module _ (l lo k : ℕ) (r : ℕ) (rs : List ℕ) where
   -- by the three tests that the definition makes
   counts-row : (node entry right : Bool) → leb l (r) ≡ node → leb (l - 1) (r) ≡ entry → within lo 8 k ≡ right
-      → countsFrom l lo k (r ∷ rs) ≡ cond node (right && countsFrom l lo 1 rs) (cond entry (countsFrom l lo (k + 1) rs) (countsFrom l lo k rs))
-  unfolding countsFrom
+      → counts_from l lo k (r ∷ rs) ≡ cond node (right && counts_from l lo 1 rs) (cond entry (counts_from l lo (k + 1) rs) (counts_from l lo k rs))
+  unfolding counts_from
   counts-row node entry right e f g =
-      λ i. cond (e i) (g i && countsFrom l lo 1 rs) (cond (f i) (countsFrom l lo (sym (add-one k) i) rs) (countsFrom l lo k rs))
+      λ i. cond (e i) (g i && counts_from l lo 1 rs) (cond (f i) (counts_from l lo (sym (add-one k) i) rs) (counts_from l lo k rs))
 
 module _ (c n : ℕ) (m : List ℕ) (l lo k i : ℕ) (h : i < n) where
   rest : List ℕ
-  rest = drop (i + 1) (heightsFrom c n m)
+  rest = drop (i + 1) (heights_from c n m)
 
-  counts-here : countsFrom l lo k (drop i (heightsFrom c n m)) ≡ countsFrom l lo k (heightIn c m i ∷ rest)
+  counts-here : counts_from l lo k (drop i (heights_from c n m)) ≡ counts_from l lo k (height_in c m i ∷ rest)
   unfolding rest
-  counts-here = ap (countsFrom l lo k) (drop-line c m n i h)
+  counts-here = ap (counts_from l lo k) (drop-line c m n i h)
 
   -- The row starts a node, ..
-  pub node-right : l ≤ heightIn c m i → within lo 8 k ≡ true → countsFrom l lo k (drop i (heightsFrom c n m)) ≡ countsFrom l lo 1 (drop (i + 1) (heightsFrom c n m))
+  pub node-right : l ≤ height_in c m i → within lo 8 k ≡ true → counts_from l lo k (drop i (heights_from c n m)) ≡ counts_from l lo 1 (drop (i + 1) (heights_from c n m))
   unfolding rest
-  node-right f g = counts-here ∙ counts-row l lo k (heightIn c m i) rest true _ true (le-leb l (heightIn c m i) f) refl g
+  node-right f g = counts-here ∙ counts-row l lo k (height_in c m i) rest true _ true (le-leb l (height_in c m i) f) refl g
 
-  pub node-wrong : l ≤ heightIn c m i → within lo 8 k ≡ false → countsFrom l lo k (drop i (heightsFrom c n m)) ≡ false
+  pub node-wrong : l ≤ height_in c m i → within lo 8 k ≡ false → counts_from l lo k (drop i (heights_from c n m)) ≡ false
   unfolding rest
-  node-wrong f g = counts-here ∙ counts-row l lo k (heightIn c m i) rest true _ false (le-leb l (heightIn c m i) f) refl g
+  node-wrong f g = counts-here ∙ counts-row l lo k (height_in c m i) rest true _ false (le-leb l (height_in c m i) f) refl g
 
   -- .. an entry of the node at hand, ..
-  pub node-entry : heightIn c m i < l → l ≤ heightIn c m i + 1 → countsFrom l lo k (drop i (heightsFrom c n m)) ≡ countsFrom l lo (k + 1) (drop (i + 1) (heightsFrom c n m))
+  pub node-entry : height_in c m i < l → l ≤ height_in c m i + 1 → counts_from l lo k (drop i (heights_from c n m)) ≡ counts_from l lo (k + 1) (drop (i + 1) (heights_from c n m))
   unfolding rest
   node-entry f g =
       counts-here
-      ∙ counts-row l lo k (heightIn c m i) rest false true _ (lt-leb l (heightIn c m i) f) (le-leb (l - 1) (heightIn c m i) (omega arith)) refl
+      ∙ counts-row l lo k (height_in c m i) rest false true _ (lt-leb l (height_in c m i) f) (le-leb (l - 1) (height_in c m i) (omega arith)) refl
 
   -- .. or stands within one.
-  pub node-inside : heightIn c m i + 1 < l → countsFrom l lo k (drop i (heightsFrom c n m)) ≡ countsFrom l lo k (drop (i + 1) (heightsFrom c n m))
+  pub node-inside : height_in c m i + 1 < l → counts_from l lo k (drop i (heights_from c n m)) ≡ counts_from l lo k (drop (i + 1) (heights_from c n m))
   unfolding rest
   node-inside f =
       counts-here
-      ∙ counts-row l lo k (heightIn c m i) rest false false _ (lt-leb l (heightIn c m i) (omega arith)) (lt-leb (l - 1) (heightIn c m i) (omega arith)) refl
+      ∙ counts-row l lo k (height_in c m i) rest false false _ (lt-leb l (height_in c m i) (omega arith)) (lt-leb (l - 1) (height_in c m i) (omega arith)) refl
 
 -- ---- one level
 
-level : (top l : ℕ) (rs : List ℕ) → 0 < l → levelsRight top l rs ≡ (countsAt l (cond (leb top l) (rootCount l) 3) rs && levelsRight top (l - 1) rs)
-unfolding levelsRight
+level : (top l : ℕ) (rs : List ℕ) → 0 < l → levels_right top l rs ≡ (counts_at l (cond (leb top l) (root_count l) 3) rs && levels_right top (l - 1) rs)
+unfolding levels_right
 level top zero rs h = absurd (omega arith)
 level top (suc l) rs h =
     let e : suc l - 1 ≡ l = omega arith in
-    ap (λ (k : ℕ). countsAt (suc l) (cond (leb top (suc l)) (rootCount (suc l)) 3) rs && levelsRight top k rs) (sym e)
+    ap (λ (k : ℕ). counts_at (suc l) (cond (leb top (suc l)) (root_count (suc l)) 3) rs && levels_right top k rs) (sym e)
 
 module _ (top l : ℕ) (rs : List ℕ) (h : 0 < l) where
-  pub level-right : countsAt l (cond (leb top l) (rootCount l) 3) rs ≡ true → levelsRight top l rs ≡ levelsRight top (l - 1) rs
-  level-right e = level top l rs h ∙ ap (λ (b : Bool). b && levelsRight top (l - 1) rs) e
+  pub level-right : counts_at l (cond (leb top l) (root_count l) 3) rs ≡ true → levels_right top l rs ≡ levels_right top (l - 1) rs
+  level-right e = level top l rs h ∙ ap (λ (b : Bool). b && levels_right top (l - 1) rs) e
 
-  pub level-wrong : countsAt l (cond (leb top l) (rootCount l) 3) rs ≡ false → levelsRight top l rs ≡ false
-  level-wrong e = level top l rs h ∙ ap (λ (b : Bool). b && levelsRight top (l - 1) rs) e
+  pub level-wrong : counts_at l (cond (leb top l) (root_count l) 3) rs ≡ false → levels_right top l rs ≡ false
+  level-wrong e = level top l rs h ∙ ap (λ (b : Bool). b && levels_right top (l - 1) rs) e

@@ -9,28 +9,28 @@ use Rattle.std.proofs.Common.{◌∙◌}
 use native.Mathlib.Omega.{arith}
 use borrow.Author.Tests.{eqb-false, eq-eqb}
 use Rattle.std.proofs.Math.ListN.{length}
-use Rattle.model.specs.Basics.{Each, consIf, select, any, distinct, count}
-use Rattle.model.specs.Moves.{Move, moveBefore, ordered}
+use Rattle.model.specs.Basics.{Each, cons_if, select, any, distinct, count}
+use Rattle.model.specs.Moves.{Move, move_before, ordered}
 use Rattle.model.specs.Tree.{Tree, moves_of}
-use Rattle.model.specs.Calls.{onBoard}
+use Rattle.model.specs.Calls.{on_board}
 use Rattle.model.specs.Sound.{Fit}
-use Rattle.model.specs.Withdrawing.{without, withdrawTree}
-use Rattle.model.specs.Laws.Bool.{byCases}
+use Rattle.model.specs.Withdrawing.{without, withdraw_tree}
+use Rattle.model.specs.Laws.Bool.{by_cases}
 use Rattle.model.specs.Laws.Basics.{each-mem, mem-each, any-mem, any-witness, count-append, count-pos}
 use Rattle.model.specs.Laws.Sorting.{rising-once}
 use Rattle.model.specs.Laws.Order.{move-path, move-order}
 use Rattle.model.specs.Laws.Numbers.{once-distinct}
 use Rattle.model.specs.Laws.Tree.{ruled-ordered}
 use Rattle.model.specs.Laws.Withdrawing.{withdraw-moves}
-use Rattle.line.specs.Line.{movesIn}
+use Rattle.line.specs.Line.{moves_in}
 use Rattle.line.specs.Withdraw as line
 use Rattle.line.specs.Laws.Line.{moves-line}
 use Rattle.line.specs.Laws.Taken.{numbered}
 use Rattle.line.specs.Laws.Withdraw.{one-numbered}
-use Rattle.promises.specs.Layout.{number_in, costsIn, moveIn, lineFrom, tab}
+use Rattle.promises.specs.Layout.{number_in, costs_in, move_in, line_from, tab}
 use Rattle.promises.specs.Laws.Tab.{length-tab, each-tab}
-use Rattle.memory.specs.Laws.Places.{anyTo-found, any-tab}
-use Rattle.memory.specs.Laws.Lines.{movesIn-line}
+use Rattle.memory.specs.Laws.Places.{any_to-found, any-tab}
+use Rattle.memory.specs.Laws.Lines.{moves_in-line}
 use Rattle.tree.specs.Hold.{RowsHold}
 use Rattle.tree.specs.Laws.Again.{apart-tab}
 use Rattle.tree.specs.Laws.Saving.{place-of}
@@ -44,18 +44,18 @@ module _ {A : Type 0} (p : A → Bool) where
   count-rest (x ∷ xs) = go (p x) (count-rest xs)
     where
       go : (b : Bool) → length (select (λ x. not (p x)) xs) + length (select p xs) ≡ length xs
-          → length (consIf (not b) x (select (λ x. not (p x)) xs)) + length (consIf b x (select p xs)) ≡ suc (length xs)
+          → length (cons_if (not b) x (select (λ x. not (p x)) xs)) + length (cons_if b x (select p xs)) ≡ suc (length xs)
       go true e = omega arith
       go false e = omega arith
 
   none_any : (xs : List A) → count p xs ≡ 0 → any p xs ≡ false
-  none_any xs e = byCases (any p xs) (λ t. let w = any-witness p xs t in absurd (omega (arith, count-pos p w.1 w.2))) (λ f. f)
+  none_any xs e = by_cases (any p xs) (λ t. let w = any-witness p xs t in absurd (omega (arith, count-pos p w.1 w.2))) (λ f. f)
 
 -- Where no number stands twice, those of a part stand nowhere else.
-pub numbers_apart : (xs ys zs : List Move) → distinct (map (λ x. x.number) (xs ++ (ys ++ zs))) ≡ true → Each (λ y. onBoard y.number (xs ++ zs) ≡ false) ys
-unfolding onBoard
+pub numbers_apart : (xs ys zs : List Move) → distinct (map (λ x. x.number) (xs ++ (ys ++ zs))) ≡ true → Each (λ y. on_board y.number (xs ++ zs) ≡ false) ys
+unfolding on_board
 numbers_apart xs ys zs u =
-    mem-each (λ y. onBoard y.number (xs ++ zs) ≡ false) ys
+    mem-each (λ y. on_board y.number (xs ++ zs) ≡ false) ys
     (λ y i.
     let p : Move → Bool = numbered y.number in
     let here : p y ≡ true = eq-eqb y.number y.number refl in
@@ -66,46 +66,46 @@ numbers_apart xs ys zs u =
 -- ---- rows
 
 module _ {c d n : ℕ} {m : List ℕ} {t : Tree} (h : RowsHold c d n m t) where
-  pub held-moves : moves_of t ≡ tab (moveIn c d m) n
-  held-moves = sym (moves-line t) ∙ ap movesIn (sym h.line) ∙ movesIn-line c d n m
+  pub held-moves : moves_of t ≡ tab (move_in c d m) n
+  held-moves = sym (moves-line t) ∙ ap moves_in (sym h.line) ∙ moves_in-line c d n m
 
   pub held-length : length (moves_of t) ≡ n
-  held-length = ap length held-moves ∙ length-tab (moveIn c d m) n
+  held-length = ap length held-moves ∙ length-tab (move_in c d m) n
 
   abbrev ByNumber : Move → Type 0
-  ByNumber x = x.costs ≡ costsIn c d m x.number
+  ByNumber x = x.costs ≡ costs_in c d m x.number
 
   by_number : Each ByNumber (moves_of t)
-  unfolding moveIn
-  by_number = subst (Each ByNumber) (sym held-moves) (each-tab (moveIn c d m) ByNumber n (λ i l. refl))
+  unfolding move_in
+  by_number = subst (Each ByNumber) (sym held-moves) (each-tab (move_in c d m) ByNumber n (λ i l. refl))
 
   -- Moves in order are different ones, and equal numbers would have equal costs.
   pub held-once : distinct (map (λ x. x.number) (moves_of t)) ≡ true
   unfolding ordered
   held-once =
       once-distinct (λ x. x.number) (moves_of t)
-      (rising-once (Fit c d) (moveBefore d) (move-order d c h.readable.dimension) (moves_of t) h.fits (ruled-ordered d t h.rules))
-      (λ x y i j e. move-path x y (e, each-mem ByNumber by_number i ∙ ap (costsIn c d m) e ∙ sym (each-mem ByNumber by_number j)))
+      (rising-once (Fit c d) (move_before d) (move-order d c h.readable.dimension) (moves_of t) h.fits (ruled-ordered d t h.rules))
+      (λ x y i j e. move-path x y (e, each-mem ByNumber by_number i ∙ ap (costs_in c d m) e ∙ sym (each-mem ByNumber by_number j)))
 
   module _ (p : ℕ) (place : p < n) where
-    pub held-board : onBoard (number_in c m p) (moves_of t) ≡ true
-    unfolding onBoard moveIn
+    pub held-board : on_board (number_in c m p) (moves_of t) ≡ true
+    unfolding on_board move_in
     held-board =
         let same : Move → Bool = numbered (number_in c m p) in
-        ap (any same) held-moves ∙ any-tab (moveIn c d m) same n ∙ anyTo-found (λ i. same (moveIn c d m i)) n p place (eq-eqb (number_in c m p) (number_in c m p) refl)
+        ap (any same) held-moves ∙ any-tab (move_in c d m) same n ∙ any_to-found (λ i. same (move_in c d m i)) n p place (eq-eqb (number_in c m p) (number_in c m p) refl)
 
-    pub held_place : p ≡ line.place_of (number_in c m p) (lineFrom c d n m)
-    unfolding moveIn
+    pub held_place : p ≡ line.place_of (number_in c m p) (line_from c d n m)
+    unfolding move_in
     held_place =
         let once = subst (λ (ms : List Move). distinct (map (λ x. x.number) ms) ≡ true) held-moves held-once in
         (place-of c n (number_in c m p) m p (omega arith)
-        (λ k l. eqb-false (number_in c m k) (number_in c m p) (apart-tab (λ x. x.number) (moveIn c d m) n k p once l place))
+        (λ k l. eqb-false (number_in c m k) (number_in c m p) (apart-tab (λ x. x.number) (move_in c d m) n k p once l place))
         (λ l. refl)).is d
 
     pub held_one : count (numbered (number_in c m p)) (moves_of t) ≡ 1
     held_one = one-numbered (number_in c m p) (moves_of t) held-once held-board
 
-    pub held-rest : suc (length (moves_of (withdrawTree d (number_in c m p) t))) ≡ n
+    pub held-rest : suc (length (moves_of (withdraw_tree d (number_in c m p) t))) ≡ n
     unfolding without
     held-rest =
         let v : ℕ = number_in c m p in

@@ -14,15 +14,15 @@ use Rattle.std.proofs.Math.Seq.{drop-length, take-length}
 use Rattle.std.proofs.lemmas.List.{set-get_or}
 use Rattle.line.specs.Line.{Placed, none}
 use Rattle.line.specs.Places as places
-use Rattle.line.specs.Places.{move_at, heightAt}
-use Rattle.line.specs.Load.{startsGroup, groupCount, raised, raisedAll}
-use Rattle.promises.specs.Layout.{heightIn, lineFrom}
+use Rattle.line.specs.Places.{move_at, height_at}
+use Rattle.line.specs.Load.{starts_group, group_count, raised, raised_all}
+use Rattle.promises.specs.Layout.{height_in, line_from}
 use Rattle.memory.specs.Room.{Room}
-use Rattle.memory.specs.Stores.{setHeight}
+use Rattle.memory.specs.Stores.{set_height}
 use Rattle.memory.specs.Frame.{RowsOnly}
 use Rattle.memory.specs.Laws.Frames.{frame-refl, frame-trans}
-use Rattle.memory.specs.Laws.Stored.{setHeight-rows}
-use Rattle.memory.specs.Laws.Lines.{length-line, heightAt-line, line-setHeight}
+use Rattle.memory.specs.Laws.Stored.{set_height-rows}
+use Rattle.memory.specs.Laws.Lines.{length-line, height_at-line, line-set_height}
 use Rattle.tree.specs.Rows.{Raised, RaisedAll}
 
 -- ---- on the line
@@ -44,31 +44,31 @@ module _ (l e : ℕ) where
     left-pass : (k : ℕ) → raised l e j (drop i rs) ≡ get_or rs i none ∷ raised l e k (drop (suc i) rs) → left (i + 1) k rs ≡ left i j rs
     left-pass k made = ap (left (i + 1) k) (sym (set-get_or rs i none)) ∙ left-turn k (get_or rs i none) made
 
-    raised-step : (t s : Bool) → leb l (heightAt rs i) ≡ t → startsGroup e j ≡ s
+    raised-step : (t s : Bool) → leb l (height_at rs i) ≡ t → starts_group e j ≡ s
         → raised l e j (drop i rs)
-        ≡ cond t (record { move = move_at rs i; height = cond s (suc l) (heightAt rs i) } ∷ raised l e (suc j) (drop (suc i) rs))
+        ≡ cond t (record { move = move_at rs i; height = cond s (suc l) (height_at rs i) } ∷ raised l e (suc j) (drop (suc i) rs))
         (get_or rs i none ∷ raised l e j (drop (suc i) rs))
-    unfolding raised move_at heightAt
+    unfolding raised move_at height_at
     raised-step t s test starts =
         let r = get_or rs i none in
         let rest = drop (suc i) rs in
         ap (raised l e j) (drop-cons rs i none h)
         ∙ ap₂ (λ (t s : Bool). cond t (record { move = r.move; height = cond s (suc l) r.height } ∷ raised l e (suc j) rest) (r ∷ raised l e j rest)) test starts
 
-    left-low : heightAt rs i < l → left (i + 1) j rs ≡ left i j rs
-    left-low low = left-pass j (raised-step false (startsGroup e j) (lt-leb l (heightAt rs i) low) refl)
+    left-low : height_at rs i < l → left (i + 1) j rs ≡ left i j rs
+    left-low low = left-pass j (raised-step false (starts_group e j) (lt-leb l (height_at rs i) low) refl)
 
-    module _ (high : l ≤ heightAt rs i) where
-      left-same : startsGroup e j ≡ false → left (i + 1) (j + 1) rs ≡ left i j rs
-      unfolding move_at heightAt
+    module _ (high : l ≤ height_at rs i) where
+      left-same : starts_group e j ≡ false → left (i + 1) (j + 1) rs ≡ left i j rs
+      unfolding move_at height_at
       left-same starts =
-          ap (λ (k : ℕ). left (i + 1) k rs) (add-one j) ∙ left-pass (suc j) (raised-step true false (le-leb l (heightAt rs i) high) starts)
+          ap (λ (k : ℕ). left (i + 1) k rs) (add-one j) ∙ left-pass (suc j) (raised-step true false (le-leb l (height_at rs i) high) starts)
 
-      left-raised : startsGroup e j ≡ true → left (i + 1) (j + 1) (places.setHeight i (l + 1) rs) ≡ left i j rs
-      unfolding places.setHeight
+      left-raised : starts_group e j ≡ true → left (i + 1) (j + 1) (places.set_height i (l + 1) rs) ≡ left i j rs
+      unfolding places.set_height
       left-raised starts =
-          ap₂ (λ (k v : ℕ). left (i + 1) k (places.setHeight i v rs)) (add-one j) (add-one l)
-          ∙ left-turn (suc j) (record { move = move_at rs i; height = suc l }) (raised-step true true (le-leb l (heightAt rs i) high) starts)
+          ap₂ (λ (k v : ℕ). left (i + 1) k (places.set_height i v rs)) (add-one j) (add-one l)
+          ∙ left-turn (suc j) (record { move = move_at rs i; height = suc l }) (raised-step true true (le-leb l (height_at rs i) high) starts)
 
   left_end : (i j : ℕ) (rs : List Placed) → i ≡ length rs → left i j rs ≡ rs
   unfolding raised
@@ -82,7 +82,7 @@ module _ (l e : ℕ) where
 -- The first i rows are raised, j of them entries of the level; finishing the others gives the whole.
 pub record Raising (c n l e i j : ℕ) (m m' : List ℕ) : Type 0 where
   pub frame : RowsOnly c m m'
-  pub line : (d : ℕ) → left l e i j (lineFrom c d n m') ≡ raised l e 0 (lineFrom c d n m)
+  pub line : (d : ℕ) → left l e i j (line_from c d n m') ≡ raised l e 0 (line_from c d n m)
 
 pub raising-none : (c n l e : ℕ) (m : List ℕ) → Raising c n l e 0 0 m m
 raising-none c n l e m = record { frame = frame-refl m; line = λ d. refl }
@@ -94,44 +94,44 @@ raising-at {c} {n} {l} {e} {i} {j} {j'} {m} {m'} {m''} f g made =
 module _ (c n l e i j : ℕ) (m m' : List ℕ) (few : n ≤ c) (made : Raising c n l e i j m m') where
   pub raising-all : i ≡ n → Raised c n l e m m'
   raising-all end =
-      record { line = λ d. sym (left_end l e i j (lineFrom c d n m') (end ∙ sym (length-line c d n m'))) ∙ made.line d; frame = made.frame }
+      record { line = λ d. sym (left_end l e i j (line_from c d n m') (end ∙ sym (length-line c d n m'))) ∙ made.line d; frame = made.frame }
 
   module _ (h : i < n) where
-    within : (d : ℕ) → i < length (lineFrom c d n m')
+    within : (d : ℕ) → i < length (line_from c d n m')
     within d = omega (arith, length-line c d n m')
 
-    pub raising-low : heightIn c m' i < l → Raising c n l e (i + 1) j m m'
+    pub raising-low : height_in c m' i < l → Raising c n l e (i + 1) j m m'
     raising-low low =
         record {
           frame = made.frame;
-          line = λ d. left-low l e i j (lineFrom c d n m') (within d) (omega (arith, heightAt-line c d n m' i h)) ∙ made.line d;
+          line = λ d. left-low l e i j (line_from c d n m') (within d) (omega (arith, height_at-line c d n m' i h)) ∙ made.line d;
         }
 
-    module _ (high : l ≤ heightIn c m' i) where
-      pub raising-same : startsGroup e j ≡ false → Raising c n l e (i + 1) (j + 1) m m'
+    module _ (high : l ≤ height_in c m' i) where
+      pub raising-same : starts_group e j ≡ false → Raising c n l e (i + 1) (j + 1) m m'
       raising-same starts =
           record {
             frame = made.frame;
-            line = λ d. left-same l e i j (lineFrom c d n m') (within d) (omega (arith, heightAt-line c d n m' i h)) starts ∙ made.line d;
+            line = λ d. left-same l e i j (line_from c d n m') (within d) (omega (arith, height_at-line c d n m' i h)) starts ∙ made.line d;
           }
 
-      pub raising-more : Room c m' → startsGroup e j ≡ true → Raising c n l e (i + 1) (j + 1) m (setHeight c i (l + 1) m')
+      pub raising-more : Room c m' → starts_group e j ≡ true → Raising c n l e (i + 1) (j + 1) m (set_height c i (l + 1) m')
       raising-more room starts =
           record {
-            frame = frame-trans made.frame (setHeight-rows c i m' (omega arith) (l + 1));
+            frame = frame-trans made.frame (set_height-rows c i m' (omega arith) (l + 1));
             line = λ d.
-                ap (left l e (i + 1) (j + 1)) (line-setHeight c d n m' i (l + 1) room h few)
-                ∙ left-raised l e i j (lineFrom c d n m') (within d) (omega (arith, heightAt-line c d n m' i h)) starts
+                ap (left l e (i + 1) (j + 1)) (line-set_height c d n m' i (l + 1) room h few)
+                ∙ left-raised l e i j (line_from c d n m') (within d) (omega (arith, height_at-line c d n m' i h)) starts
                 ∙ made.line d;
           }
 
 -- ---- level by level
 
 module _ (f l e : ℕ) (rs : List Placed) where
-  all-step : (t : Bool) → leb e 8 ≡ t → raisedAll (suc f) l e rs ≡ elim t as (λ x. List Placed) [ false ↦ raisedAll f (suc l) (groupCount e) (raised l e 0 rs) | true ↦ raised l e 0 rs ]
-  unfolding raisedAll
+  all-step : (t : Bool) → leb e 8 ≡ t → raised_all (suc f) l e rs ≡ elim t as (λ x. List Placed) [ false ↦ raised_all f (suc l) (group_count e) (raised l e 0 rs) | true ↦ raised l e 0 rs ]
+  unfolding raised_all
   all-step t test =
-      ap (λ (b : Bool). elim b as (λ x. List Placed) [ false ↦ raisedAll f (suc l) (groupCount e) (raised l e 0 rs) | true ↦ raised l e 0 rs ]) test
+      ap (λ (b : Bool). elim b as (λ x. List Placed) [ false ↦ raised_all f (suc l) (group_count e) (raised l e 0 rs) | true ↦ raised l e 0 rs ]) test
 
 -- The levels below l are made, e entries are left on it, and making the others gives the whole.
 pub record Levels (c n l e : ℕ) (m m' : List ℕ) : Type 0 where
@@ -139,7 +139,7 @@ pub record Levels (c n l e : ℕ) (m m' : List ℕ) : Type 0 where
   pub left : e + l ≤ n
   pub small : e * 2 ^ l ≤ n
   pub frame : RowsOnly c m m'
-  pub line : (d : ℕ) → raisedAll (n - l) l e (lineFrom c d n m') ≡ raisedAll n 0 n (lineFrom c d n m)
+  pub line : (d : ℕ) → raised_all (n - l) l e (line_from c d n m') ≡ raised_all n 0 n (line_from c d n m)
 
 pub levels-none : (c n : ℕ) (m : List ℕ) → 0 < n → Levels c n 0 n m m
 levels-none c n m some =
@@ -148,7 +148,7 @@ levels-none c n m some =
       left = omega arith;
       small = omega arith;
       frame = frame-refl m;
-      line = λ d. ap (λ (f : ℕ). raisedAll f 0 n (lineFrom c d n m)) (sub-zero n);
+      line = λ d. ap (λ (f : ℕ). raised_all f 0 n (line_from c d n m)) (sub-zero n);
     }
 
 module _ (c n l e : ℕ) (m m' m'' : List ℕ) (made : Levels c n l e m m') (next : Raised c n l e m' m'') where
@@ -156,7 +156,7 @@ module _ (c n l e : ℕ) (m m' m'' : List ℕ) (made : Levels c n l e m m') (nex
   fuel = omega (arith, made.some, made.left)
 
   pub levels-more : 8 < e → Levels c n (l + 1) ((e + 7) / 8) m m''
-  unfolding groupCount
+  unfolding group_count
   levels-more many =
       record {
         some = omega arith;
@@ -164,10 +164,10 @@ module _ (c n l e : ℕ) (m m' m'' : List ℕ) (made : Levels c n l e m m') (nex
         small = halves;
         frame = frame-trans made.frame next.frame;
         line = λ d.
-            ap (raisedAll (n - (l + 1)) (l + 1) (groupCount e)) (next.line d)
-            ∙ ap (λ (k : ℕ). raisedAll (n - (l + 1)) k (groupCount e) (raised l e 0 (lineFrom c d n m'))) (add-one l)
-            ∙ sym (all-step (n - (l + 1)) l e (lineFrom c d n m') false (lt-leb e 8 many))
-            ∙ ap (λ (f : ℕ). raisedAll f l e (lineFrom c d n m')) (sym fuel)
+            ap (raised_all (n - (l + 1)) (l + 1) (group_count e)) (next.line d)
+            ∙ ap (λ (k : ℕ). raised_all (n - (l + 1)) k (group_count e) (raised l e 0 (line_from c d n m'))) (add-one l)
+            ∙ sym (all-step (n - (l + 1)) l e (line_from c d n m') false (lt-leb e 8 many))
+            ∙ ap (λ (f : ℕ). raised_all f l e (line_from c d n m')) (sym fuel)
             ∙ made.line d;
       }
     where
@@ -183,8 +183,8 @@ module _ (c n l e : ℕ) (m m' m'' : List ℕ) (made : Levels c n l e m m') (nex
       record {
         line = λ d.
             next.line d
-            ∙ sym (all-step (n - (l + 1)) l e (lineFrom c d n m') true (le-leb e 8 few))
-            ∙ ap (λ (f : ℕ). raisedAll f l e (lineFrom c d n m')) (sym fuel)
+            ∙ sym (all-step (n - (l + 1)) l e (line_from c d n m') true (le-leb e 8 few))
+            ∙ ap (λ (f : ℕ). raised_all f l e (line_from c d n m')) (sym fuel)
             ∙ made.line d;
         frame = frame-trans made.frame next.frame;
       }

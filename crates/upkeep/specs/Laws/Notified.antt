@@ -5,10 +5,10 @@ use mathlib.Core.List.Memᴰ
 use mathlib.Core.List.{List, [], ◌∷◌, ◌++◌, map, map-append, Memᴰ}
 use Rattle.std.proofs.Math.Path.{sym, ap}
 use Rattle.std.proofs.Common.{ap₂, ◌∙◌, subst}
-use Rattle.model.specs.Basics.{Each, select, rising, insertBy}
-use Rattle.model.specs.Moves.{Move, moveBefore}
+use Rattle.model.specs.Basics.{Each, select, rising, insert_by}
+use Rattle.model.specs.Moves.{Move, move_before}
 use Rattle.model.specs.Lists.{hidden, skyline}
-use Rattle.model.specs.Laws.Bool.{byCases, testCases, same_test, and_both, and_left, and_right, not-flip, not_back}
+use Rattle.model.specs.Laws.Bool.{by_cases, test_cases, same_test, and_both, and_left, and_right, not-flip, not_back}
 use Rattle.model.specs.Laws.Basics.{mem-each, select-mem, select-ext, select-select, select-map, select-append}
 use Rattle.model.specs.Laws.Sorting.{StrictOrder, select-insert, insert-append-right, insert-before}
 use Rattle.model.specs.Laws.Skyline.{skyline-mem, mem-skyline}
@@ -47,7 +47,7 @@ module _ (d : ℕ) (f : ℕ → Move) (is : List ℕ) (g : ℕ) (after : List Mo
       same_test (among (f i) (skyline d after)) (not (eqb i g) && not (hidden d after (f i)))
       (λ h. let r = skyline-mem d after (among-mem (f i) (skyline d after) h) in
       and_both (not (eqb i g)) (not (hidden d after (f i)))
-      (byCases (eqb i g) (λ e. absurd (q.away i k e r.0)) (λ e. not-flip (eqb i g) e))
+      (by_cases (eqb i g) (λ e. absurd (q.away i k e r.0)) (λ e. not-flip (eqb i g) e))
       (not-flip (hidden d after (f i)) r.1))
       (λ h. let a = not_back (eqb i g) (and_left (not (eqb i g)) (not (hidden d after (f i))) h) in
       mem-among (mem-skyline d (q.there i k a) (not_back (hidden d after (f i)) (and_right (not (eqb i g)) (not (hidden d after (f i))) h))))
@@ -89,12 +89,12 @@ module _ (d : ℕ) (f : ℕ → Move) (is : List ℕ) (g : ℕ) (after : List Mo
       ∙ enter-order (not (eqb i g) && not (hidden d after (f i))) (listed i))))
 
   -- A coming move enters at its place: those that enter from is₁ stand before it, those from is₂ after it.
-  module _ (P : Move → Type 0) (o : StrictOrder P (moveBefore d)) (x : Move) (px : P x) (rest : List Move)
-      (rests : map f (select (λ i. not (eqb i g)) is) ≡ rest) (es : Each P rest) (r : rising (moveBefore d) rest ≡ true)
-      (comes : after ≡ insertBy (moveBefore d) x rest) (new : among x (skyline d (map f is)) ≡ false)
+  module _ (P : Move → Type 0) (o : StrictOrder P (move_before d)) (x : Move) (px : P x) (rest : List Move)
+      (rests : map f (select (λ i. not (eqb i g)) is) ≡ rest) (es : Each P rest) (r : rising (move_before d) rest ≡ true)
+      (comes : after ≡ insert_by (move_before d) x rest) (new : among x (skyline d (map f is)) ≡ false)
       (is₁ is₂ : List ℕ) (parts : is ≡ is₁ ++ is₂)
-      (low : (i : ℕ) → Memᴰ i is₁ → moveBefore d x (f i) ≡ false)
-      (high : (i : ℕ) → Memᴰ i is₂ → (not (listed i) && stay d f g after i) ≡ true → moveBefore d x (f i) ≡ true) where
+      (low : (i : ℕ) → Memᴰ i is₁ → move_before d x (f i) ≡ false)
+      (high : (i : ℕ) → Memᴰ i is₂ → (not (listed i) && stay d f g after i) ≡ true → move_before d x (f i) ≡ true) where
     abbrev enter : ℕ → Bool
     enter i = not (listed i) && stay d f g after i
 
@@ -110,24 +110,24 @@ module _ (d : ℕ) (f : ℕ → Move) (is : List ℕ) (g : ℕ) (after : List Mo
         ∙ ap (λ (js : List ℕ). map f (select enter js)) parts
         ∙ ap (map f) (select-append enter is₁ is₂) ∙ map-append f (select enter is₁) (select enter is₂)
 
-    coming-in : insertBy (moveBefore d) x (first ++ last) ≡ first ++ (x ∷ last)
+    coming-in : insert_by (move_before d) x (first ++ last) ≡ first ++ (x ∷ last)
     coming-in =
-        insert-append-right (moveBefore d) x first last
-        (mem-each (λ z. moveBefore d x z ≡ false) first (λ z k.
+        insert-append-right (move_before d) x first last
+        (mem-each (λ z. move_before d x z ≡ false) first (λ z k.
         let w = Memᴰ.of_map f (select enter is₁) k in
-        subst (λ (y : Move). moveBefore d x y ≡ false) w.2 (low w.0 (select-mem enter is₁ w.1).0)))
+        subst (λ (y : Move). move_before d x y ≡ false) w.2 (low w.0 (select-mem enter is₁ w.1).0)))
         ∙ ap (λ (ys : List Move). first ++ ys)
-        (insert-before (moveBefore d) x last
-        (mem-each (λ z. moveBefore d x z ≡ true) last (λ z k.
+        (insert-before (move_before d) x last
+        (mem-each (λ z. move_before d x z ≡ true) last (λ z k.
         let w = Memᴰ.of_map f (select enter is₂) k in
         let s = select-mem enter is₂ w.1 in
-        subst (λ (y : Move). moveBefore d x y ≡ true) w.2 (high w.0 s.0 s.1))))
+        subst (λ (y : Move). move_before d x y ≡ true) w.2 (high w.0 s.0 s.1))))
 
     pub entered-coming : gone (skyline d after) (skyline d (map f is)) ≡ first ++ (cond (not (hidden d after x)) (x ∷ []) [] ++ last)
     entered-coming =
         entered-after
         ∙ ap (select enters) comes
-        ∙ select-insert P (moveBefore d) o enters x rest px es r
-        ∙ ap₂ (λ (ys zs : List Move). cond (enters x) ys zs) (ap (insertBy (moveBefore d) x) enter-parts ∙ coming-in) enter-parts
+        ∙ select-insert P (move_before d) o enters x rest px es r
+        ∙ ap₂ (λ (ys zs : List Move). cond (enters x) ys zs) (ap (insert_by (move_before d) x) enter-parts ∙ coming-in) enter-parts
         ∙ ap (λ (t : Bool). cond (not (hidden d after x) && not t) (first ++ (x ∷ last)) (first ++ last)) new
-        ∙ testCases (λ (t : Bool). cond (t && true) (first ++ (x ∷ last)) (first ++ last) ≡ first ++ (cond t (x ∷ []) [] ++ last)) (not (hidden d after x)) (λ _. refl) (λ _. refl)
+        ∙ test_cases (λ (t : Bool). cond (t && true) (first ++ (x ∷ last)) (first ++ last) ≡ first ++ (cond t (x ∷ []) [] ++ last)) (not (hidden d after x)) (λ _. refl) (λ _. refl)

@@ -6,13 +6,13 @@ use Rattle.std.proofs.Math.Path.{sym, ap}
 use Rattle.std.proofs.Common.{◌∙◌, subst, arith, eqb-true, eq-eqb, length-append}
 use Rattle.std.proofs.Math.Dec.{eqb}
 use Rattle.std.proofs.Math.ListN.{length}
-use Rattle.model.specs.Basics.{consIf, any, numbersFrom, has}
+use Rattle.model.specs.Basics.{cons_if, any, numbers_from, has}
 use Rattle.model.specs.Laws.Bool.{or_swap, same_test}
 use Rattle.model.specs.Laws.Basics.{mem-select, select-mem, any_append, any-mem, any-witness}
 use Rattle.model.specs.Laws.Order.{has-map}
 use Rattle.promises.specs.Layout.{number_in}
 use Rattle.numbers.specs.Set.{in_set, With}
-use Rattle.upkeep.specs.Change.{placesIn, Passing}
+use Rattle.upkeep.specs.Change.{places_in, Passing}
 use Rattle.upkeep.specs.Laws.Places.{place-below, below-place, places-few, places-all, places-one, places-none, places-join}
 
 module _ (c : ℕ) (m : List ℕ) (test : ℕ → Bool) where
@@ -40,8 +40,8 @@ module _ (c : ℕ) (m : List ℕ) (test : ℕ → Bool) where
   module _ {ws ws' : List ℕ} {a b k : ℕ} (h : Passing c m test ws a b ws' k) where
     pub passing-join : {ws'' : List ℕ} {e k' : ℕ} → Passing c m test ws' b e ws'' k' → a ≤ b → b ≤ e → (k'' : ℕ) → k'' ≡ k + k' → Passing c m test ws a e ws'' k''
     passing-join {e = e} next l l' k'' f =
-        let first = placesIn a b test in
-        let second = placesIn b e test in
+        let first = places_in a b test in
+        let second = places_in b e test in
         let all = sym (places-join test a b e l l') in
         record {
           numbers = λ j.
@@ -59,10 +59,10 @@ module _ (c : ℕ) (m : List ℕ) (test : ℕ → Bool) where
 
     -- One place more.
     module _ (l : a ≤ b) {ws'' : List ℕ} {k' : ℕ} where
-      one_more : {t : Bool} → test b ≡ t → ((j : ℕ) → in_set ws'' j ≡ (among (consIf t b []) j || in_set ws' j)) → k' ≡ k + length (consIf t b [])
+      one_more : {t : Bool} → test b ≡ t → ((j : ℕ) → in_set ws'' j ≡ (among (cons_if t b []) j || in_set ws' j)) → k' ≡ k + length (cons_if t b [])
           → Passing c m test ws a (b + 1) ws'' k'
       one_more e set f =
-          let one = sym (places-one test b ∙ ap (λ (t : Bool). consIf t b []) e) in
+          let one = sym (places-one test b ∙ ap (λ (t : Bool). cons_if t b []) e) in
           passing-join (record { numbers = λ j. set j ∙ ap (λ (is : List ℕ). among is j || in_set ws' j) one; counts = ap length one }) l (omega arith) k' f
 
       pub passing-takes : test b ≡ true → (number : ℕ) → number ≡ number_in c m b → With ws' number ws'' → k' ≡ k + 1 → Passing c m test ws a (b + 1) ws'' k'
@@ -76,12 +76,12 @@ module _ (c : ℕ) (m : List ℕ) (test : ℕ → Bool) where
   -- Where moves with the number of place i pass only if it does, its number is added exactly if it passes.
   module _ {n : ℕ} {ws ws' : List ℕ} {k : ℕ} (h : Passing c m test ws 0 n ws' k) (i : ℕ) (l : i < n)
       (alike : (j : ℕ) → j < n → number_in c m i ≡ number_in c m j → test j ≡ true → test i ≡ true) where
-    among-at : among (placesIn 0 n test) (number_in c m i) ≡ test i
+    among-at : among (places_in 0 n test) (number_in c m i) ≡ test i
     among-at =
-        has-map (number_in c m) (number_in c m i) (placesIn 0 n test)
-        ∙ same_test (any here (placesIn 0 n test)) (test i)
-        (λ e. let w = any-witness here (placesIn 0 n test) e in
-        let at = select-mem test (numbersFrom 0 n) (subst (Memᴰ w.0) (places-all test n) w.1) in
+        has-map (number_in c m) (number_in c m i) (places_in 0 n test)
+        ∙ same_test (any here (places_in 0 n test)) (test i)
+        (λ e. let w = any-witness here (places_in 0 n test) e in
+        let at = select-mem test (numbers_from 0 n) (subst (Memᴰ w.0) (places-all test n) w.1) in
         alike w.0 (place-below n at.0) (eqb-true (number_in c m i) (number_in c m w.0) w.2) at.1)
         (λ e. any-mem here (subst (Memᴰ i) (sym (places-all test n)) (mem-select test (below-place n i l) e)) (eq-eqb (number_in c m i) (number_in c m i) refl))
       where

@@ -9,20 +9,20 @@ use Rattle.std.proofs.Common.{◌∙◌}
 use Rattle.std.proofs.Math.Dec.{leb, eqb}
 use Rattle.std.proofs.Math.ListN.{length, take, drop}
 use Rattle.std.proofs.lemmas.List.{length-map}
-use Rattle.zorder.specs.Between.{side_of, nearOf, farOf}
+use Rattle.zorder.specs.Between.{side_of, near_of, far_of}
 use Rattle.zorder.specs.Laws.FirstCosts.{side-alike, near-alike, far-alike}
 use Rattle.model.specs.Basics.{any, all, count, first_or, last_or, within, equal}
-use Rattle.model.specs.Moves.{Move, noMove, moveBefore, insert, inZOrder, ordered}
-use Rattle.model.specs.Dominance.{better, dominates, equalCosts}
+use Rattle.model.specs.Moves.{Move, no_move, move_before, insert, in_z_order, ordered}
+use Rattle.model.specs.Dominance.{better, dominates, equal_costs}
 use Rattle.model.specs.Lists.{skyline}
-use Rattle.model.specs.Tree.{Entry, Tree, empty, rooted, movesUnder, moves_of, firstMove, last_move, nodeSide, filled, rootLeast, filledTree, ruled}
-use Rattle.model.specs.Loading.{eights, evened, mended, cut, levels, built, loadTree}
-use Rattle.model.specs.Entering.{earlierInGap, goesInto, childPlace, sidesAt, leastBy, leftPart, split, replaceAt, enterNode, rootOf, enterTree}
-use Rattle.model.specs.Withdrawing.{without, Remainder, keepChild, keepChildren, withdrawNode, settled, enterAll, withdrawTree, costsOn}
-use Rattle.model.specs.Nodes.{Node, node_of, nodesFrom, nodesOf, nearCornerOf, farCornerOf, opens, nodesOpened}
-use Rattle.model.specs.Calls.{onBoard, Change, enter, withdraw, recost}
-use Rattle.model.specs.Opening.{opensFor, withdrawOpens, changeOpens}
-use Rattle.width.specs.Width.{moveWith, changeWith, entryWith, treeWith}
+use Rattle.model.specs.Tree.{Entry, Tree, empty, rooted, moves_under, moves_of, first_move, last_move, node_side, filled, root_least, filled_tree, ruled}
+use Rattle.model.specs.Loading.{eights, evened, mended, cut, levels, built, load_tree}
+use Rattle.model.specs.Entering.{earlier_in_gap, goes_into, child_place, sides_at, least_by, left_part, split, replace_at, enter_node, root_of, enter_tree}
+use Rattle.model.specs.Withdrawing.{without, Remainder, keep_child, keep_children, withdraw_node, settled, enter_all, withdraw_tree, costs_on}
+use Rattle.model.specs.Nodes.{Node, node_of, nodes_from, nodes_of, near_corner_of, far_corner_of, opens, nodes_opened}
+use Rattle.model.specs.Calls.{on_board, Change, enter, withdraw, recost}
+use Rattle.model.specs.Opening.{opens_for, withdraw_opens, change_opens}
+use Rattle.width.specs.Width.{move_with, change_with, entry_with, tree_with}
 use Rattle.model.specs.Laws.Bool.{cond_map}
 use Rattle.model.specs.Laws.Basics.{any-map, select-map, count_map, map-take, map-drop}
 use Rattle.model.specs.Laws.Sorting.{map-insert, map-sort, map-rising}
@@ -54,8 +54,8 @@ module _ {A A' B B' : Type 0} (f : A → A') (k : B → B') (j : A → List B) (
   flat-map (x ∷ xs) = ap₂ ◌++◌ (e x) (flat-map xs) ∙ sym (map-append k (j x) (flat_map j xs))
 
 module _ {A A' : Type 0} (f : A → A') (j : A → List A) (j' : A' → List A') (e : (x : A) → j' (f x) ≡ map f (j x)) where
-  replace-map : (i : ℕ) (xs : List A) → replaceAt i j' (map f xs) ≡ map f (replaceAt i j xs)
-  unfolding replaceAt
+  replace-map : (i : ℕ) (xs : List A) → replace_at i j' (map f xs) ≡ map f (replace_at i j xs)
+  unfolding replace_at
   replace-map i [] = refl
   replace-map zero (x ∷ xs) = ap (λ (ys : List A'). ys ++ map f xs) (e x) ∙ sym (map-append f (j x) xs)
   replace-map (suc i) (x ∷ xs) = ap (λ (ys : List A'). f x ∷ ys) (replace-map i xs)
@@ -97,59 +97,59 @@ module _ {A B : Type 0} (f : A → B) where
 -- ---- loading
 
 module _ (g : List ℕ → List ℕ) where
-  levels-with : (n h : ℕ) (es : List (Entry h)) → levels n h (map (entryWith g h) es) ≡ treeWith g (levels n h es)
-  unfolding levels treeWith entryWith
+  levels-with : (n h : ℕ) (es : List (Entry h)) → levels n h (map (entry_with g h) es) ≡ tree_with g (levels n h es)
+  unfolding levels tree_with entry_with
   levels-with zero h es = refl
   levels-with (suc n) h es =
-      (λ i. elim (leb (length-map es (entryWith g h) i) 8) [ true ↦ rooted h (map (entryWith g h) es) | false ↦ levels n (suc h) (cut (map (entryWith g h) es)) ])
-      ∙ go (leb (length es) 8) (ap (levels n (suc h)) (cut-map (entryWith g h) es) ∙ levels-with n (suc h) (cut es))
+      (λ i. elim (leb (length-map es (entry_with g h) i) 8) [ true ↦ rooted h (map (entry_with g h) es) | false ↦ levels n (suc h) (cut (map (entry_with g h) es)) ])
+      ∙ go (leb (length es) 8) (ap (levels n (suc h)) (cut-map (entry_with g h) es) ∙ levels-with n (suc h) (cut es))
     where
-      go : (b : Bool) → levels n (suc h) (cut (map (entryWith g h) es)) ≡ treeWith g (levels n (suc h) (cut es))
-          → elim b [ true ↦ rooted h (map (entryWith g h) es) | false ↦ levels n (suc h) (cut (map (entryWith g h) es)) ]
-          ≡ treeWith g (elim b [ true ↦ rooted h es | false ↦ levels n (suc h) (cut es) ])
+      go : (b : Bool) → levels n (suc h) (cut (map (entry_with g h) es)) ≡ tree_with g (levels n (suc h) (cut es))
+          → elim b [ true ↦ rooted h (map (entry_with g h) es) | false ↦ levels n (suc h) (cut (map (entry_with g h) es)) ]
+          ≡ tree_with g (elim b [ true ↦ rooted h es | false ↦ levels n (suc h) (cut es) ])
       go true e = refl
       go false e = e
 
-  built-with : (ms : List Move) → built (map (moveWith g) ms) ≡ treeWith g (built ms)
-  unfolding built treeWith entryWith
+  built-with : (ms : List Move) → built (map (move_with g) ms) ≡ tree_with g (built ms)
+  unfolding built tree_with entry_with
   built-with [] = refl
-  built-with (m ∷ ms) = ap (λ (n : ℕ). levels n 0 (map (moveWith g) (m ∷ ms))) (length-map ms (moveWith g)) ∙ levels-with (length ms) 0 (m ∷ ms)
+  built-with (m ∷ ms) = ap (λ (n : ℕ). levels n 0 (map (move_with g) (m ∷ ms))) (length-map ms (move_with g)) ∙ levels-with (length ms) 0 (m ∷ ms)
 
 module _ (d : ℕ) (g : List ℕ → List ℕ) (G : KeepsFirst d g) where
-  pub sorted-with : (ms : List Move) → inZOrder d (map (moveWith g) ms) ≡ map (moveWith g) (inZOrder d ms)
-  unfolding inZOrder
-  sorted-with ms = sym (map-sort (moveWith g) (moveBefore d) (moveBefore d) (λ m n. sym (move-before-with d g G m n)) ms)
+  pub sorted-with : (ms : List Move) → in_z_order d (map (move_with g) ms) ≡ map (move_with g) (in_z_order d ms)
+  unfolding in_z_order
+  sorted-with ms = sym (map-sort (move_with g) (move_before d) (move_before d) (λ m n. sym (move-before-with d g G m n)) ms)
 
-  pub load-with : (ms : List Move) → loadTree d (map (moveWith g) ms) ≡ treeWith g (loadTree d ms)
-  unfolding loadTree
-  load-with ms = ap built (sorted-with ms) ∙ built-with g (inZOrder d ms)
+  pub load-with : (ms : List Move) → load_tree d (map (move_with g) ms) ≡ tree_with g (load_tree d ms)
+  unfolding load_tree
+  load-with ms = ap built (sorted-with ms) ∙ built-with g (in_z_order d ms)
 
   -- ---- the moves under a node
 
-  none-with : moveWith g noMove ≡ noMove
+  none-with : move_with g no_move ≡ no_move
   none-with = λ i. record { number = 0; costs = G.none i }
 
-  moves-with : (h : ℕ) (e : Entry h) → movesUnder h (entryWith g h e) ≡ map (moveWith g) (movesUnder h e)
-  unfolding movesUnder entryWith
+  moves-with : (h : ℕ) (e : Entry h) → moves_under h (entry_with g h e) ≡ map (move_with g) (moves_under h e)
+  unfolding moves_under entry_with
   moves-with zero m = refl
-  moves-with (suc h) es = flat-map (entryWith g h) (moveWith g) (movesUnder h) (movesUnder h) (moves-with h) es
+  moves-with (suc h) es = flat-map (entry_with g h) (move_with g) (moves_under h) (moves_under h) (moves-with h) es
 
-  first-with : (h : ℕ) (e : Entry h) → firstMove h (entryWith g h e) ≡ moveWith g (firstMove h e)
-  unfolding firstMove
-  first-with h e = ap₂ first_or (sym none-with) (moves-with h e) ∙ first-map (moveWith g) noMove (movesUnder h e)
+  first-with : (h : ℕ) (e : Entry h) → first_move h (entry_with g h e) ≡ move_with g (first_move h e)
+  unfolding first_move
+  first-with h e = ap₂ first_or (sym none-with) (moves-with h e) ∙ first-map (move_with g) no_move (moves_under h e)
 
-  last-with : (h : ℕ) (e : Entry h) → last_move h (entryWith g h e) ≡ moveWith g (last_move h e)
+  last-with : (h : ℕ) (e : Entry h) → last_move h (entry_with g h e) ≡ move_with g (last_move h e)
   unfolding last_move
-  last-with h e = ap₂ last_or (sym none-with) (moves-with h e) ∙ last-map (moveWith g) noMove (movesUnder h e)
+  last-with h e = ap₂ last_or (sym none-with) (moves-with h e) ∙ last-map (move_with g) no_move (moves_under h e)
 
   side-with : (m n : Move) → side_of d (g m.costs) (g n.costs) ≡ side_of d m.costs n.costs
   side-with m n = side-alike d (g m.costs) m.costs (g n.costs) n.costs (G.first m.costs) (G.first n.costs)
 
-  node-side-with : (h : ℕ) (es : List (Entry h)) → nodeSide d h (map (entryWith g h) es) ≡ nodeSide d h es
-  unfolding nodeSide entryWith
+  node-side-with : (h : ℕ) (es : List (Entry h)) → node_side d h (map (entry_with g h) es) ≡ node_side d h es
+  unfolding node_side entry_with
   node-side-with h es =
       ap₂ (λ (m n : Move). side_of d m.costs n.costs) (first-with (suc h) es) (last-with (suc h) es)
-      ∙ side-with (firstMove (suc h) es) (last_move (suc h) es)
+      ∙ side-with (first_move (suc h) es) (last_move (suc h) es)
 
   first-dominates : (p q : List ℕ) → dominates d (g p) q ≡ dominates d p q
   unfolding dominates
@@ -157,41 +157,41 @@ module _ (d : ℕ) (g : List ℕ → List ℕ) (G : KeepsFirst d g) where
 
   -- ---- entering
 
-  gap-with : (h : ℕ) (x : Move) (e f : Entry h) → earlierInGap d h (moveWith g x) (entryWith g h e) (entryWith g h f) ≡ earlierInGap d h x e f
-  unfolding earlierInGap
+  gap-with : (h : ℕ) (x : Move) (e f : Entry h) → earlier_in_gap d h (move_with g x) (entry_with g h e) (entry_with g h f) ≡ earlier_in_gap d h x e f
+  unfolding earlier_in_gap
   gap-with h x e f =
       ap₂ leb
-      (ap (λ (m : Move). side_of d m.costs (g x.costs)) (first-with h e) ∙ side-with (firstMove h e) x)
+      (ap (λ (m : Move). side_of d m.costs (g x.costs)) (first-with h e) ∙ side-with (first_move h e) x)
       (ap (λ (m : Move). side_of d (g x.costs) m.costs) (last-with h f) ∙ side-with x (last_move h f))
 
-  goes_with : (h : ℕ) (x : Move) (e f : Entry h) → goesInto d h (moveWith g x) (entryWith g h e) (entryWith g h f) ≡ goesInto d h x e f
-  unfolding goesInto
+  goes_with : (h : ℕ) (x : Move) (e f : Entry h) → goes_into d h (move_with g x) (entry_with g h e) (entry_with g h f) ≡ goes_into d h x e f
+  unfolding goes_into
   goes_with h x e f = λ i. cond (before i) (cond (after i) (gap-with h x e f i) true) false
     where
-      before : moveBefore d (moveWith g x) (firstMove h (entryWith g h f)) ≡ moveBefore d x (firstMove h f)
-      before = ap (moveBefore d (moveWith g x)) (first-with h f) ∙ move-before-with d g G x (firstMove h f)
+      before : move_before d (move_with g x) (first_move h (entry_with g h f)) ≡ move_before d x (first_move h f)
+      before = ap (move_before d (move_with g x)) (first-with h f) ∙ move-before-with d g G x (first_move h f)
 
-      after : moveBefore d (last_move h (entryWith g h e)) (moveWith g x) ≡ moveBefore d (last_move h e) x
-      after = ap (λ (m : Move). moveBefore d m (moveWith g x)) (last-with h e) ∙ move-before-with d g G (last_move h e) x
+      after : move_before d (last_move h (entry_with g h e)) (move_with g x) ≡ move_before d (last_move h e) x
+      after = ap (λ (m : Move). move_before d m (move_with g x)) (last-with h e) ∙ move-before-with d g G (last_move h e) x
 
-  child-with : (h : ℕ) (x : Move) (es : List (Entry h)) → childPlace d h (moveWith g x) (map (entryWith g h) es) ≡ childPlace d h x es
-  unfolding childPlace
+  child-with : (h : ℕ) (x : Move) (es : List (Entry h)) → child_place d h (move_with g x) (map (entry_with g h) es) ≡ child_place d h x es
+  unfolding child_place
   child-with h x [] = refl
   child-with h x (e ∷ []) = refl
   child-with h x (e ∷ f ∷ fs) = ap₂ (λ (b : Bool) (n : ℕ). cond b 0 (suc n)) (goes_with h x e f) (child-with h x (f ∷ fs))
 
-  sides-with : (h : ℕ) (es : List (Entry h)) (k : ℕ) → sidesAt d h (map (entryWith g h) es) k ≡ sidesAt d h es k
-  unfolding sidesAt
+  sides-with : (h : ℕ) (es : List (Entry h)) (k : ℕ) → sides_at d h (map (entry_with g h) es) k ≡ sides_at d h es k
+  unfolding sides_at
   sides-with h es k =
       ap₂ ◌+◌
-      (ap (nodeSide d h) (sym (map-take (entryWith g h) k es)) ∙ node-side-with h (take k es))
-      (ap (nodeSide d h) (sym (map-drop (entryWith g h) k es)) ∙ node-side-with h (drop k es))
+      (ap (node_side d h) (sym (map-take (entry_with g h) k es)) ∙ node-side-with h (take k es))
+      (ap (node_side d h) (sym (map-drop (entry_with g h) k es)) ∙ node-side-with h (drop k es))
 
-  left-with : (h : ℕ) (es : List (Entry h)) → leftPart d h (map (entryWith g h) es) ≡ leftPart d h es
-  unfolding leftPart
-  left-with h es = λ i. leastBy (λ k. sides-with h es k i) 3 (4 ∷ 5 ∷ 6 ∷ [])
+  left-with : (h : ℕ) (es : List (Entry h)) → left_part d h (map (entry_with g h) es) ≡ left_part d h es
+  unfolding left_part
+  left-with h es = λ i. least_by (λ k. sides-with h es k i) 3 (4 ∷ 5 ∷ 6 ∷ [])
 
-  split-with : (h : ℕ) (es : List (Entry h)) → split d h (map (entryWith g h) es) ≡ map (map (entryWith g h)) (split d h es)
+  split-with : (h : ℕ) (es : List (Entry h)) → split d h (map (entry_with g h) es) ≡ map (map (entry_with g h)) (split d h es)
   unfolding split
   split-with h es =
       (λ i. cond (ltb 8 (length-map es e i)) (take (left-with h es i) (map e es) ∷ drop (left-with h es i) (map e es) ∷ []) (map e es ∷ []))
@@ -199,188 +199,188 @@ module _ (d : ℕ) (g : List ℕ → List ℕ) (G : KeepsFirst d g) where
       ∙ sym (cond_map (map (map e)) (ltb 8 (length es)) (take k es ∷ drop k es ∷ []) (es ∷ []))
     where
       e : Entry h → Entry h
-      e = entryWith g h
+      e = entry_with g h
 
       k : ℕ
-      k = leftPart d h es
+      k = left_part d h es
 
-  node-with : (h : ℕ) (x : Move) (es : List (Entry h)) → enterNode d h (moveWith g x) (map (entryWith g h) es) ≡ map (entryWith g h) (enterNode d h x es)
-  unfolding enterNode entryWith insert
-  node-with zero x ms = sym (map-insert (moveWith g) (moveBefore d) (moveBefore d) (λ m n. sym (move-before-with d g G m n)) x ms)
+  node-with : (h : ℕ) (x : Move) (es : List (Entry h)) → enter_node d h (move_with g x) (map (entry_with g h) es) ≡ map (entry_with g h) (enter_node d h x es)
+  unfolding enter_node entry_with insert
+  node-with zero x ms = sym (map-insert (move_with g) (move_before d) (move_before d) (λ m n. sym (move-before-with d g G m n)) x ms)
   node-with (suc h) x es =
-      ap (λ (n : ℕ). replaceAt n (λ c. split d h (enterNode d h (moveWith g x) c)) (map (entryWith g (suc h)) es)) (child-with (suc h) x es)
-      ∙ replace-map (entryWith g (suc h)) (λ c. split d h (enterNode d h x c)) (λ c. split d h (enterNode d h (moveWith g x) c))
-      (λ c. ap (split d h) (node-with h x c) ∙ split-with h (enterNode d h x c))
-      (childPlace d (suc h) x es)
+      ap (λ (n : ℕ). replace_at n (λ c. split d h (enter_node d h (move_with g x) c)) (map (entry_with g (suc h)) es)) (child-with (suc h) x es)
+      ∙ replace-map (entry_with g (suc h)) (λ c. split d h (enter_node d h x c)) (λ c. split d h (enter_node d h (move_with g x) c))
+      (λ c. ap (split d h) (node-with h x c) ∙ split-with h (enter_node d h x c))
+      (child_place d (suc h) x es)
       es
 
-  root_with : (h : ℕ) (ess : List (List (Entry h))) → rootOf h (map (map (entryWith g h)) ess) ≡ treeWith g (rootOf h ess)
-  unfolding rootOf treeWith entryWith
+  root_with : (h : ℕ) (ess : List (List (Entry h))) → root_of h (map (map (entry_with g h)) ess) ≡ tree_with g (root_of h ess)
+  unfolding root_of tree_with entry_with
   root_with h [] = refl
   root_with h (es ∷ []) = refl
   root_with h (es ∷ fs ∷ rest) = refl
 
-  pub enter-with : (x : Move) (t : Tree) → enterTree d (moveWith g x) (treeWith g t) ≡ treeWith g (enterTree d x t)
-  unfolding enterTree treeWith entryWith
+  pub enter-with : (x : Move) (t : Tree) → enter_tree d (move_with g x) (tree_with g t) ≡ tree_with g (enter_tree d x t)
+  unfolding enter_tree tree_with entry_with
   enter-with x empty = refl
-  enter-with x (rooted h es) = ap (λ (fs : List (Entry h)). rootOf h (split d h fs)) (node-with h x es) ∙ ap (rootOf h) (split-with h (enterNode d h x es)) ∙ root_with h (split d h (enterNode d h x es))
+  enter-with x (rooted h es) = ap (λ (fs : List (Entry h)). root_of h (split d h fs)) (node-with h x es) ∙ ap (root_of h) (split-with h (enter_node d h x es)) ∙ root_with h (split d h (enter_node d h x es))
 
   -- ---- withdrawing
 
-  pub without-with : (n : ℕ) (ms : List Move) → without n (map (moveWith g) ms) ≡ map (moveWith g) (without n ms)
+  pub without-with : (n : ℕ) (ms : List Move) → without n (map (move_with g) ms) ≡ map (move_with g) (without n ms)
   unfolding without
-  without-with n ms = select-map (λ m. not (eqb m.number n)) (moveWith g) ms
+  without-with n ms = select-map (λ m. not (eqb m.number n)) (move_with g) ms
 
-  pub costs-on-with : (n : ℕ) (ms : List Move) → costsOn n (map (moveWith g) ms) ≡ g (costsOn n ms)
-  unfolding costsOn
+  pub costs-on-with : (n : ℕ) (ms : List Move) → costs_on n (map (move_with g) ms) ≡ g (costs_on n ms)
+  unfolding costs_on
   costs-on-with n [] = sym G.none
-  costs-on-with n (m ∷ ms) = ap (cond (eqb m.number n) (g m.costs)) (costs-on-with n ms) ∙ sym (cond_map g (eqb m.number n) m.costs (costsOn n ms))
+  costs-on-with n (m ∷ ms) = ap (cond (eqb m.number n) (g m.costs)) (costs-on-with n ms) ∙ sym (cond_map g (eqb m.number n) m.costs (costs_on n ms))
 
-  pub on-board-with : (n : ℕ) (ms : List Move) → onBoard n (map (moveWith g) ms) ≡ onBoard n ms
-  unfolding onBoard
-  on-board-with n ms = any-map (λ m. eqb m.number n) (moveWith g) ms
+  pub on-board-with : (n : ℕ) (ms : List Move) → on_board n (map (move_with g) ms) ≡ on_board n ms
+  unfolding on_board
+  on-board-with n ms = any-map (λ m. eqb m.number n) (move_with g) ms
 
-  abbrev remainderWith : (h : ℕ) → Remainder h → Remainder h
-  remainderWith h r = record { entries = map (entryWith g h) r.entries; moves = map (moveWith g) r.moves }
+  abbrev remainder_with : (h : ℕ) → Remainder h → Remainder h
+  remainder_with h r = record { entries = map (entry_with g h) r.entries; moves = map (move_with g) r.moves }
 
   keep-child-with : (h : ℕ) (c : Remainder h) (rest : Remainder (suc h))
-      → keepChild h (remainderWith h c) (remainderWith (suc h) rest) ≡ remainderWith (suc h) (keepChild h c rest)
-  unfolding keepChild entryWith
+      → keep_child h (remainder_with h c) (remainder_with (suc h) rest) ≡ remainder_with (suc h) (keep_child h c rest)
+  unfolding keep_child entry_with
   keep-child-with h c rest =
-      (λ i. cond (ltb (length-map c.entries (entryWith g h) i) 3)
-      (record { entries = map (entryWith g (suc h)) rest.entries; moves = gone i })
-      (record { entries = map (entryWith g h) c.entries ∷ map (entryWith g (suc h)) rest.entries; moves = sym (map-append (moveWith g) c.moves rest.moves) i }))
-      ∙ sym (cond_map (remainderWith (suc h)) (ltb (length c.entries) 3) _ _)
+      (λ i. cond (ltb (length-map c.entries (entry_with g h) i) 3)
+      (record { entries = map (entry_with g (suc h)) rest.entries; moves = gone i })
+      (record { entries = map (entry_with g h) c.entries ∷ map (entry_with g (suc h)) rest.entries; moves = sym (map-append (move_with g) c.moves rest.moves) i }))
+      ∙ sym (cond_map (remainder_with (suc h)) (ltb (length c.entries) 3) _ _)
     where
-      gone : (movesUnder (suc h) (map (entryWith g h) c.entries) ++ map (moveWith g) c.moves ++ map (moveWith g) rest.moves)
-          ≡ map (moveWith g) (movesUnder (suc h) c.entries ++ c.moves ++ rest.moves)
+      gone : (moves_under (suc h) (map (entry_with g h) c.entries) ++ map (move_with g) c.moves ++ map (move_with g) rest.moves)
+          ≡ map (move_with g) (moves_under (suc h) c.entries ++ c.moves ++ rest.moves)
       gone =
-          ap (λ (ms : List Move). ms ++ map (moveWith g) c.moves ++ map (moveWith g) rest.moves) (moves-with (suc h) c.entries)
-          ∙ ap (λ (ms : List Move). ms ++ map (moveWith g) rest.moves) (sym (map-append (moveWith g) (movesUnder (suc h) c.entries) c.moves))
-          ∙ sym (map-append (moveWith g) (movesUnder (suc h) c.entries ++ c.moves) rest.moves)
+          ap (λ (ms : List Move). ms ++ map (move_with g) c.moves ++ map (move_with g) rest.moves) (moves-with (suc h) c.entries)
+          ∙ ap (λ (ms : List Move). ms ++ map (move_with g) rest.moves) (sym (map-append (move_with g) (moves_under (suc h) c.entries) c.moves))
+          ∙ sym (map-append (move_with g) (moves_under (suc h) c.entries ++ c.moves) rest.moves)
 
-  module _ (h : ℕ) (f : List (Entry h) → Remainder h) (e : (c : List (Entry h)) → f (map (entryWith g h) c) ≡ remainderWith h (f c)) where
-    keep-children-with : (cs : List (List (Entry h))) → keepChildren h f (map (entryWith g (suc h)) cs) ≡ remainderWith (suc h) (keepChildren h f cs)
-    unfolding keepChildren entryWith
+  module _ (h : ℕ) (f : List (Entry h) → Remainder h) (e : (c : List (Entry h)) → f (map (entry_with g h) c) ≡ remainder_with h (f c)) where
+    keep-children-with : (cs : List (List (Entry h))) → keep_children h f (map (entry_with g (suc h)) cs) ≡ remainder_with (suc h) (keep_children h f cs)
+    unfolding keep_children entry_with
     keep-children-with [] = refl
-    keep-children-with (c ∷ cs) = ap₂ (keepChild h) (e c) (keep-children-with cs) ∙ keep-child-with h (f c) (keepChildren h f cs)
+    keep-children-with (c ∷ cs) = ap₂ (keep_child h) (e c) (keep-children-with cs) ∙ keep-child-with h (f c) (keep_children h f cs)
 
-  withdraw-node-with : (n h : ℕ) (es : List (Entry h)) → withdrawNode n h (map (entryWith g h) es) ≡ remainderWith h (withdrawNode n h es)
-  unfolding withdrawNode entryWith
+  withdraw-node-with : (n h : ℕ) (es : List (Entry h)) → withdraw_node n h (map (entry_with g h) es) ≡ remainder_with h (withdraw_node n h es)
+  unfolding withdraw_node entry_with
   withdraw-node-with n zero ms = ap (λ (es : List Move). record { entries = es; moves = [] }) (without-with n ms)
-  withdraw-node-with n (suc h) es = keep-children-with h (withdrawNode n h) (withdraw-node-with n h) es
+  withdraw-node-with n (suc h) es = keep-children-with h (withdraw_node n h) (withdraw-node-with n h) es
 
-  settled-with : (h : ℕ) (es : List (Entry h)) → settled h (map (entryWith g h) es) ≡ treeWith g (settled h es)
-  unfolding settled treeWith entryWith
+  settled-with : (h : ℕ) (es : List (Entry h)) → settled h (map (entry_with g h) es) ≡ tree_with g (settled h es)
+  unfolding settled tree_with entry_with
   settled-with zero [] = refl
   settled-with zero (m ∷ ms) = refl
   settled-with (suc h) [] = refl
   settled-with (suc h) (c ∷ []) = settled-with h c
   settled-with (suc h) (c ∷ e ∷ es) = refl
 
-  enter-all-with : (ms : List Move) (t : Tree) → enterAll d (map (moveWith g) ms) (treeWith g t) ≡ treeWith g (enterAll d ms t)
-  unfolding enterAll
+  enter-all-with : (ms : List Move) (t : Tree) → enter_all d (map (move_with g) ms) (tree_with g t) ≡ tree_with g (enter_all d ms t)
+  unfolding enter_all
   enter-all-with [] t = refl
-  enter-all-with (m ∷ ms) t = ap (enterAll d (map (moveWith g) ms)) (enter-with m t) ∙ enter-all-with ms (enterTree d m t)
+  enter-all-with (m ∷ ms) t = ap (enter_all d (map (move_with g) ms)) (enter-with m t) ∙ enter-all-with ms (enter_tree d m t)
 
-  pub withdraw-with : (n : ℕ) (t : Tree) → withdrawTree d n (treeWith g t) ≡ treeWith g (withdrawTree d n t)
-  unfolding withdrawTree treeWith
+  pub withdraw-with : (n : ℕ) (t : Tree) → withdraw_tree d n (tree_with g t) ≡ tree_with g (withdraw_tree d n t)
+  unfolding withdraw_tree tree_with
   withdraw-with n empty = refl
   withdraw-with n (rooted h es) =
-      ap (λ (r : Remainder h). enterAll d (inZOrder d r.moves) (settled h r.entries)) (withdraw-node-with n h es)
-      ∙ ap₂ (enterAll d) (sorted-with r.moves) (settled-with h r.entries)
-      ∙ enter-all-with (inZOrder d r.moves) (settled h r.entries)
+      ap (λ (r : Remainder h). enter_all d (in_z_order d r.moves) (settled h r.entries)) (withdraw-node-with n h es)
+      ∙ ap₂ (enter_all d) (sorted-with r.moves) (settled-with h r.entries)
+      ∙ enter-all-with (in_z_order d r.moves) (settled h r.entries)
     where
       r : Remainder h
-      r = withdrawNode n h es
+      r = withdraw_node n h es
 
   -- ---- the rules, and the nodes that lists and withdrawals open
 
-  pub moves-of-with : (t : Tree) → moves_of (treeWith g t) ≡ map (moveWith g) (moves_of t)
-  unfolding moves_of treeWith entryWith
+  pub moves-of-with : (t : Tree) → moves_of (tree_with g t) ≡ map (move_with g) (moves_of t)
+  unfolding moves_of tree_with entry_with
   moves-of-with empty = refl
   moves-of-with (rooted h es) = moves-with (suc h) es
 
-  filled-with : (h : ℕ) (e : Entry h) → filled h (entryWith g h e) ≡ filled h e
-  unfolding filled entryWith
+  filled-with : (h : ℕ) (e : Entry h) → filled h (entry_with g h e) ≡ filled h e
+  unfolding filled entry_with
   filled-with zero m = refl
-  filled-with (suc h) es = ap₂ (λ (n : ℕ) (b : Bool). within 3 8 n && b) (length-map es (entryWith g h)) (all_map (entryWith g h) (filled h) (filled h) (filled-with h) es)
+  filled-with (suc h) es = ap₂ (λ (n : ℕ) (b : Bool). within 3 8 n && b) (length-map es (entry_with g h)) (all_map (entry_with g h) (filled h) (filled h) (filled-with h) es)
 
-  pub ruled-with : (t : Tree) → ruled d (treeWith g t) ≡ ruled d t
-  unfolding ruled filledTree treeWith ordered
+  pub ruled-with : (t : Tree) → ruled d (tree_with g t) ≡ ruled d t
+  unfolding ruled filled_tree tree_with ordered
   ruled-with empty = refl
   ruled-with (rooted h es) =
       ap₂ ◌&&◌
-      (ap₂ (λ (n : ℕ) (b : Bool). within (rootLeast h) 8 n && b) (length-map es (entryWith g h)) (all_map (entryWith g h) (filled h) (filled h) (filled-with h) es))
-      (ap (ordered d) (moves-of-with (rooted h es)) ∙ sym (map-rising (moveWith g) (moveBefore d) (moveBefore d) (λ m n. sym (move-before-with d g G m n)) (moves_of (rooted h es))))
+      (ap₂ (λ (n : ℕ) (b : Bool). within (root_least h) 8 n && b) (length-map es (entry_with g h)) (all_map (entry_with g h) (filled h) (filled h) (filled-with h) es))
+      (ap (ordered d) (moves-of-with (rooted h es)) ∙ sym (map-rising (move_with g) (move_before d) (move_before d) (λ m n. sym (move-before-with d g G m n)) (moves_of (rooted h es))))
 
-  abbrev nodeWith : Node → Node
-  nodeWith n = record { first = moveWith g n.first; last = moveWith g n.last; under = map (moveWith g) n.under }
+  abbrev node_with : Node → Node
+  node_with n = record { first = move_with g n.first; last = move_with g n.last; under = map (move_with g) n.under }
 
-  node-of-with : (ms : List Move) → node_of (map (moveWith g) ms) ≡ nodeWith (node_of ms)
+  node-of-with : (ms : List Move) → node_of (map (move_with g) ms) ≡ node_with (node_of ms)
   unfolding node_of
   node-of-with ms =
       λ i. record {
-        first = (ap (λ (m : Move). first_or m (map (moveWith g) ms)) (sym none-with) ∙ first-map (moveWith g) noMove ms) i;
-        last = (ap (λ (m : Move). last_or m (map (moveWith g) ms)) (sym none-with) ∙ last-map (moveWith g) noMove ms) i;
-        under = map (moveWith g) ms;
+        first = (ap (λ (m : Move). first_or m (map (move_with g) ms)) (sym none-with) ∙ first-map (move_with g) no_move ms) i;
+        last = (ap (λ (m : Move). last_or m (map (move_with g) ms)) (sym none-with) ∙ last-map (move_with g) no_move ms) i;
+        under = map (move_with g) ms;
       }
 
-  nodes-from-with : (h : ℕ) (es : List (Entry h)) → nodesFrom h (map (entryWith g h) es) ≡ map nodeWith (nodesFrom h es)
-  unfolding nodesFrom entryWith
-  nodes-from-with zero ms = ap (λ (n : Node). n ∷ []) (ap node_of (moves-with 1 ms) ∙ node-of-with (movesUnder 1 ms))
+  nodes-from-with : (h : ℕ) (es : List (Entry h)) → nodes_from h (map (entry_with g h) es) ≡ map node_with (nodes_from h es)
+  unfolding nodes_from entry_with
+  nodes-from-with zero ms = ap (λ (n : Node). n ∷ []) (ap node_of (moves-with 1 ms) ∙ node-of-with (moves_under 1 ms))
   nodes-from-with (suc h) es =
       ap₂ ◌∷◌
-      (ap node_of (moves-with (suc (suc h)) es) ∙ node-of-with (movesUnder (suc (suc h)) es))
-      (flat-map (entryWith g (suc h)) nodeWith (nodesFrom h) (nodesFrom h) (nodes-from-with h) es)
+      (ap node_of (moves-with (suc (suc h)) es) ∙ node-of-with (moves_under (suc (suc h)) es))
+      (flat-map (entry_with g (suc h)) node_with (nodes_from h) (nodes_from h) (nodes-from-with h) es)
 
-  nodes-with : (t : Tree) → nodesOf (treeWith g t) ≡ map nodeWith (nodesOf t)
-  unfolding nodesOf treeWith
+  nodes-with : (t : Tree) → nodes_of (tree_with g t) ≡ map node_with (nodes_of t)
+  unfolding nodes_of tree_with
   nodes-with empty = refl
   nodes-with (rooted h es) = nodes-from-with h es
 
-  opens-with : (ms : List Move) (n : Node) → opens d (map (moveWith g) ms) (nodeWith n) ≡ opens d ms n
-  unfolding opens nearCornerOf
-  opens-with ms n = ap not (any-map (λ m. dominates d m.costs (nearOf d (g n.first.costs) (g n.last.costs))) (moveWith g) ms ∙ (λ i. any (λ m. near m i) ms))
+  opens-with : (ms : List Move) (n : Node) → opens d (map (move_with g) ms) (node_with n) ≡ opens d ms n
+  unfolding opens near_corner_of
+  opens-with ms n = ap not (any-map (λ m. dominates d m.costs (near_of d (g n.first.costs) (g n.last.costs))) (move_with g) ms ∙ (λ i. any (λ m. near m i) ms))
     where
-      near : (m : Move) → dominates d (g m.costs) (nearOf d (g n.first.costs) (g n.last.costs)) ≡ dominates d m.costs (nearOf d n.first.costs n.last.costs)
+      near : (m : Move) → dominates d (g m.costs) (near_of d (g n.first.costs) (g n.last.costs)) ≡ dominates d m.costs (near_of d n.first.costs n.last.costs)
       near m =
           ap (dominates d (g m.costs)) (near-alike d (g n.first.costs) n.first.costs (g n.last.costs) n.last.costs (G.first n.first.costs) (G.first n.last.costs))
-          ∙ first-dominates m.costs (nearOf d n.first.costs n.last.costs)
+          ∙ first-dominates m.costs (near_of d n.first.costs n.last.costs)
 
-  pub opened_with : (t : Tree) → nodesOpened d (treeWith g t) ≡ nodesOpened d t
-  unfolding nodesOpened
+  pub opened_with : (t : Tree) → nodes_opened d (tree_with g t) ≡ nodes_opened d t
+  unfolding nodes_opened
   opened_with t =
       ap₂ (λ (ms : List Move) (ns : List Node). count (opens d ms) ns) (moves-of-with t) (nodes-with t)
-      ∙ count_map (opens d (map (moveWith g) (moves_of t))) nodeWith (nodesOf t)
-      ∙ (λ i. count (λ n. opens-with (moves_of t) n i) (nodesOf t))
+      ∙ count_map (opens d (map (move_with g) (moves_of t))) node_with (nodes_of t)
+      ∙ (λ i. count (λ n. opens-with (moves_of t) n i) (nodes_of t))
 
-  opens-for-with : (ms : List Move) (n : ℕ) (z : Node) → opensFor d (map (moveWith g) ms) n (nodeWith z) ≡ opensFor d ms n z
-  unfolding opensFor farCornerOf dominates equalCosts
+  opens-for-with : (ms : List Move) (n : ℕ) (z : Node) → opens_for d (map (move_with g) ms) n (node_with z) ≡ opens_for d ms n z
+  unfolding opens_for far_corner_of dominates equal_costs
   opens-for-with ms n z =
       ap₂ ◌&&◌
       (ap₂ (λ (cs q : List ℕ). better cs (take d q) || equal cs (take d q)) first far)
-      (ap (λ (ns : List Move). opens d ns (nodeWith z)) (without-with n ms) ∙ opens-with (without n ms) z)
+      (ap (λ (ns : List Move). opens d ns (node_with z)) (without-with n ms) ∙ opens-with (without n ms) z)
     where
-      first : take d (costsOn n (map (moveWith g) ms)) ≡ take d (costsOn n ms)
-      first = ap (take d) (costs-on-with n ms) ∙ G.first (costsOn n ms)
+      first : take d (costs_on n (map (move_with g) ms)) ≡ take d (costs_on n ms)
+      first = ap (take d) (costs-on-with n ms) ∙ G.first (costs_on n ms)
 
-      far : farOf d (g z.first.costs) (g z.last.costs) ≡ farOf d z.first.costs z.last.costs
+      far : far_of d (g z.first.costs) (g z.last.costs) ≡ far_of d z.first.costs z.last.costs
       far = far-alike d (g z.first.costs) z.first.costs (g z.last.costs) z.last.costs (G.first z.first.costs) (G.first z.last.costs)
 
-  withdraw-opens-with : (n : ℕ) (t : Tree) → withdrawOpens d n (treeWith g t) ≡ withdrawOpens d n t
-  unfolding withdrawOpens
+  withdraw-opens-with : (n : ℕ) (t : Tree) → withdraw_opens d n (tree_with g t) ≡ withdraw_opens d n t
+  unfolding withdraw_opens
   withdraw-opens-with n t =
-      ap₂ (λ (ms : List Move) (zs : List Node). cond (onBoard n ms) (count (opensFor d ms n) zs) 0)
+      ap₂ (λ (ms : List Move) (zs : List Node). cond (on_board n ms) (count (opens_for d ms n) zs) 0)
       (ap (skyline d) (moves-of-with t) ∙ skyline-with d g G (moves_of t)) (nodes-with t)
       ∙ ap₂ (λ (b : Bool) (k : ℕ). cond b k 0) (on-board-with n list)
-      (count_map (opensFor d (map (moveWith g) list) n) nodeWith (nodesOf t) ∙ (λ i. count (λ z. opens-for-with list n z i) (nodesOf t)))
+      (count_map (opens_for d (map (move_with g) list) n) node_with (nodes_of t) ∙ (λ i. count (λ z. opens-for-with list n z i) (nodes_of t)))
     where
       list : List Move
       list = skyline d (moves_of t)
 
-  pub change-opens-with : (x : Change) (t : Tree) → changeOpens d (changeWith g x) (treeWith g t) ≡ changeOpens d x t
-  unfolding changeOpens changeWith
+  pub change-opens-with : (x : Change) (t : Tree) → change_opens d (change_with g x) (tree_with g t) ≡ change_opens d x t
+  unfolding change_opens change_with
   change-opens-with (enter n block costs) t = refl
   change-opens-with (withdraw n) t = withdraw-opens-with n t
   change-opens-with (recost n block costs) t = refl

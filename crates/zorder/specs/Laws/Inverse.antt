@@ -5,8 +5,8 @@ use Rattle.std.proofs.Math.Nat.{suc_inj, le_of_suc-le, pow-succ'}
 use Rattle.std.proofs.Math.Arith.{digits_lt, digits_div, digits_mod}
 use Rattle.std.proofs.lemmas.Nat.{mod-pow-add}
 use Rattle.std.proofs.Math.Pow.{mod-mod-pow, field, high, low}
-use Rattle.zorder.specs.Address.{costBits, bit, group, groups, costFromBits, costsFrom, costsOf}
-use Rattle.zorder.specs.Laws.Address.{Costs, shifted, length-shifted, getD-shifted, bit-lt, bit-shr, group-lt, groups-lt, groups-shr, groups-costs-lt}
+use Rattle.zorder.specs.Address.{cost_bits, bit, group, groups, cost_from_bits, costs_from, costs_of}
+use Rattle.zorder.specs.Laws.Address.{Costs, shifted, length-shifted, get_or-shifted, bit-lt, bit-shr, group-lt, groups-lt, groups-shr, groups-costs-lt}
 
 -- ---- equal addresses, equal costs
 
@@ -55,8 +55,8 @@ pub groups-injective-at : (k : ℕ) (cs es : List ℕ) → length cs ≡ length 
 groups-injective-at k cs es n f h g =
     ext_get_or 0 cs es n (λ i l. sym (mod-eq_of_lt (f i)) ∙ groups-bits k cs es n g i ∙ mod-eq_of_lt (h i))
 
-pub groups-injective : (d : ℕ) (cs es : List ℕ) → Costs d cs → Costs d es → groups costBits cs ≡ groups costBits es → cs ≡ es
-groups-injective d cs es f h = groups-injective-at costBits cs es (f.count ∙ sym h.count) f.small h.small
+pub groups-injective : (d : ℕ) (cs es : List ℕ) → Costs d cs → Costs d es → groups cost_bits cs ≡ groups cost_bits es → cs ≡ es
+groups-injective d cs es f h = groups-injective-at cost_bits cs es (f.count ∙ sym h.count) f.small h.small
 
 -- ---- the costs of an address
 
@@ -73,78 +73,78 @@ bit-top k b r h l = ap (λ (x : ℕ). x % 2) (high b k l) ∙ mod-eq_of_lt h
 pub bit_below : (j k b r : ℕ) → j < k → r < 2 ^ k → bit j (b * 2 ^ k + r) ≡ bit j r
 bit_below j k b r h l = sym (bit-mod j k (b * 2 ^ k + r) h) ∙ ap (bit j) (low b k l)
 
-pub costFromBits-lt : (d e k a : ℕ) → costFromBits d e k a < 2 ^ k
-unfolding costFromBits
-costFromBits-lt d e zero a = zero-lt-suc 0
-costFromBits-lt d e (suc k) a = rw (pow-succ' 2 k) (digits_lt (bit-lt (d * k + e) a) (costFromBits-lt d e k a))
+pub cost_from_bits-lt : (d e k a : ℕ) → cost_from_bits d e k a < 2 ^ k
+unfolding cost_from_bits
+cost_from_bits-lt d e zero a = zero-lt-suc 0
+cost_from_bits-lt d e (suc k) a = rw (pow-succ' 2 k) (digits_lt (bit-lt (d * k + e) a) (cost_from_bits-lt d e k a))
 
-pub bit-costFromBits : (d e k a j : ℕ) → j < k → bit j (costFromBits d e k a) ≡ bit (d * j + e) a
-unfolding costFromBits
-bit-costFromBits d e zero a j h = absurd (omega arith)
-bit-costFromBits d e (suc k) a j h =
+pub bit-cost_from_bits : (d e k a j : ℕ) → j < k → bit j (cost_from_bits d e k a) ≡ bit (d * j + e) a
+unfolding cost_from_bits
+bit-cost_from_bits d e zero a j h = absurd (omega arith)
+bit-cost_from_bits d e (suc k) a j h =
     let b = bit (d * k + e) a in
-    let r = costFromBits d e k a in
+    let r = cost_from_bits d e k a in
     ⊎_elim
-    (λ p. rw p (bit-top k b r (bit-lt (d * k + e) a) (costFromBits-lt d e k a)))
-    (λ l. bit_below j k b r l (costFromBits-lt d e k a) ∙ bit-costFromBits d e k a j l)
+    (λ p. rw p (bit-top k b r (bit-lt (d * k + e) a) (cost_from_bits-lt d e k a)))
+    (λ l. bit_below j k b r l (cost_from_bits-lt d e k a) ∙ bit-cost_from_bits d e k a j l)
     (eq-or-lt_of_le (le_of_suc-le-suc h))
 
-pub length-costsFrom : (d e a : ℕ) → length (costsFrom d e a) ≡ e
-unfolding costsFrom
-length-costsFrom d zero a = refl
-length-costsFrom d (suc e) a = ap suc (length-costsFrom d e a)
+pub length-costs_from : (d e a : ℕ) → length (costs_from d e a) ≡ e
+unfolding costs_from
+length-costs_from d zero a = refl
+length-costs_from d (suc e) a = ap suc (length-costs_from d e a)
 
-pub costsFrom-lt : (d e a i : ℕ) → get_or (costsFrom d e a) i 0 < 2 ^ costBits
-unfolding costsFrom
-costsFrom-lt d zero a i = pow_pos costBits
-costsFrom-lt d (suc e) a zero = costFromBits-lt d e costBits a
-costsFrom-lt d (suc e) a (suc i) = costsFrom-lt d e a i
+pub costs_from-lt : (d e a i : ℕ) → get_or (costs_from d e a) i 0 < 2 ^ cost_bits
+unfolding costs_from
+costs_from-lt d zero a i = pow_pos cost_bits
+costs_from-lt d (suc e) a zero = cost_from_bits-lt d e cost_bits a
+costs_from-lt d (suc e) a (suc i) = costs_from-lt d e a i
 
-pub costsOf-costs : (d a : ℕ) → Costs d (costsOf d a)
-unfolding costsOf
-costsOf-costs d a = record { count = length-costsFrom d d a; small = costsFrom-lt d d a }
+pub costs_of-costs : (d a : ℕ) → Costs d (costs_of d a)
+unfolding costs_of
+costs_of-costs d a = record { count = length-costs_from d d a; small = costs_from-lt d d a }
 
-pub group-costsFrom : (d j e a : ℕ) → j < costBits → group j (costsFrom d e a) ≡ a / 2 ^ (d * j) % 2 ^ e
-unfolding costsFrom group
-group-costsFrom d j zero a h = omega arith
-group-costsFrom d j (suc e) a h =
-    rw (bit-costFromBits d e costBits a j h, length-costsFrom d e a, group-costsFrom d j e a h, add_comm (d * j) e, bit-shr e (d * j) a)
+pub group-costs_from : (d j e a : ℕ) → j < cost_bits → group j (costs_from d e a) ≡ a / 2 ^ (d * j) % 2 ^ e
+unfolding costs_from group
+group-costs_from d j zero a h = omega arith
+group-costs_from d j (suc e) a h =
+    rw (bit-cost_from_bits d e cost_bits a j h, length-costs_from d e a, group-costs_from d j e a h, add_comm (d * j) e, bit-shr e (d * j) a)
     (sym (mod-pow-suc (a / 2 ^ (d * j)) e))
 
-pub groups-costsOf : (d k a : ℕ) → k ≤ costBits → groups k (costsOf d a) ≡ a % 2 ^ (d * k)
-unfolding groups costsOf
-groups-costsOf d zero a h = rw (mul-zero d) (omega arith)
-groups-costsOf d (suc k) a h =
-    rw (group-costsFrom d k d a h, length-costsFrom d d a, groups-costsOf d k a (le_of_suc-le h), mul-suc d k, add_comm (d * k) d)
+pub groups-costs_of : (d k a : ℕ) → k ≤ cost_bits → groups k (costs_of d a) ≡ a % 2 ^ (d * k)
+unfolding groups costs_of
+groups-costs_of d zero a h = rw (mul-zero d) (omega arith)
+groups-costs_of d (suc k) a h =
+    rw (group-costs_from d k d a h, length-costs_from d d a, groups-costs_of d k a (le_of_suc-le h), mul-suc d k, add_comm (d * k) d)
     (sym (mod-pow-add a d (d * k)))
 
-pub address-costs : (d a : ℕ) → a < 2 ^ (d * costBits) → groups costBits (costsOf d a) ≡ a
-address-costs d a h = groups-costsOf d costBits a (le_refl costBits) ∙ mod-eq_of_lt h
+pub address-costs : (d a : ℕ) → a < 2 ^ (d * cost_bits) → groups cost_bits (costs_of d a) ≡ a
+address-costs d a h = groups-costs_of d cost_bits a (le_refl cost_bits) ∙ mod-eq_of_lt h
 
-pub costs-address : (d : ℕ) (cs : List ℕ) → Costs d cs → costsOf d (groups costBits cs) ≡ cs
+pub costs-address : (d : ℕ) (cs : List ℕ) → Costs d cs → costs_of d (groups cost_bits cs) ≡ cs
 costs-address d cs h =
-    groups-injective d (costsOf d (groups costBits cs)) cs (costsOf-costs d (groups costBits cs)) h (address-costs d (groups costBits cs) (groups-costs-lt d cs h))
+    groups-injective d (costs_of d (groups cost_bits cs)) cs (costs_of-costs d (groups cost_bits cs)) h (address-costs d (groups cost_bits cs) (groups-costs-lt d cs h))
 
 -- ---- addresses that agree above some groups
 
 pub shifted-lt : (k u : ℕ) (cs : List ℕ) → ((i : ℕ) → get_or cs i 0 < 2 ^ (k + u)) → (i : ℕ) → get_or (shifted u cs) i 0 < 2 ^ k
-shifted-lt k u cs h i = rw (getD-shifted u cs i) (shr_lt k u (h i))
+shifted-lt k u cs h i = rw (get_or-shifted u cs i) (shr_lt k u (h i))
 
-pub costs-shr : (d u : ℕ) (cs : List ℕ) → Costs d cs → u ≤ costBits → groups costBits cs / 2 ^ (d * u) ≡ groups (costBits - u) (shifted u cs)
+pub costs-shr : (d u : ℕ) (cs : List ℕ) → Costs d cs → u ≤ cost_bits → groups cost_bits cs / 2 ^ (d * u) ≡ groups (cost_bits - u) (shifted u cs)
 costs-shr d u cs f h =
-    subst (λ (x : ℕ). groups costBits cs / 2 ^ (x * u) ≡ groups (costBits - u) (shifted u cs)) f.count (groups-shr costBits u cs h)
+    subst (λ (x : ℕ). groups cost_bits cs / 2 ^ (x * u) ≡ groups (cost_bits - u) (shifted u cs)) f.count (groups-shr cost_bits u cs h)
 
-module _ (d u : ℕ) (cs es : List ℕ) (f : Costs d cs) (h : Costs d es) (l : u ≤ costBits) where
-  agree-shifted : groups costBits cs / 2 ^ (d * u) ≡ groups costBits es / 2 ^ (d * u) → shifted u cs ≡ shifted u es
+module _ (d u : ℕ) (cs es : List ℕ) (f : Costs d cs) (h : Costs d es) (l : u ≤ cost_bits) where
+  agree-shifted : groups cost_bits cs / 2 ^ (d * u) ≡ groups cost_bits es / 2 ^ (d * u) → shifted u cs ≡ shifted u es
   agree-shifted g =
-      groups-injective-at (costBits - u) (shifted u cs) (shifted u es)
+      groups-injective-at (cost_bits - u) (shifted u cs) (shifted u es)
       (length-shifted u cs ∙ f.count ∙ sym (length-shifted u es ∙ h.count))
-      (shifted-lt (costBits - u) u cs (λ i. rw (sub-add_cancel l) (f.small i)))
-      (shifted-lt (costBits - u) u es (λ i. rw (sub-add_cancel l) (h.small i)))
+      (shifted-lt (cost_bits - u) u cs (λ i. rw (sub-add_cancel l) (f.small i)))
+      (shifted-lt (cost_bits - u) u es (λ i. rw (sub-add_cancel l) (h.small i)))
       (sym (costs-shr d u cs f l) ∙ g ∙ costs-shr d u es h l)
 
-  shifted-agree : shifted u cs ≡ shifted u es → groups costBits cs / 2 ^ (d * u) ≡ groups costBits es / 2 ^ (d * u)
-  shifted-agree e = costs-shr d u cs f l ∙ ap (groups (costBits - u)) e ∙ sym (costs-shr d u es h l)
+  shifted-agree : shifted u cs ≡ shifted u es → groups cost_bits cs / 2 ^ (d * u) ≡ groups cost_bits es / 2 ^ (d * u)
+  shifted-agree e = costs-shr d u cs f l ∙ ap (groups (cost_bits - u)) e ∙ sym (costs-shr d u es h l)
 
-  pub agree-iff : (groups costBits cs / 2 ^ (d * u) ≡ groups costBits es / 2 ^ (d * u)) ↔ (shifted u cs ≡ shifted u es)
+  pub agree-iff : (groups cost_bits cs / 2 ^ (d * u) ≡ groups cost_bits es / 2 ^ (d * u)) ↔ (shifted u cs ≡ shifted u es)
   agree-iff = (agree-shifted, shifted-agree)

@@ -2,22 +2,22 @@
 use Rattle.std.specs.Prelude.{ℕ, zero, suc, ◌+◌, ◌*◌, ◌^◌, ◌≤◌, ◌<◌, Bool, true, false, cond, ◌||◌, List, [], ◌∷◌, ◌≡◌, refl, ltb, eqb, length, get_or, drop, replicate}
 use Rattle.std.proofs.Common.{true≢false, sym, ap, ap₂, ◌∙◌, add-one, arith, drop_of_length-le, drop-cons, ltb-false, leb-false}
 use Rattle.std.proofs.Math.Dec.{eqb-suc-zero}
-use Rattle.zorder.specs.Address.{rowCosts, costBits}
-use Rattle.zorder.specs.Refusal.{Check, refusal, allZero, costCountBad, addressBad}
+use Rattle.zorder.specs.Address.{row_costs, cost_bits}
+use Rattle.zorder.specs.Refusal.{Check, refusal, all_zero, cost_count_bad, address_bad}
 
 neither : (a b : Bool) → (a || b) ≡ false → (a ≡ false) × (b ≡ false)
 neither true b e = absurd (true≢false e)
 neither false b e = (refl, e)
 
-pub count-right : (d : ℕ) → costCountBad d ≡ false → (2 ≤ d) × (d ≤ rowCosts)
-unfolding costCountBad
+pub count-right : (d : ℕ) → cost_count_bad d ≡ false → (2 ≤ d) × (d ≤ row_costs)
+unfolding cost_count_bad
 count-right d e =
-    let parts = neither (ltb d 2) (ltb rowCosts d) e in
-    (ltb-false d 2 parts.0, ltb-false rowCosts d parts.1)
+    let parts = neither (ltb d 2) (ltb row_costs d) e in
+    (ltb-false d 2 parts.0, ltb-false row_costs d parts.1)
 
-pub address-right : (d a : ℕ) → addressBad d a ≡ false → a < 2 ^ (costBits * d)
-unfolding addressBad
-address-right d a e = leb-false (2 ^ (costBits * d)) a e
+pub address-right : (d a : ℕ) → address_bad d a ≡ false → a < 2 ^ (cost_bits * d)
+unfolding address_bad
+address-right d a e = leb-false (2 ^ (cost_bits * d)) a e
 
 -- No check of these turns a call down.
 pub first_passes : (b : Bool) (k : ℕ) (cs : List Check) → refusal ((b, suc k) ∷ cs) ≡ 0 → b ≡ false
@@ -32,25 +32,25 @@ rest-passes false k cs h = h
 
 -- ---- costs that are all zero
 
-pub allZero-zeros : (n : ℕ) → allZero (replicate n 0) ≡ true
-unfolding allZero
-allZero-zeros zero = refl
-allZero-zeros (suc n) = allZero-zeros n
+pub all_zero-zeros : (n : ℕ) → all_zero (replicate n 0) ≡ true
+unfolding all_zero
+all_zero-zeros zero = refl
+all_zero-zeros (suc n) = all_zero-zeros n
 
-pub allZero-at : (cs : List ℕ) → allZero cs ≡ true → (i : ℕ) → get_or cs i 0 ≡ 0
-unfolding allZero
-allZero-at [] h i = refl
-allZero-at (zero ∷ cs) h zero = refl
-allZero-at (zero ∷ cs) h (suc i) = allZero-at cs h i
-allZero-at (suc c ∷ cs) h i = absurd (true≢false (sym h ∙ ap (λ (t : Bool). cond t (allZero cs) false) (eqb-suc-zero c)))
+pub all_zero-at : (cs : List ℕ) → all_zero cs ≡ true → (i : ℕ) → get_or cs i 0 ≡ 0
+unfolding all_zero
+all_zero-at [] h i = refl
+all_zero-at (zero ∷ cs) h zero = refl
+all_zero-at (zero ∷ cs) h (suc i) = all_zero-at cs h i
+all_zero-at (suc c ∷ cs) h i = absurd (true≢false (sym h ∙ ap (λ (t : Bool). cond t (all_zero cs) false) (eqb-suc-zero c)))
 
 -- Costs are tested one by one: a test, by its answer, and the end.
-pub all-zero-step : (l : List ℕ) (i : ℕ) (b : Bool) → i < length l → eqb (get_or l i 0) 0 ≡ b → allZero (drop i l) ≡ cond b (allZero (drop (i + 1) l)) false
-unfolding allZero
+pub all-zero-step : (l : List ℕ) (i : ℕ) (b : Bool) → i < length l → eqb (get_or l i 0) 0 ≡ b → all_zero (drop i l) ≡ cond b (all_zero (drop (i + 1) l)) false
+unfolding all_zero
 all-zero-step l i b more test =
-    ap allZero (drop-cons l i 0 more)
-    ∙ ap₂ (λ (t : Bool) (n : ℕ). cond t (allZero (drop n l)) false) test (sym (add-one i))
+    ap all_zero (drop-cons l i 0 more)
+    ∙ ap₂ (λ (t : Bool) (n : ℕ). cond t (all_zero (drop n l)) false) test (sym (add-one i))
 
-pub all-zero-end : (l : List ℕ) (i : ℕ) → length l ≤ i → allZero (drop i l) ≡ true
-unfolding allZero
-all-zero-end l i end = ap allZero (drop_of_length-le l {i = i} end)
+pub all-zero-end : (l : List ℕ) (i : ℕ) → length l ≤ i → all_zero (drop i l) ≡ true
+unfolding all_zero
+all-zero-end l i end = ap all_zero (drop_of_length-le l {i = i} end)

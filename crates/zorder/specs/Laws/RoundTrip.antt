@@ -3,11 +3,11 @@ use Rattle.std.specs.Prelude.{ℕ, ◌-◌, ◌*◌, ◌^◌, ◌≤◌, ◌<◌
 use Rattle.std.proofs.Common.{sym, ◌∙◌, subst, mul_comm, arith, take_at}
 use Rattle.std.proofs.Math.Path.{ap}
 use borrow.Author.Tests.{lt-leb}
-use Rattle.zorder.specs.Address.{rowCosts, costBits, groups, address, costsOf, padded}
+use Rattle.zorder.specs.Address.{row_costs, cost_bits, groups, address, costs_of, padded}
 use Rattle.zorder.specs.Between.{RowCosts}
 use Rattle.zorder.specs.Promise.{number_of, AddressPromise, CostsPromise}
-use Rattle.zorder.specs.Refusal.{refusal, or_zero, orZeros, costCountBad, costPastBad, addressBad, addressRefusal, costsRefusal}
-use Rattle.zorder.specs.Words.{wordBits, value, words_of}
+use Rattle.zorder.specs.Refusal.{refusal, or_zero, or_zeros, cost_count_bad, cost_past_bad, address_bad, address_refusal, costs_refusal}
+use Rattle.zorder.specs.Words.{word_bits, value, words_of}
 use Rattle.zorder.specs.declared.AddressWords.{AddressWords}
 use Rattle.zorder.specs.declared.Verdict.{Verdict}
 use Rattle.zorder.specs.declared.Verdict.TheVariants.{Accepted, BadCostCount, BadArgument}
@@ -15,30 +15,30 @@ use Rattle.zorder.specs.declared.AddressResult.{AddressResult}
 use Rattle.zorder.specs.declared.CostsResult.{CostsResult}
 use Rattle.zorder.specs.Laws.Address.{address-lt'}
 use Rattle.zorder.specs.Laws.Between.{padded-row, row-costs, row-padded}
-use Rattle.zorder.specs.Laws.Inverse.{costsOf-costs, address-costs, costs-address}
+use Rattle.zorder.specs.Laws.Inverse.{costs_of-costs, address-costs, costs-address}
 use Rattle.zorder.specs.Laws.Words.{value-words, words-value}
 use Rattle.zorder.specs.Laws.Refusal.{count-right, address-right, first_passes, rest-passes}
 
 -- ---- rows and addresses
 
-module _ (d : ℕ) (cs : List ℕ) (l : d ≤ rowCosts) (h : RowCosts d cs) where
-  pub row-address : addressBad d (address d cs) ≡ false
-  unfolding addressBad
-  row-address = lt-leb (2 ^ (costBits * d)) (address d cs) (address-lt' d cs (omega (arith, h.count)))
+module _ (d : ℕ) (cs : List ℕ) (l : d ≤ row_costs) (h : RowCosts d cs) where
+  pub row-address : address_bad d (address d cs) ≡ false
+  unfolding address_bad
+  row-address = lt-leb (2 ^ (cost_bits * d)) (address d cs) (address-lt' d cs (omega (arith, h.count)))
 
-  pub row-again : padded d (costsOf d (address d cs)) ≡ cs
+  pub row-again : padded d (costs_of d (address d cs)) ≡ cs
   unfolding address
   row-again = ap (padded d) (costs-address d _ (row-costs d cs l h)) ∙ row-padded d cs l h
 
-module _ (d a : ℕ) (l : d ≤ rowCosts) where
-  pub address-row : RowCosts d (padded d (costsOf d a))
-  address-row = padded-row d (costsOf d a) l (costsOf-costs d a)
+module _ (d a : ℕ) (l : d ≤ row_costs) where
+  pub address-row : RowCosts d (padded d (costs_of d a))
+  address-row = padded-row d (costs_of d a) l (costs_of-costs d a)
 
-  pub address-again : addressBad d a ≡ false → address d (padded d (costsOf d a)) ≡ a
+  pub address-again : address_bad d a ≡ false → address d (padded d (costs_of d a)) ≡ a
   unfolding address padded
   address-again h =
-      ap (groups costBits) (take_at (costsOf d a) (replicate (rowCosts - d) 0) d (costsOf-costs d a).count)
-      ∙ address-costs d a (subst (λ (n : ℕ). a < 2 ^ n) (mul_comm costBits d) (address-right d a h))
+      ap (groups cost_bits) (take_at (costs_of d a) (replicate (row_costs - d) 0) d (costs_of-costs d a).count)
+      ∙ address-costs d a (subst (λ (n : ℕ). a < 2 ^ n) (mul_comm cost_bits d) (address-right d a h))
 
 -- ---- the two calls, by their promises alone
 
@@ -60,11 +60,11 @@ number-zero : {v : Verdict} → v ≡ Accepted → number_of v ≡ 0
 unfolding number_of
 number-zero e = ap number_of e
 
-module _ (d : ℕ) (cs : List ℕ) (count : length cs ≡ rowCosts) (small : (i : ℕ) → get_or cs i 0 < 2 ^ costBits)
+module _ (d : ℕ) (cs : List ℕ) (count : length cs ≡ row_costs) (small : (i : ℕ) → get_or cs i 0 < 2 ^ cost_bits)
     (r : AddressResult) (p : AddressPromise d cs r) (good : r.verdict ≡ Accepted) where
-  address-passed : (costCountBad d ≡ false) × (costPastBad d cs ≡ false)
-  unfolding addressRefusal
-  address-passed = passed (costCountBad d) (costPastBad d cs) (sym p.number ∙ number-zero good)
+  address-passed : (cost_count_bad d ≡ false) × (cost_past_bad d cs ≡ false)
+  unfolding address_refusal
+  address-passed = passed (cost_count_bad d) (cost_past_bad d cs) (sym p.number ∙ number-zero good)
 
   address-told : value r.address ≡ address d cs
   unfolding or_zero
@@ -77,41 +77,41 @@ module _ (d : ℕ) (cs : List ℕ) (count : length cs ≡ rowCosts) (small : (i 
 
   -- Costs, their address, and its costs.
   pub costs-back : (s : CostsResult) → CostsPromise d (value r.address) s → (s.verdict ≡ Accepted) × (s.costs ≡ cs)
-  unfolding costsRefusal orZeros
+  unfolding costs_refusal or_zeros
   costs-back s q = (accepted-number s.verdict (q.number ∙ none), costs)
     where
-      l : d ≤ rowCosts
+      l : d ≤ row_costs
       l = (count-right d address-passed.0).1
 
-      none : costsRefusal d (value r.address) ≡ 0
-      none = accepts address-passed.0 (ap (addressBad d) address-told ∙ row-address d cs l costs-row)
+      none : costs_refusal d (value r.address) ≡ 0
+      none = accepts address-passed.0 (ap (address_bad d) address-told ∙ row-address d cs l costs-row)
 
       costs : s.costs ≡ cs
       costs =
           q.costs
-          ∙ ap (λ (n : ℕ). orZeros n (padded d (costsOf d (value r.address)))) none
-          ∙ ap (λ (a : ℕ). padded d (costsOf d a)) address-told
+          ∙ ap (λ (n : ℕ). or_zeros n (padded d (costs_of d (value r.address)))) none
+          ∙ ap (λ (a : ℕ). padded d (costs_of d a)) address-told
           ∙ row-again d cs l costs-row
 
 -- An address, its costs, and their address.
 module _ (d : ℕ) (a : AddressWords) (s : CostsResult) (p : CostsPromise d (value a) s) (good : s.verdict ≡ Accepted) where
-  costs-passed : (costCountBad d ≡ false) × (addressBad d (value a) ≡ false)
-  unfolding costsRefusal
-  costs-passed = passed (costCountBad d) (addressBad d (value a)) (sym p.number ∙ number-zero good)
+  costs-passed : (cost_count_bad d ≡ false) × (address_bad d (value a) ≡ false)
+  unfolding costs_refusal
+  costs-passed = passed (cost_count_bad d) (address_bad d (value a)) (sym p.number ∙ number-zero good)
 
-  costs-told : s.costs ≡ padded d (costsOf d (value a))
-  unfolding orZeros
-  costs-told = p.costs ∙ ap (λ (n : ℕ). orZeros n (padded d (costsOf d (value a)))) (sym p.number ∙ number-zero good)
+  costs-told : s.costs ≡ padded d (costs_of d (value a))
+  unfolding or_zeros
+  costs-told = p.costs ∙ ap (λ (n : ℕ). or_zeros n (padded d (costs_of d (value a)))) (sym p.number ∙ number-zero good)
 
-  pub address-back : a.lower < 2 ^ wordBits → (r : AddressResult) → AddressPromise d s.costs r → (r.verdict ≡ Accepted) × (r.address ≡ a)
-  unfolding addressRefusal or_zero
+  pub address-back : a.lower < 2 ^ word_bits → (r : AddressResult) → AddressPromise d s.costs r → (r.verdict ≡ Accepted) × (r.address ≡ a)
+  unfolding address_refusal or_zero
   address-back word r q = (accepted-number r.verdict (q.number ∙ none), told)
     where
-      l : d ≤ rowCosts
+      l : d ≤ row_costs
       l = (count-right d costs-passed.0).1
 
-      none : addressRefusal d s.costs ≡ 0
-      none = accepts costs-passed.0 (ap (costPastBad d) costs-told ∙ (address-row d (value a) l).past)
+      none : address_refusal d s.costs ≡ 0
+      none = accepts costs-passed.0 (ap (cost_past_bad d) costs-told ∙ (address-row d (value a) l).past)
 
       told : r.address ≡ a
       told =

@@ -3,7 +3,7 @@ use mathlib.Core.Path.{refl, sym, subst}
 use native.Mathlib.Omega.{arith}
 use borrow.Author.Rules.{rules}
 use Rattle.promises.specs.Run.{Bytes}
-use Rattle.dominance.specs.Move.{asMove}
+use Rattle.dominance.specs.Move.{as_move}
 use Rattle.memory.specs.declared.head.Head.{Head}
 use Rattle.memory.specs.Laws.Written.{flags-written}
 use Rattle.tree.specs.Enter.{EnterAsked, Entered}
@@ -55,7 +55,7 @@ enter-line-requires c κs =
     let flags = listed.before.before.before.before in
     let start = flags.before.before.before.before in
     let bytes : Bytes start.args.m.now = λ i. omega (arith, flags.before.before.before.slice-known.given i) in
-    subst (λ (g : Head). EnterAsked g.size g.dimension g.count (asMove start.args.x) costs.set-costs.new.0) (sym c.with_rows.ensures)
+    subst (λ (g : Head). EnterAsked g.size g.dimension g.count (as_move start.args.x) costs.set-costs.new.0) (sym c.with_rows.ensures)
     (recost-enter-asked start.requires bytes flags.set-flags.ensures listed.set-listed.ensures gone.withdraw-line.ensures costs.set-costs.ensures)
 
 set-count-requires : tie.Need-set-count-requires
@@ -69,7 +69,7 @@ set-count-requires c κs =
     let start = flags.before.before.before.before in
     let bytes : Bytes start.args.m.now = λ i. omega (arith, flags.before.before.before.slice-known.given i) in
     recost-count-asked start.requires bytes flags.set-flags.ensures listed.set-listed.ensures gone.withdraw-line.ensures costs.set-costs.ensures
-    (subst (λ (g : Head). Entered g.size g.dimension g.count (asMove start.args.x) costs.set-costs.new.0 entered.enter-line.new.0) entered.before.with_rows.ensures entered.enter-line.ensures)
+    (subst (λ (g : Head). Entered g.size g.dimension g.count (as_move start.args.x) costs.set-costs.new.0 entered.enter-line.new.0) entered.before.with_rows.ensures entered.enter-line.ensures)
 
 returns : tie.Need-returns
 unfolding Bytes
@@ -83,7 +83,7 @@ returns c =
     let start = flags.before.before.before.before in
     let bytes : Bytes start.args.m.now = λ i. omega (arith, flags.before.before.before.slice-known.given i) in
     recost-made start.requires bytes flags.set-flags.ensures listed.set-listed.ensures gone.withdraw-line.ensures costs.set-costs.ensures
-    (subst (λ (g : Head). Entered g.size g.dimension g.count (asMove start.args.x) costs.set-costs.new.0 entered.enter-line.new.0) entered.before.with_rows.ensures entered.enter-line.ensures)
+    (subst (λ (g : Head). Entered g.size g.dimension g.count (as_move start.args.x) costs.set-costs.new.0 entered.enter-line.new.0) entered.before.with_rows.ensures entered.enter-line.ensures)
     counted.set-count.ensures
 
 pub make-recost-spec : {M : Type 1} → statement M

@@ -1,6 +1,6 @@
 -- `tell_list` meets its contract: a walk of its MIR, by hand, over any types of the plan P and of what it tells, T. The rows are given up for good.
 -- Assumes nothing.
-use Rattle.calls.proofs.Steps.{List, [], ◌∷◌, ◌≡◌, refl, sym, subst, ℕ, lit<, length, Ura, Name, Fn, Ty, named, erased, imm, mut, w8, w64, ty_int, ty_ref, ty_unit, deref, field, place, copy, int, local, value_local, assign, addr_of, aggregate, call, seq, return, vint, emp, id⊢, Lft, Share, GName, WpFn, Tables, tables, tables_of, Item, ‵, ◌⊛◌, ◌$◌, ◌∵◌, !, qed, by, move, drop, use1, split, fsplit, agg, whole, sub, look_in, look, init, forget, stop, hop, fld, from, load, lit, addr, and_then, no_more, assigns, land, returns, enter, alloc1, alloc0, params1, pass1, pass0, FmC, fm_of, WpFn-mono, u8, pointee, slice_ty, slice_val, shr_slice_copy, ShrSlice, triple_of, Triple, entered, cited, envOf, free_all, gets}
+use Rattle.calls.proofs.Steps.{List, [], ◌∷◌, ◌≡◌, refl, sym, subst, ℕ, lit<, length, Ura, Name, Fn, Ty, named, erased, imm, mut, w8, w64, ty_int, ty_ref, ty_unit, deref, field, place, copy, int, local, value_local, assign, addr_of, aggregate, call, seq, return, vint, emp, id⊢, Lft, Share, GName, WpFn, Tables, tables, tables_of, Item, ‵, ◌⊛◌, ◌$◌, ◌∵◌, !, qed, by, move, drop, use1, split, fsplit, agg, whole, sub, look_in, look, init, forget, stop, hop, fld, from, load, lit, addr, and_then, no_more, assigns, land, returns, enter, alloc1, alloc0, params1, pass1, pass0, FmC, fm_of, WpFn-mono, u8, pointee, slice_ty, slice_val, shr_slice_copy, ShrSlice, triple_of, Triple, entered, cited, env_of, free_all, gets}
 use native.Mathlib.Omega.{arith}
 use Rattle.rows.specs.declared.row.Row.{Row}
 use Rattle.rows.specs.declared.plan.Plan.{Plan}
@@ -73,7 +73,7 @@ module _ (P Y : ByValue) (Asks : P.Denot → List ℕ → List Row → Type 0) (
         -- [the tokens; the rows' last list; what the memory owns; _7; …]: the answer
         calls-read P answer Answers 𝓛 (λ _. emp 𝓤) x (P.val x) ! fm known-answers (id⊢ 𝓤 _) x-is (and_then ! (gets ! 13 refl) (no_more !)) (λ w₂ r e₂ is₂. land ! (from ! (stop !)) (init ! 18 refl (answer.typed 𝓛 r _ is₂)) $
         returns ! (look ! 18 refl) $ forget ! 4 refl $ forget ! 6 refl $ forget ! 8 refl $ forget ! 10 refl $ forget ! 12 refl $ forget ! 14 refl $ forget ! 16 refl $ forget ! 18 refl $
-        move ! (18 ∷ 19 ∷ 16 ∷ 17 ∷ 14 ∷ 15 ∷ 12 ∷ 13 ∷ 10 ∷ 11 ∷ 8 ∷ 9 ∷ 6 ∷ 7 ∷ 4 ∷ 5 ∷ []) $ free_all ! (envOf 𝓤 H (function P Y tells fills answers).locals (l₀ ∷ l₁ ∷ l₂ ∷ l₃ ∷ l₄ ∷ l₅ ∷ l₆ ∷ l₇ ∷ [])) $
+        move ! (18 ∷ 19 ∷ 16 ∷ 17 ∷ 14 ∷ 15 ∷ 12 ∷ 13 ∷ 10 ∷ 11 ∷ 8 ∷ 9 ∷ 6 ∷ 7 ∷ 4 ∷ 5 ∷ []) $ free_all ! (env_of 𝓤 H (function P Y tells fills answers).locals (l₀ ∷ l₁ ∷ l₂ ∷ l₃ ∷ l₄ ∷ l₅ ∷ l₆ ∷ l₇ ∷ [])) $
         by ! (tell-ends P Asks Says 𝓛 κ κr q qr b o br or γ γr m ys x w₂ r zs (told x t m ys zs r e e₁ e₂) l x-is is₂))))))))))))
 
 list-asks : (p : Plan) (t : Telling) (m : List ℕ) (ys : List Row) → ListAsked p m ys → t ≡ p.telling → FillAsks t 0 m ys

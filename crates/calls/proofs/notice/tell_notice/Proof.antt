@@ -1,10 +1,10 @@
 -- `tell_notice` meets its contract: a walk of its MIR, by hand, over any types of the plan P and of what it tells, Y. The rows are lent to the first `fill` and had again; then they are given up for good.
 -- Assumes nothing.
-use Rattle.calls.proofs.Steps.{List, [], ◌∷◌, ◌≡◌, refl, ap, sym, subst, ℕ, ◌<◌, ◌^◌, lit<, length, Ura, Name, Fn, Ty, named, erased, imm, mut, w8, w64, ty_int, ty_ref, ty_unit, deref, field, place, copy, int, local, value_local, assign, addr_of, aggregate, call, seq, return, vint, emp, id⊢, Lft, Share, GName, fat, full_share, WpFn, Tables, fact, fact_i, tables, tables_of, Item, ‵, ◌⊛◌, ◌$◌, ◌∵◌, !, qed, by, move, drop, use1, split, fsplit, rewrite, agg, whole, sub, look_in, look, init, store, forget, stop, hop, fld, from, load, lit, addr, and_then, no_more, assigns, land, returns, enter, alloc1, alloc0, params1, pass1, pass0, FmC, fm_of, WpFn-mono, u8, pointee, slice_ty, slice_val, shr_slice_copy, ShrSlice, triple_of, Triple, entered, cited, envOf, free_all, gets}
+use Rattle.calls.proofs.Steps.{List, [], ◌∷◌, ◌≡◌, refl, ap, sym, subst, ℕ, ◌<◌, ◌^◌, lit<, length, Ura, Name, Fn, Ty, named, erased, imm, mut, w8, w64, ty_int, ty_ref, ty_unit, deref, field, place, copy, int, local, value_local, assign, addr_of, aggregate, call, seq, return, vint, emp, id⊢, Lft, Share, GName, fat, full_share, WpFn, Tables, fact, fact_i, tables, tables_of, Item, ‵, ◌⊛◌, ◌$◌, ◌∵◌, !, qed, by, move, drop, use1, split, fsplit, rewrite, agg, whole, sub, look_in, look, init, store, forget, stop, hop, fld, from, load, lit, addr, and_then, no_more, assigns, land, returns, enter, alloc1, alloc0, params1, pass1, pass0, FmC, fm_of, WpFn-mono, u8, pointee, slice_ty, slice_val, shr_slice_copy, ShrSlice, triple_of, Triple, entered, cited, env_of, free_all, gets}
 use mathlib.Core.Path.{◌∙◌}
 use native.Mathlib.Omega.{arith}
 use Prim.Native.Nat.{◌≤◌}
-use Rattle.rows.specs.Telling.{filledRows}
+use Rattle.rows.specs.Telling.{filled_rows}
 use Rattle.planning.specs.Plan.{left_of, entered_of}
 use Rattle.planning.specs.declared.plan.ChangePlan.{ChangePlan}
 use Rattle.planning.proofs.left_of as left-of
@@ -101,7 +101,7 @@ module _ (P Y : ByValue) (Asks : P.Denot → List ℕ → List Row → Type 0) (
         calls-read P answer Answers 𝓛 (λ _. emp 𝓤) x (P.val x) ! fm known-answers (id⊢ 𝓤 _) x-is (and_then ! (gets ! 21 refl) (no_more !)) (λ w₅ r e₅ is₅. land ! (from ! (stop !)) (init ! 26 refl (answer.typed 𝓛 r _ is₅)) $
         returns ! (look ! 26 refl) $ forget ! 4 refl $ forget ! 6 refl $ forget ! 8 refl $ forget ! 10 refl $ forget ! 12 refl $ forget ! 14 refl $ forget ! 16 refl $ forget ! 18 refl $ forget ! 20 refl $ forget ! 22 refl $ forget ! 24 refl $ forget ! 26 refl $
         move ! (26 ∷ 27 ∷ 24 ∷ 25 ∷ 22 ∷ 23 ∷ 20 ∷ 21 ∷ 18 ∷ 19 ∷ 16 ∷ 17 ∷ 14 ∷ 15 ∷ 12 ∷ 13 ∷ 10 ∷ 11 ∷ 8 ∷ 9 ∷ 6 ∷ 7 ∷ 4 ∷ 5 ∷ []) $
-        free_all ! (envOf 𝓤 H (function P Y leaves enters counts fills answers).locals (l₀ ∷ l₁ ∷ l₂ ∷ l₃ ∷ l₄ ∷ l₅ ∷ l₆ ∷ l₇ ∷ l₈ ∷ l₉ ∷ l₁₀ ∷ l₁₁ ∷ [])) $
+        free_all ! (env_of 𝓤 H (function P Y leaves enters counts fills answers).locals (l₀ ∷ l₁ ∷ l₂ ∷ l₃ ∷ l₄ ∷ l₅ ∷ l₆ ∷ l₇ ∷ l₈ ∷ l₉ ∷ l₁₀ ∷ l₁₁ ∷ [])) $
         by ! (tell-ends P Asks Says 𝓛 κ κr q qr b o br or γ γr m ys x w₅ r zs₁ (told x t u n m ys zs zs₁ r e e₂ e₃ e₁ e₄ e₅) (l₀₁ ∙ l) x-is is₅))))))))))))))))))))
 
 module _ (p : ChangePlan) (t : Telling) (m : List ℕ) (ys : List Row) where
@@ -120,7 +120,7 @@ module _ (p : ChangePlan) (t : Telling) (m : List ℕ) (ys : List Row) where
         record {
           rows =
               subst (λ (k : ℕ). Fills (entered_of p) k m zs zs₁) counted (subst (λ (u : Telling). Fills u n m zs zs₁) e₁ entered)
-              ∙ ap (λ (rows : List (List ℕ)). filledRows (entered_of p).told (entered_of p).numbers m (left_of p).count (entered_of p).count rows) (subst (λ (t : Telling). Fills t 0 m ys zs) e left);
+              ∙ ap (λ (rows : List (List ℕ)). filled_rows (entered_of p).told (entered_of p).numbers m (left_of p).count (entered_of p).count rows) (subst (λ (t : Telling). Fills t 0 m ys zs) e left);
           handed = handed;
         }
 

@@ -4,7 +4,7 @@ use Rattle.calls.proofs.Steps.{tables, tables_of, triple_of, entered, cited}
 use Rattle.model.specs.Calls.{withdraw}
 use Rattle.planning.specs.Plan.{Planned, Able, CarriedOut}
 use Rattle.board.proofs.carry_out as carry
-use Rattle.calls.specs.Asked.{askedWithdraw}
+use Rattle.calls.specs.Asked.{asked_withdraw}
 use Rattle.calls.specs.Told.{NoticeAsked, NoticeTold}
 use Rattle.calls.specs.Laws.Asked.{withdraw-asked}
 use Rattle.calls.proofs.plan_withdraw as plan
@@ -20,7 +20,7 @@ unfolding f.Code.routine tables_of
 dolzhev-withdraw-spec 𝓤 𝓛 𝓜 𝓡 =
     entered 𝓤 𝓛.H (triple_of 𝓛 f.signature (f.spec 𝓛 𝓜.mem 𝓡.run))
     (tables 𝓤 𝓛.H 𝓜 𝓡 f.Code.env).C (tables 𝓤 𝓛.H 𝓜 𝓡 f.Code.env).Λ f.Key.name f.Code.function (f.Code.unfolded 𝓤 𝓛.H 𝓜 𝓡)
-    (changes-meet short askedWithdraw (λ number. withdraw number) withdraw-asked 𝓛 (tables_of 𝓤 𝓛.H 𝓜 (tables 𝓤 𝓛.H 𝓜 𝓡 f.Code.env)) plan.Symbol.name tell.Symbol.name carry.Symbol.name
-    (cited 𝓤 𝓛.H (PlanOf short planned (λ x m lent p. Planned (askedWithdraw x) m lent p) 𝓛) 𝓜 𝓡 f.Code.env plan.Symbol.name plan.Symbol.routine f.Code.calls-calls::plan-withdraw (plan.Met.met 𝓤 𝓛 𝓜 𝓡))
+    (changes-meet short asked_withdraw (λ number. withdraw number) withdraw-asked 𝓛 (tables_of 𝓤 𝓛.H 𝓜 (tables 𝓤 𝓛.H 𝓜 𝓡 f.Code.env)) plan.Symbol.name tell.Symbol.name carry.Symbol.name
+    (cited 𝓤 𝓛.H (PlanOf short planned (λ x m lent p. Planned (asked_withdraw x) m lent p) 𝓛) 𝓜 𝓡 f.Code.env plan.Symbol.name plan.Symbol.routine f.Code.calls-calls::plan-withdraw (plan.Met.met 𝓤 𝓛 𝓜 𝓡))
     (cited 𝓤 𝓛.H (TellOf planned NoticeAsked NoticeTold 𝓛) 𝓜 𝓡 f.Code.env tell.Symbol.name tell.Symbol.routine f.Code.calls-calls::tell-notice (tell.Met.met 𝓤 𝓛 𝓜 𝓡))
     (cited 𝓤 𝓛.H (CarryOf planned Able CarriedOut 𝓛) 𝓜 𝓡 f.Code.env carry.Symbol.name carry.Symbol.routine f.Code.calls-board::carry-out (carry.Met.met 𝓤 𝓛 𝓜 𝓡)))

@@ -5,9 +5,9 @@ use denote.Slice.{shr_slice_vals}
 use denote.Ref.{Bor}
 use mathlib.Core.List.{map}
 use denote.Builtin.{Array, ArrayOf}
-use Rattle.calls.proofs.Steps.{List, [], ◌∷◌, ◌≡◌, refl, ℕ, ◌<◌, ◌^◌, length, Ura, Name, Fn, Ty, named, erased, imm, mut, w8, w64, ty_int, ty_ref, deref, field, place, copy, local, value_local, assign, rv_opd, addr_of, aggregate, call, seq, return, Val, vint, SProp, ent, emp, id⊢, via, fst∗, Lft, Share, GName, ftrue, flft, WpFn, Tables, Memory, Routine, Fun, fact, tables, tables_of, Item, ‵, raw, ◌⊛◌, ⋆, ◌$◌, ◌∵◌, !, qed, by, move, drop, group, use1, split, join, fsplit, fjoin, suffices, frame, done, agg, whole, sub, look_in, look, init, forget, stop, hop, fld, from, load, addr, of_opd, and_then, no_more, assigns, land, returns, enter, alloc1, alloc0, params1, pass1, pass0, fm_of, WpFn-mono, RattleType, owns, Is, uint_Makes, uint_vals, uint_Tells, u8, u16, usize, SliceRefOf, pointee, RefT, slice_ty, slice_val, slice-vals, mut_slice_Tells, shr_slice_Tells, shr_slice_copy, MutSlice, ShrSlice, Room, finally, owned, nothing, plain, Clauses, Ended, closing, on_entry, Meets, triple_of, Contract, Triple, calls_at, entered, cited, says, Stays, stay_none, stay_none_slice, gave_slice, walk_of, Goes-none, Goes-none_slice, Goes-gave_slice, ends_at, walked, walk_Meets, yes, envOf, free_all, returned, gets, tokens}
-use Rattle.model.specs.Calls.{Query, hoursQuery}
-use Rattle.promises.specs.Answers.{blockHours}
+use Rattle.calls.proofs.Steps.{List, [], ◌∷◌, ◌≡◌, refl, ℕ, ◌<◌, ◌^◌, length, Ura, Name, Fn, Ty, named, erased, imm, mut, w8, w64, ty_int, ty_ref, deref, field, place, copy, local, value_local, assign, rv_opd, addr_of, aggregate, call, seq, return, Val, vint, SProp, ent, emp, id⊢, via, fst∗, Lft, Share, GName, ftrue, flft, WpFn, Tables, Memory, Routine, Fun, fact, tables, tables_of, Item, ‵, raw, ◌⊛◌, ⋆, ◌$◌, ◌∵◌, !, qed, by, move, drop, group, use1, split, join, fsplit, fjoin, suffices, frame, done, agg, whole, sub, look_in, look, init, forget, stop, hop, fld, from, load, addr, of_opd, and_then, no_more, assigns, land, returns, enter, alloc1, alloc0, params1, pass1, pass0, fm_of, WpFn-mono, RattleType, owns, Is, uint__makes, uint_vals, uint__tells, u8, u16, usize, SliceRefOf, pointee, RefT, slice_ty, slice_val, slice-vals, mut_slice__tells, shr_slice__tells, shr_slice_copy, MutSlice, ShrSlice, Room, finally, owned, nothing, plain, Clauses, Ended, closing, on_entry, Meets, triple_of, Contract, Triple, calls_at, entered, cited, says, Stays, stay_none, stay_none_slice, gave_slice, walk_of, Goes-none, Goes-none_slice, Goes-gave_slice, ends_at, walked, walk__meets, yes, env_of, free_all, returned, gets, tokens}
+use Rattle.model.specs.Calls.{Query, hours_query}
+use Rattle.promises.specs.Answers.{block_hours}
 use Rattle.hours.proofs.plan_hours as plan
 use Rattle.rows.specs.Planned.{QueryPlanned}
 use Rattle.rows.specs.declared.row.Row.{Row}
@@ -52,7 +52,7 @@ abbrev stayed : Stays (f.ended).signature.params (f.ended).kept
 stayed = (stay_none_slice (0 ∷ []) tt (plain (λ _. u8)) yes, (stay_none (λ _. usize) yes, (stay_none_slice (1 ∷ []) tt (ArrayOf (plain (λ _. u16)) (λ _. tt) 9) yes, (gave_slice (2 ∷ []) tt (plain (λ _. T.the_row)), tt))))
 
 abbrev ask : ℕ → List (List ℕ) → Query
-ask x hs = hoursQuery x (map blockHours hs)
+ask x hs = hours_query x (map block_hours hs)
 
 -- the contract of the plan
 abbrev plan-ended : ByValue → Ended
@@ -79,7 +79,7 @@ module _ (R : ByValue) (Plans : Query → List ℕ → ℕ → R.Denot → Type 
       {M : Type 1} {𝓤 : Ura M} (𝓛 : Logic 𝓤) (mem : Memory → SProp 𝓤) (run : Routine → Fun 𝓤) (𝓣 : Tables 𝓤 𝓛.H) (plans tells : Name) (known-plan : Triple 𝓤 (𝓣.C plans) (PlanC 𝓛)) (known-tell : Triple 𝓤 (𝓣.C tells) (TellOf R Asks Tells 𝓛)) where
     open 𝓛 use {H}
 
-    module _ (κ κh κr : Lft) (q qh qr : Share) (b o bh oh br or : ℕ) (γ γh γr : GName) (m : List ℕ) (x : ℕ) (hs : List (List ℕ)) (ys : List Row) (x_Fits : x < 2 ^ 64) where
+    module _ (κ κh κr : Lft) (q qh qr : Share) (b o bh oh br or : ℕ) (γ γh γr : GName) (m : List ℕ) (x : ℕ) (hs : List (List ℕ)) (ys : List Row) (x__fits : x < 2 ^ 64) where
       abbrev s : Val
       s = slice_val (b, o) (length m)
 
@@ -114,7 +114,7 @@ module _ (R : ByValue) (Plans : Query → List ℕ → ℕ → R.Denot → Type 
           suffices ! _ (ends_at 𝓛 f.ended stayed (f.clauses 𝓛 mem run) (((κ, (κh, (κr, tt))), (q, (qh, (qr, tt))), tt, a, vals), tt) w r (tt, (tt, (tt, (zs, tt)))) (tt, (tt, (tt, (l, tt))))) $ says ! e $
           nothing ! $ move ! (1 ∷ 0 ∷ []) $ join ! $ move ! (3 ∷ 0 ∷ []) $ join ! $ move ! (1 ∷ 0 ∷ []) $ join ! $ frame ! $
           -- [the rows' last list; what the memory owns; what the hours own]
-          nothing ! $ move ! (1 ∷ 0 ∷ []) $ fjoin ! $ move ! (2 ∷ 0 ∷ []) $ fjoin ! $ owned ! usize (Is usize) (uint_Makes 𝓛 w64) x _ (refl, x_Fits) $ fjoin ! $ move ! (1 ∷ 0 ∷ []) $ fjoin ! $
+          nothing ! $ move ! (1 ∷ 0 ∷ []) $ fjoin ! $ move ! (2 ∷ 0 ∷ []) $ fjoin ! $ owned ! usize (Is usize) (uint__makes 𝓛 w64) x _ (refl, x__fits) $ fjoin ! $ move ! (1 ∷ 0 ∷ []) $ fjoin ! $
           owned ! (type_of answer) (Is (type_of answer)) (answer.makes 𝓛) r _ is $ move ! (1 ∷ 0 ∷ []) $ done !
 
       -- what the plan's triple binds outside, and that the caller has what it asks
@@ -123,14 +123,14 @@ module _ (R : ByValue) (Plans : Query → List ℕ → ℕ → R.Denot → Type 
 
       goes-plan : Room T.the_row (length ys) → ent 𝓤 (⋆ 𝓛 (‵ (flft κ q) ∷ ‵ (flft κh qh) ∷ Bytes ∷ Hours ∷ [])) ((PlanC 𝓛).pre to-plan)
       goes-plan r-room =
-          qed 𝓛 (‵ (flft κ q) ∷ ‵ (flft κh qh) ∷ Bytes ∷ Hours ∷ []) ∵ nothing ! $ nothing ! $ owned ! usize (Is usize) (uint_Makes 𝓛 w64) (length ys) _ (refl, r-room.0) $ fjoin ! $ move ! (5 ∷ 0 ∷ []) $ fjoin ! $
-          owned ! usize (Is usize) (uint_Makes 𝓛 w64) x _ (refl, x_Fits) $ fjoin ! $ move ! (4 ∷ 0 ∷ []) $ fjoin ! $ nothing ! $ move ! (4 ∷ 0 ∷ []) $ join ! $ move ! (3 ∷ 0 ∷ []) $ join ! $ join ! $ done !
+          qed 𝓛 (‵ (flft κ q) ∷ ‵ (flft κh qh) ∷ Bytes ∷ Hours ∷ []) ∵ nothing ! $ nothing ! $ owned ! usize (Is usize) (uint__makes 𝓛 w64) (length ys) _ (refl, r-room.0) $ fjoin ! $ move ! (5 ∷ 0 ∷ []) $ fjoin ! $
+          owned ! usize (Is usize) (uint__makes 𝓛 w64) x _ (refl, x__fits) $ fjoin ! $ move ! (4 ∷ 0 ∷ []) $ fjoin ! $ nothing ! $ move ! (4 ∷ 0 ∷ []) $ join ! $ move ! (3 ∷ 0 ∷ []) $ join ! $ join ! $ done !
 
       walk : Room u8 (length m) → Room Nine (length hs) → Room T.the_row (length ys) → ent 𝓤 (on_entry 𝓛 f.signature (κ, (κh, (κr, tt))) (q, (qh, (qr, tt))) a vals) (WpFn 𝓤 H 𝓣.C 𝓣.Λ (function R plans tells) (s ∷ vint w64 x ∷ sh ∷ sr ∷ []) Post)
       walk room h-room r-room =
           qed 𝓛 ((‵ (flft κ q) ⊛ (‵ (flft κh qh) ⊛ (‵ (flft κr qr) ⊛ ‵ ftrue))) ∷ ‵ (owns (ShrSlice (named 0) κ u8 ∷ usize ∷ ShrSlice (named 1) κh Nine ∷ MutSlice (named 2) κr T.the_row ∷ []) a vals) ∷ []) ∵ enter ! 𝓣.C 𝓣.Λ (function R plans tells) (s ∷ vint w64 x ∷ sh ∷ sr ∷ []) _ $
           alloc1 ! (λ l₀. alloc1 ! (λ l₁. alloc1 ! (λ l₂. alloc1 ! (λ l₃. alloc1 ! (λ l₄. alloc1 ! (λ l₅. alloc1 ! (λ l₆. alloc1 ! (λ l₇. alloc1 ! (λ l₈. alloc0 ! $ params1 ! $
-          pass1 ! (init ! 14 refl (tt, (tt, (record { fits = room.0 }, tt)))) $ pass1 ! (init ! 12 refl (tt, record { fits = x_Fits })) $ pass1 ! (init ! 10 refl (tt, (tt, (record { fits = h-room.0 }, tt)))) $ pass1 ! (init ! 8 refl (tt, (tt, (record { fits = r-room.0 }, tt)))) $ pass0 ! $
+          pass1 ! (init ! 14 refl (tt, (tt, (record { fits = room.0 }, tt)))) $ pass1 ! (init ! 12 refl (tt, record { fits = x__fits })) $ pass1 ! (init ! 10 refl (tt, (tt, (record { fits = h-room.0 }, tt)))) $ pass1 ! (init ! 8 refl (tt, (tt, (record { fits = r-room.0 }, tt)))) $ pass0 ! $
           -- [_8; …; _0; …; the tokens; what the parameters own]
           assigns ! (of_opd ! (load ! (from ! (fld ! refl (stop !))) (look_in ! 8 (sub ! 1 refl (whole !))))) (from ! (stop !)) (init ! 4 refl (tt, record { fits = r-room.0 })) $
           move ! (19 ∷ []) $ fsplit ! $ move ! (1 ∷ []) $ fsplit ! $ drop ! $ fsplit ! $ move ! (1 ∷ []) $ fsplit ! $ move ! (1 ∷ []) $ drop ! $
@@ -153,16 +153,16 @@ module _ (R : ByValue) (Plans : Query → List ℕ → ℕ → R.Denot → Type 
           -- [the tokens of the rows and of the memory; the rows' last list; the hours' token; what the memory owns; what the hours own; _8; …]
           land ! (from ! (stop !)) (init ! 22 refl (answer.typed 𝓛 r _ is₁)) $
           returns ! (look ! 22 refl) $ forget ! 6 refl $ forget ! 8 refl $ forget ! 10 refl $ forget ! 12 refl $ forget ! 14 refl $ forget ! 16 refl $ forget ! 18 refl $ forget ! 20 refl $ forget ! 22 refl $
-          move ! (22 ∷ 23 ∷ 20 ∷ 21 ∷ 18 ∷ 19 ∷ 16 ∷ 17 ∷ 14 ∷ 15 ∷ 12 ∷ 13 ∷ 10 ∷ 11 ∷ 8 ∷ 9 ∷ 6 ∷ 7 ∷ []) $ free_all ! (envOf 𝓤 H (function R plans tells).locals (l₀ ∷ l₁ ∷ l₂ ∷ l₃ ∷ l₄ ∷ l₅ ∷ l₆ ∷ l₇ ∷ l₈ ∷ [])) $
+          move ! (22 ∷ 23 ∷ 20 ∷ 21 ∷ 18 ∷ 19 ∷ 16 ∷ 17 ∷ 14 ∷ 15 ∷ 12 ∷ 13 ∷ 10 ∷ 11 ∷ 8 ∷ 9 ∷ 6 ∷ 7 ∷ []) $ free_all ! (env_of 𝓤 H (function R plans tells).locals (l₀ ∷ l₁ ∷ l₂ ∷ l₃ ∷ l₄ ∷ l₅ ∷ l₆ ∷ l₇ ∷ l₈ ∷ [])) $
           by ! (ends r w₁ zs (keeps (ask x hs) p m ys zs r e e₁) l is₁)))))))))))))
 
     meets : Meets 𝓛 f.signature (WpFn 𝓤 H 𝓣.C 𝓣.Λ (function R plans tells)) (f.spec 𝓛 mem run)
     meets =
-        walk_Meets 𝓛 f.ended stayed
+        walk__meets 𝓛 f.ended stayed
         (Goes-none_slice 𝓛 3 (0 ∷ []) tt (plain (λ _. u8)) yes, (Goes-none 𝓛 3 (λ _. usize) yes (λ κs x f. refl), (Goes-none_slice 𝓛 3 (1 ∷ []) tt (ArrayOf (plain (λ _. u16)) (λ _. tt) 9) yes, (Goes-gave_slice 𝓛 3 2 tt (plain (λ _. T.the_row)), tt)))) (f.clauses 𝓛 mem run)
         (WpFn 𝓤 H 𝓣.C 𝓣.Λ (function R plans tells)) (WpFn-mono 𝓤 H 𝓛.laws 𝓣 (function R plans tells))
         (walked 𝓛 f.ended stayed (f.clauses 𝓛 mem run) (WpFn 𝓤 H 𝓣.C 𝓣.Λ (function R plans tells)) (λ κs. (shr_slice_vals, (uint_vals w64, (shr_slice_vals, (shr_slice_vals, tt)))))
-        (λ κs. (shr_slice_Tells (named 0) κs.0 u8, (uint_Tells w64, (shr_slice_Tells (named 1) κs.1.0 Nine, (mut_slice_Tells (named 2) κs.1.1.0 T.the_row, tt)))))
+        (λ κs. (shr_slice__tells (named 0) κs.0 u8, (uint__tells w64, (shr_slice__tells (named 1) κs.1.0 Nine, (mut_slice__tells (named 2) κs.1.1.0 T.the_row, tt)))))
         (λ κs qs bounds a g are. via 𝓤 _ (fst∗ 𝓤 _ (emp 𝓤))
         (walk κs.0 κs.1.0 κs.1.1.0 qs.0 qs.1.0 qs.1.1.0 a.0.ptr.0 a.0.ptr.1 a.1.1.0.ptr.0 a.1.1.0.ptr.1 a.1.1.1.0.ptr.0 a.1.1.1.0.ptr.1 a.0.name a.1.1.0.name a.1.1.1.0.name
         a.0.now a.1.0 a.1.1.0.now a.1.1.1.0.now are.1.0.1 are.0.0.1 are.1.1.0.0.1 are.1.1.1.0.0.1)))

@@ -3,7 +3,7 @@
 use types.Logic.{Logic}
 use denote.Slice.{shr_slice_vals, mut_slice_vals}
 use denote.Ref.{Bor}
-use Rattle.calls.proofs.Steps.{List, [], ◌∷◌, ◌≡◌, refl, ℕ, length, Ura, Name, Fn, Ty, named, erased, imm, mut, w8, w64, ty_int, ty_ref, deref, field, place, copy, local, value_local, assign, rv_opd, addr_of, aggregate, call, seq, return, Val, vint, SProp, ent, emp, id⊢, via, fst∗, Lft, Share, GName, ftrue, flft, WpFn, Tables, Memory, Routine, Fun, fact, tables, tables_of, Item, ‵, raw, ◌⊛◌, ⋆, ◌$◌, ◌∵◌, !, qed, by, move, drop, group, use1, split, join, fsplit, fjoin, suffices, frame, done, agg, whole, sub, look_in, look, init, forget, stop, hop, fld, from, load, addr, of_opd, and_then, no_more, assigns, land, returns, enter, alloc1, alloc0, params1, pass1, pass0, fm_of, WpFn-mono, owns, Is, uint_Makes, u8, usize, SliceRefOf, pointee, RefT, slice_ty, slice_val, slice-vals, mut_slice_Tells, shr_slice_Tells, shr_slice_copy, MutSlice, ShrSlice, Room, finally, owned, nothing, plain, Clauses, Ended, closing, on_entry, Meets, triple_of, Contract, Triple, calls_at, entered, cited, says, Stays, stay_none_slice, gave_slice, walk_of, Goes-none_slice, Goes-gave_slice, ends_at, walked, walk_Meets, yes, envOf, free_all, returned, gets}
+use Rattle.calls.proofs.Steps.{List, [], ◌∷◌, ◌≡◌, refl, ℕ, length, Ura, Name, Fn, Ty, named, erased, imm, mut, w8, w64, ty_int, ty_ref, deref, field, place, copy, local, value_local, assign, rv_opd, addr_of, aggregate, call, seq, return, Val, vint, SProp, ent, emp, id⊢, via, fst∗, Lft, Share, GName, ftrue, flft, WpFn, Tables, Memory, Routine, Fun, fact, tables, tables_of, Item, ‵, raw, ◌⊛◌, ⋆, ◌$◌, ◌∵◌, !, qed, by, move, drop, group, use1, split, join, fsplit, fjoin, suffices, frame, done, agg, whole, sub, look_in, look, init, forget, stop, hop, fld, from, load, addr, of_opd, and_then, no_more, assigns, land, returns, enter, alloc1, alloc0, params1, pass1, pass0, fm_of, WpFn-mono, owns, Is, uint__makes, u8, usize, SliceRefOf, pointee, RefT, slice_ty, slice_val, slice-vals, mut_slice__tells, shr_slice__tells, shr_slice_copy, MutSlice, ShrSlice, Room, finally, owned, nothing, plain, Clauses, Ended, closing, on_entry, Meets, triple_of, Contract, Triple, calls_at, entered, cited, says, Stays, stay_none_slice, gave_slice, walk_of, Goes-none_slice, Goes-gave_slice, ends_at, walked, walk__meets, yes, env_of, free_all, returned, gets}
 use Rattle.model.specs.Calls.{list}
 use Rattle.rows.specs.Planned.{QueryPlanned}
 use Rattle.rows.specs.declared.row.Row.{Row}
@@ -93,7 +93,7 @@ module _ (R : ByValue) (Plans : List ℕ → ℕ → R.Denot → Type 0) where
 
       goes-plan : Room T.the_row (length ys) → ent 𝓤 (⋆ 𝓛 (‵ (flft κ q) ∷ Bytes ∷ [])) ((PlanC 𝓛).pre to-plan)
       goes-plan r-room =
-          qed 𝓛 (‵ (flft κ q) ∷ Bytes ∷ []) ∵ nothing ! $ nothing ! $ owned ! usize (Is usize) (uint_Makes 𝓛 w64) (length ys) _ (refl, r-room.0) $ fjoin ! $
+          qed 𝓛 (‵ (flft κ q) ∷ Bytes ∷ []) ∵ nothing ! $ nothing ! $ owned ! usize (Is usize) (uint__makes 𝓛 w64) (length ys) _ (refl, r-room.0) $ fjoin ! $
           move ! (3 ∷ 0 ∷ []) $ fjoin ! $ nothing ! $ move ! (3 ∷ 0 ∷ []) $ join ! $ join ! $ done !
 
       walk : Room u8 (length m) → Room T.the_row (length ys) → ent 𝓤 (on_entry 𝓛 f.signature (κ, (κr, tt)) (q, (qr, tt)) a vals) (WpFn 𝓤 H 𝓣.C 𝓣.Λ (function R plans tells) (s ∷ sr ∷ []) Post)
@@ -121,14 +121,14 @@ module _ (R : ByValue) (Plans : List ℕ → ℕ → R.Denot → Type 0) where
           -- [the tokens; the rows' last list; what the memory owns; _6; …]
           land ! (from ! (stop !)) (init ! 16 refl (answer.typed 𝓛 r _ is₁)) $
           returns ! (look ! 16 refl) $ forget ! 4 refl $ forget ! 6 refl $ forget ! 8 refl $ forget ! 10 refl $ forget ! 12 refl $ forget ! 14 refl $ forget ! 16 refl $
-          move ! (16 ∷ 17 ∷ 14 ∷ 15 ∷ 12 ∷ 13 ∷ 10 ∷ 11 ∷ 8 ∷ 9 ∷ 6 ∷ 7 ∷ 4 ∷ 5 ∷ []) $ free_all ! (envOf 𝓤 H (function R plans tells).locals (l₀ ∷ l₁ ∷ l₂ ∷ l₃ ∷ l₄ ∷ l₅ ∷ l₆ ∷ [])) $
+          move ! (16 ∷ 17 ∷ 14 ∷ 15 ∷ 12 ∷ 13 ∷ 10 ∷ 11 ∷ 8 ∷ 9 ∷ 6 ∷ 7 ∷ 4 ∷ 5 ∷ []) $ free_all ! (env_of 𝓤 H (function R plans tells).locals (l₀ ∷ l₁ ∷ l₂ ∷ l₃ ∷ l₄ ∷ l₅ ∷ l₆ ∷ [])) $
           by ! (ends r w₁ zs (keeps p m ys zs r e e₁) l is₁)))))))))))
 
     meets : Meets 𝓛 f.signature (WpFn 𝓤 H 𝓣.C 𝓣.Λ (function R plans tells)) (f.spec 𝓛 mem run)
     meets =
-        walk_Meets 𝓛 f.ended stayed (Goes-none_slice 𝓛 2 (0 ∷ []) tt (plain (λ _. u8)) yes, (Goes-gave_slice 𝓛 2 1 tt (plain (λ _. T.the_row)), tt)) (f.clauses 𝓛 mem run)
+        walk__meets 𝓛 f.ended stayed (Goes-none_slice 𝓛 2 (0 ∷ []) tt (plain (λ _. u8)) yes, (Goes-gave_slice 𝓛 2 1 tt (plain (λ _. T.the_row)), tt)) (f.clauses 𝓛 mem run)
         (WpFn 𝓤 H 𝓣.C 𝓣.Λ (function R plans tells)) (WpFn-mono 𝓤 H 𝓛.laws 𝓣 (function R plans tells))
-        (walked 𝓛 f.ended stayed (f.clauses 𝓛 mem run) (WpFn 𝓤 H 𝓣.C 𝓣.Λ (function R plans tells)) (λ κs. (shr_slice_vals, (mut_slice_vals, tt))) (λ κs. (shr_slice_Tells (named 0) κs.0 u8, (mut_slice_Tells (named 1) κs.1.0 T.the_row, tt)))
+        (walked 𝓛 f.ended stayed (f.clauses 𝓛 mem run) (WpFn 𝓤 H 𝓣.C 𝓣.Λ (function R plans tells)) (λ κs. (shr_slice_vals, (mut_slice_vals, tt))) (λ κs. (shr_slice__tells (named 0) κs.0 u8, (mut_slice__tells (named 1) κs.1.0 T.the_row, tt)))
         (λ κs qs bounds a g are. via 𝓤 _ (fst∗ 𝓤 _ (emp 𝓤))
         (walk κs.0 κs.1.0 qs.0 qs.1.0 a.0.ref_ptr.0 a.0.ref_ptr.1 a.1.0.ref_ptr.0 a.1.0.ref_ptr.1 a.0.ghost_name a.1.0.ghost_name a.0.now a.1.0.now are.0.0.1 are.1.0.0.1)))
 

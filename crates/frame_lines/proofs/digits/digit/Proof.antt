@@ -1,16 +1,16 @@
 -- `digits::digit` meets its contract. Assumes nothing.
 use borrow.Author.Rules.{rules}
 use borrow.Author.Tests.{lt-ltb, le-ltb}
-use Rattle.frame_lines.specs.Digits.{digitOf}
+use Rattle.frame_lines.specs.Digits.{digit_of}
 use Rattle.frame_lines.proofs.digits.digit.Statement.{statement}
 use Rattle.frame_lines.proofs.digits.digit.Tie as tie
 
 returns : tie.Need-returns
-unfolding digitOf
+unfolding digit_of
 returns c = simp (lt-ltb _ _ c.if1.true)
 
 returns-2 : tie.Need-returns-2
-unfolding digitOf
+unfolding digit_of
 returns-2 c = simp (le-ltb _ _ c.if1.false)
 
 pub digit-spec : {M : Type 1} → statement M

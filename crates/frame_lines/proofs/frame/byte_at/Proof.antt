@@ -2,12 +2,12 @@
 use borrow.Author.Rules.{rules}
 use Prim.Native.Nat.{ℕ, ◌+◌, ◌*◌}
 use mathlib.Core.Path.{ap₂}
-use Rattle.frame_lines.specs.Reading.{byteAt}
+use Rattle.frame_lines.specs.Reading.{byte_at}
 use Rattle.frame_lines.proofs.frame.byte_at.Statement.{statement}
 use Rattle.frame_lines.proofs.frame.byte_at.Tie as tie
 
 returns : tie.Need-returns
-unfolding byteAt
+unfolding byte_at
 returns c = ap₂ (λ (h l : ℕ). h * 16 + l) c.before.value.ensures.0 c.value2.ensures.0
 
 pub byte-at-spec : {M : Type 1} → statement M

@@ -3,14 +3,14 @@ use borrow.Author.Rules.{rules}
 use Prim.Native.Nat.{ℕ}
 use mathlib.Core.List.{List}
 use mathlib.Core.Path.{sym, ap₂, subst, ◌∙◌}
-use Rattle.frame_lines.specs.Reading.{byteAt, framed, asFrame, Timely, lineKind}
+use Rattle.frame_lines.specs.Reading.{byte_at, framed, as_frame, Timely, line_kind}
 use Rattle.frame_lines.specs.Laws.Frames.{found-line, timely-kind}
 use Rattle.frame_lines.specs.declared.frame.FrameKind.{FrameKind}
 use Rattle.frame_lines.proofs.frame.frame_of.Statement.{statement}
 use Rattle.frame_lines.proofs.frame.frame_of.Tie as tie
 
 returns : tie.Need-returns
-unfolding asFrame
+unfolding as_frame
 returns c =
     let a = c.before.before.before.before.before.args in
     let kind = c.before.before.before.line-kind in
@@ -20,7 +20,7 @@ returns c =
     record {
       frame = λ s line costs-held j.
           ap₂ (λ (k : FrameKind) (n : ℕ). framed k n number.result costs.result) kind.ensures asked.ensures
-          ∙ ap₂ (λ (n : ℕ) (cs : List ℕ). framed (lineKind a.d a.line) (byteAt a.line.first 1) n cs) number.ensures costs.ensures
+          ∙ ap₂ (λ (n : ℕ) (cs : List ℕ). framed (line_kind a.d a.line) (byte_at a.line.first 1) n cs) number.ensures costs.ensures
           ∙ found-line line a.line j s a.d costs-held c.before.before.before.before.before.requires;
       timely = subst (Timely a.d) (sym kind.ensures) (timely-kind a.d a.line);
     }

@@ -2,12 +2,12 @@
 use borrow.Author.Rules.{rules}
 use Prim.Native.Nat.{ℕ, ◌+◌, ◌*◌}
 use mathlib.Core.Path.{ap₂}
-use Rattle.frame_lines.specs.Reading.{wordSpelled}
+use Rattle.frame_lines.specs.Reading.{word_spelled}
 use Rattle.frame_lines.proofs.frame.word_at.Statement.{statement}
 use Rattle.frame_lines.proofs.frame.word_at.Tie as tie
 
 returns : tie.Need-returns
-unfolding wordSpelled
+unfolding word_spelled
 returns c = ap₂ (λ (h l : ℕ). h * 256 + l) c.before.byte_at.ensures c.byte-at2.ensures
 
 pub word-at-spec : {M : Type 1} → statement M

@@ -9,19 +9,19 @@ use native.Mathlib.Omega.{arith}
 use lib.Dec.{eqb}
 use lib.ListN.{length, get_or, set}
 use lib.Seq.{get_or-set_same, get_or-set_other}
-use Rattle.model.specs.Laws.Bool.{testCases}
-use Rattle.frame_lines.specs.Reading.{mostDigits, ByteKept}
+use Rattle.model.specs.Laws.Bool.{test_cases}
+use Rattle.frame_lines.specs.Reading.{most_digits, ByteKept}
 use Rattle.frame_lines.proofs.reading.placed.Statement.{statement}
 use Rattle.frame_lines.proofs.reading.placed.Tie as tie
 
 put : (first : List ℕ) (n b : ℕ) → n < length first → ByteKept first n b (set first n b)
 unfolding ByteKept
 put first n b room i h =
-    testCases (λ (x : Bool). get_or (set first n b) i 0 ≡ cond x b (get_or first i 0)) (eqb i n)
+    test_cases (λ (x : Bool). get_or (set first n b) i 0 ≡ cond x b (get_or first i 0)) (eqb i n)
     (λ e. ap (λ (k : ℕ). get_or (set first n b) k 0) (eqb-true i n e) ∙ get_or-set_same first n b 0 room)
     (λ e. get_or-set_other first n i b 0 (eqb-false i n e))
 
-past : (first : List ℕ) (n b : ℕ) → mostDigits ≤ n → ByteKept first n b first
+past : (first : List ℕ) (n b : ℕ) → most_digits ≤ n → ByteKept first n b first
 unfolding ByteKept
 past first n b full i h = ap (λ (x : Bool). cond x b (get_or first i 0)) (sym (ne_eqb i n (λ z. omega arith)))
 

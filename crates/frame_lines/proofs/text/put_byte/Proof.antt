@@ -3,7 +3,7 @@ use borrow.Author.Rules.{rules}
 use native.Mathlib.Omega.{arith}
 use lib.ListN.{length-set}
 use Rattle.frame_lines.specs.Laws.Put.{put_two, put_as}
-use Rattle.frame_lines.specs.Laws.Texts.{byteText-digits}
+use Rattle.frame_lines.specs.Laws.Texts.{byte_text-digits}
 use Rattle.frame_lines.proofs.text.put_byte.Statement.{statement}
 use Rattle.frame_lines.proofs.text.put_byte.Tie as tie
 
@@ -14,7 +14,7 @@ returns : tie.Need-returns
 returns c =
     let a = c.before.before.before.args in
     put_as
-    (byteText-digits a.n _ _ c.before.digit.ensures c.digit2.ensures)
+    (byte_text-digits a.n _ _ c.before.digit.ensures c.digit2.ensures)
     (put_two _ _ _ _ (omega arith))
 
 pub put-byte-spec : {M : Type 1} → statement M

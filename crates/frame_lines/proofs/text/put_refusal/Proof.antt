@@ -3,8 +3,8 @@ use borrow.Author.Rules.{rules}
 use native.Mathlib.Omega.{arith}
 use Rattle.frame_lines.specs.Laws.Put.{put_one, put_both}
 use Rattle.frame_lines.specs.Laws.Texts.{head-length}
-use Rattle.frame_lines.specs.Text.{saidText, answerText}
-use Rattle.frame_lines.specs.Put.{headText}
+use Rattle.frame_lines.specs.Text.{said_text, answer_text}
+use Rattle.frame_lines.specs.Put.{head_text}
 use Rattle.frame_lines.proofs.text.put_refusal.Statement.{statement}
 use Rattle.frame_lines.proofs.text.put_refusal.Tie as tie
 
@@ -19,7 +19,7 @@ add-result c =
     omega (arith, head-length a.number a.detail)
 
 returns : tie.Need-returns
-unfolding headText saidText answerText
+unfolding head_text said_text answer_text
 returns c = put_both c.before.before.put-head.ensures (put_one _ _ _ (slice-write-out c))
 
 pub put-refusal-spec : {M : Type 1} → statement M

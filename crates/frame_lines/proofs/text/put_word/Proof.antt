@@ -4,17 +4,17 @@ use Prim.Native.Nat.{◌/◌}
 use mathlib.Core.Path.{◌∙◌}
 use native.Mathlib.Omega.{arith}
 use Rattle.frame_lines.specs.Laws.Put.{put_both}
-use Rattle.frame_lines.specs.Laws.Texts.{byteText-length}
-use Rattle.frame_lines.specs.Text.{wordText}
+use Rattle.frame_lines.specs.Laws.Texts.{byte_text-length}
+use Rattle.frame_lines.specs.Text.{word_text}
 use Rattle.frame_lines.proofs.text.put_word.Statement.{statement}
 use Rattle.frame_lines.proofs.text.put_word.Tie as tie
 
 put-byte-requires-2 : tie.Need-put-byte-requires-2
 put-byte-requires-2 c κs =
-    omega (arith, byteText-length (c.before.before.before.before.before.before.args.n / 256))
+    omega (arith, byte_text-length (c.before.before.before.before.before.before.args.n / 256))
 
 returns : tie.Need-returns
-unfolding wordText
+unfolding word_text
 returns c =
     put_both c.before.before.before.before.before.before.put_byte.ensures c.before.before.put-byte2.ensures
 

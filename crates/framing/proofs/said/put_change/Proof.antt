@@ -5,27 +5,27 @@ use mathlib.Core.Path.{◌≡◌, sym, ap, ◌∙◌}
 use native.Mathlib.Omega.{arith}
 use lib.ListN.{length-set}
 use Rattle.rows.specs.declared.telling.Telling.{Telling}
-use Rattle.frame_lines.specs.Reading.{mostDigits}
-use Rattle.frame_lines.specs.Text.{rowsText}
+use Rattle.frame_lines.specs.Reading.{most_digits}
+use Rattle.frame_lines.specs.Text.{rows_text}
 use Rattle.frame_lines.specs.Put.{TextPut}
-use Rattle.framing.specs.Writing.{tellingRows, changeSaid}
+use Rattle.framing.specs.Writing.{telling_rows, change_said}
 use Rattle.frame_lines.specs.Laws.Put.{put_as}
 use Rattle.framing.specs.Laws.Said.{refused-text, left-rows, entered-rows, change-end, change-put}
 use Rattle.framing.proofs.said.put_change.Statement.{statement}
 use Rattle.framing.proofs.said.put_change.Tie as tie
 
-enough : (count long : ℕ) → 6 + mostDigits * count + 1 ≤ long → 7 ≤ long
+enough : (count long : ℕ) → 6 + most_digits * count + 1 ≤ long → 7 ≤ long
 enough count long room = omega arith
 
-enough-head : (count long : ℕ) → 6 + mostDigits * count + 1 ≤ long → 6 ≤ long
+enough-head : (count long : ℕ) → 6 + most_digits * count + 1 ≤ long → 6 ≤ long
 enough-head count long room = omega arith
 
 -- The rows of a telling that is the same.
-told-as : (d : ℕ) (m : List ℕ) (t u : Telling) {o o' : List ℕ} {i j : ℕ} → t ≡ u → TextPut (rowsText d (tellingRows t m)) o i o' j → TextPut (rowsText d (tellingRows u m)) o i o' j
-told-as d m t u same = put_as (ap (λ (t : Telling). rowsText d (tellingRows t m)) same)
+told-as : (d : ℕ) (m : List ℕ) (t u : Telling) {o o' : List ℕ} {i j : ℕ} → t ≡ u → TextPut (rows_text d (telling_rows t m)) o i o' j → TextPut (rows_text d (telling_rows u m)) o i o' j
+told-as d m t u same = put_as (ap (λ (t : Telling). rows_text d (telling_rows t m)) same)
 
 returns : tie.Need-returns
-unfolding changeSaid
+unfolding change_said
 returns c =
     let a = c.before.before.before.before.before.before.before.before.before.args in
     put_as

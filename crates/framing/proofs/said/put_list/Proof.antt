@@ -3,23 +3,23 @@ use Prim.Native.Nat.{ℕ, ◌+◌, ◌*◌, ◌≤◌}
 use mathlib.Core.Path.{sym, ap, ◌∙◌}
 use native.Mathlib.Omega.{arith}
 use lib.ListN.{length-set}
-use Rattle.frame_lines.specs.Reading.{mostDigits}
-use Rattle.frame_lines.specs.Text.{wordText}
-use Rattle.framing.specs.Writing.{listSaid}
+use Rattle.frame_lines.specs.Reading.{most_digits}
+use Rattle.frame_lines.specs.Text.{word_text}
+use Rattle.framing.specs.Writing.{list_said}
 use Rattle.frame_lines.specs.Laws.Put.{put_as}
-use Rattle.frame_lines.specs.Laws.Texts.{wordText-low, head-length}
+use Rattle.frame_lines.specs.Laws.Texts.{word_text-low, head-length}
 use Rattle.framing.specs.Laws.Said.{refused-text, list-rows, list-end, list_put}
 use Rattle.framing.proofs.said.put_list.Statement.{statement}
 use Rattle.framing.proofs.said.put_list.Tie as tie
 
-enough : (count long : ℕ) → 10 + mostDigits * count + 1 ≤ long → 7 ≤ long
+enough : (count long : ℕ) → 10 + most_digits * count + 1 ≤ long → 7 ≤ long
 enough count long room = omega arith
 
-enough-head : (count long : ℕ) → 10 + mostDigits * count + 1 ≤ long → 6 ≤ long
+enough-head : (count long : ℕ) → 10 + most_digits * count + 1 ≤ long → 6 ≤ long
 enough-head count long room = omega arith
 
 returns : tie.Need-returns
-unfolding listSaid
+unfolding list_said
 returns c =
     let a = c.before.before.before.before.before.before.before.before.before.before.args in
     put_as
@@ -35,13 +35,13 @@ put-told-requires : tie.Need-put-told-requires
 put-told-requires c κs =
     let start = c.before.before.before.before.before.before.before.before.before.before.before.before.before.before.before.before in
     list-rows start.requires c.before.before.before.before.before.before.before.before.put-head.ensures
-    (put_as (ap wordText c.before.before.before.before.two_bytes.ensures ∙ wordText-low start.args.p.opened) c.before.before.before.put_word.ensures)
+    (put_as (ap word_text c.before.before.before.before.two_bytes.ensures ∙ word_text-low start.args.p.opened) c.before.before.before.put_word.ensures)
 
 slice-write-out : tie.Need-slice-write-out
 slice-write-out c =
     let start = c.before.before.before.before.before.before.before.before.before.before.before.before.before.before.before.before.before.before.before in
     list-end start.requires c.before.before.before.before.before.before.before.before.before.before.before.put-head.ensures
-    (put_as (ap wordText c.before.before.before.before.before.before.before.two_bytes.ensures ∙ wordText-low start.args.p.opened) c.before.before.before.before.before.before.put_word.ensures)
+    (put_as (ap word_text c.before.before.before.before.before.before.before.two_bytes.ensures ∙ word_text-low start.args.p.opened) c.before.before.before.before.before.before.put_word.ensures)
     c.before.before.put-told.ensures
 
 add-result : tie.Need-overflow-add-result
@@ -58,7 +58,7 @@ returns-2 : tie.Need-returns-2
 returns-2 c =
     let start = c.before.before.before.before.before.before.before.before.before.before.before.before.before.before.before.before.before.before.before in
     list_put start.requires c.before.before.before.before.before.before.before.before.before.before.before.put-head.ensures
-    (put_as (ap wordText c.before.before.before.before.before.before.before.two_bytes.ensures ∙ wordText-low start.args.p.opened) c.before.before.before.before.before.before.put_word.ensures)
+    (put_as (ap word_text c.before.before.before.before.before.before.before.two_bytes.ensures ∙ word_text-low start.args.p.opened) c.before.before.before.before.before.before.put_word.ensures)
     c.before.before.put-told.ensures
     (sym c.before.before.before.before.before.before.before.before.before.before.before.before.before.before.number_of_lem.ensures ∙ c.before.before.before.before.before.before.before.before.before.before.before.before.before.if1.false)
 

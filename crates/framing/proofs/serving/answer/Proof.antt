@@ -1,10 +1,10 @@
 -- `serving::answer` meets its contract. Assumes nothing.
 use borrow.Author.Rules.{rules}
 use mathlib.Core.Path.{refl, ap}
-use Rattle.planning.specs.Kind.{changeOf}
+use Rattle.planning.specs.Kind.{change_of}
 use Rattle.planning.specs.declared.change.Kind.TheVariants as change
 use Rattle.framing.specs.Laws.Serving.{ready-most, answers-line, asked-now, change-frame, serve-as, served-early, served-wrong}
-use Rattle.frame_lines.specs.Reading.{framed, asFrame, calling}
+use Rattle.frame_lines.specs.Reading.{framed, as_frame, calling}
 use Rattle.frame_lines.specs.declared.frame.FrameKind.{FrameKind}
 use Rattle.frame_lines.specs.declared.frame.FrameKind.TheVariants.{Enter, Withdraw, Recost}
 use Rattle.framing.proofs.serving.answer.Statement.{statement}
@@ -14,7 +14,7 @@ frame-of-requires : tie.Need-frame-of-requires
 frame-of-requires c κs = ready-most _ _ c.before.before.requires.0
 
 returns : tie.Need-returns
-unfolding asFrame framed
+unfolding as_frame framed
 returns c =
     let start = c.before.before.before.before.before.before.before.before.before.before.before.before in
     let found = c.before.before.before.before.before.before.before.before.before.frame-of in
@@ -53,7 +53,7 @@ change-requires-3 c κs =
     asked-now found.result.kind start.requires.0 found.ensures.timely start.requires.1 (ap calling c.before.before.before.enum-told7.given.1)
 
 returns-2 : tie.Need-returns-2
-unfolding asFrame framed
+unfolding as_frame framed
 returns-2 c =
     let start = c.before.before.before.before.before.before.before.before.before.before in
     let found = c.before.before.before.before.before.before.before.frame-of in
@@ -64,7 +64,7 @@ returns-2 c =
     c.before.before.listed.ensures)
 
 returns-3 : tie.Need-returns-3
-unfolding asFrame framed
+unfolding as_frame framed
 returns-3 c =
     let start = c.before.before.before.before.before.before.before.before.before in
     let found = c.before.before.before.before.before.before.frame-of in
@@ -75,7 +75,7 @@ returns-3 c =
     (served-early _ _ _ _ _ c.before.before.put-refusal.ensures))
 
 returns-4 : tie.Need-returns-4
-unfolding asFrame framed
+unfolding as_frame framed
 returns-4 c =
     let start = c.before.before.before.before.before.before.before.before.before in
     let found = c.before.before.before.before.before.before.frame-of in
@@ -86,7 +86,7 @@ returns-4 c =
     (served-wrong _ _ _ _ _ c.before.before.put-refusal2.ensures))
 
 returns-5 : tie.Need-returns-5
-unfolding framed changeOf
+unfolding framed change_of
 returns-5 c =
     let start = c.before.before.before.before.before.before.before.before.before.before.before.before.before in
     let found = c.before.before.before.before.before.before.before.before.before.before.frame-of in
@@ -96,7 +96,7 @@ returns-5 c =
     c.before.before.before.before.change.ensures)
 
 returns-6 : tie.Need-returns-6
-unfolding framed changeOf
+unfolding framed change_of
 returns-6 c =
     let start = c.before.before.before.before.before.before.before.before.before.before.before.before.before in
     let found = c.before.before.before.before.before.before.before.before.before.before.frame-of in
@@ -106,7 +106,7 @@ returns-6 c =
     c.before.before.before.before.change2.ensures)
 
 returns-7 : tie.Need-returns-7
-unfolding framed changeOf
+unfolding framed change_of
 returns-7 c =
     let start = c.before.before.before.before.before.before.before.before.before.before.before.before.before in
     let found = c.before.before.before.before.before.before.before.before.before.before.frame-of in

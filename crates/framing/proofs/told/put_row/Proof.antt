@@ -5,22 +5,22 @@ use Prim.Native.Nat.{ℕ, ◌+◌, ◌-◌, ◌≤◌, ◌<◌}
 use mathlib.Core.Path.{◌≡◌, ◌∙◌, ap}
 use mathlib.Core.List.{◌++◌, flat_map}
 use Rattle.frame_lines.specs.Laws.Put.{put-none, put_both, put_as}
-use Rattle.frame_lines.specs.Laws.Texts.{byteText-length}
+use Rattle.frame_lines.specs.Laws.Texts.{byte_text-length}
 use Rattle.framing.specs.Laws.Rows.{numbers_more, numbers-length, numbers-all}
-use Rattle.frame_lines.specs.Reading.{mostDigits}
-use Rattle.frame_lines.specs.Text.{byteText, wordText}
+use Rattle.frame_lines.specs.Reading.{most_digits}
+use Rattle.frame_lines.specs.Text.{byte_text, word_text}
 use Rattle.frame_lines.specs.Put.{TextPut}
 use Rattle.framing.proofs.told.put_row.Statement.{statement}
 use Rattle.framing.proofs.told.put_row.Tie as tie
 
 abbrev invariant-loop : tie.invariant-loop
 invariant-loop out₀ at d row next₀ j₀ out next j =
-    (j ≤ d + 1) × TextPut (flat_map wordText (take j (drop 1 row))) out₀ next₀ out next
+    (j ≤ d + 1) × TextPut (flat_map word_text (take j (drop 1 row))) out₀ next₀ out next
 
 abbrev decreases-loop : tie.decreases-loop
 decreases-loop out₀ at d row next₀ j₀ out next j = d + 1 - j
 
-room-byte : (at long : ℕ) → at + mostDigits ≤ long → at + 2 ≤ long
+room-byte : (at long : ℕ) → at + most_digits ≤ long → at + 2 ≤ long
 room-byte at long room = omega arith
 
 less : (j d : ℕ) → j ≤ d → d + 1 - (j + 1) < d + 1 - j
@@ -37,7 +37,7 @@ put-word-requires c κs =
     omega (
       arith,
       numbers-length a.t4 (omega arith) own.j (omega arith),
-      byteText-length (get_or a.t4 0 0),
+      byte_text-length (get_or a.t4 0 0),
     )
 
 loop-again : tie.Need-loop-preserved invariant-loop decreases-loop
@@ -52,7 +52,7 @@ returns c =
     let own = c.before.loop in
     let all : own.j ≡ a.d + 1 = omega arith in
     put_as
-    (ap (λ (n : ℕ). byteText (get_or a.t4 0 0) ++ flat_map wordText (take n (drop 1 a.t4))) all ∙ numbers-all a.t4 (omega arith) a.d)
+    (ap (λ (n : ℕ). byte_text (get_or a.t4 0 0) ++ flat_map word_text (take n (drop 1 a.t4))) all ∙ numbers-all a.t4 (omega arith) a.d)
     (put_both c.before.before.before.before.put_byte.ensures own.invariant.1)
 
 pub put-row-spec : {M : Type 1} → statement M

@@ -6,12 +6,12 @@ use native.Mathlib.Omega.{arith}
 use lib.ListN.{take}
 use Rattle.promises.specs.Answers.{result_row}
 use Rattle.rows.specs.Telling.{position}
-use Rattle.frame_lines.specs.Reading.{mostDigits}
-use Rattle.frame_lines.specs.Text.{rowText}
-use Rattle.framing.specs.Writing.{tellingRows}
+use Rattle.frame_lines.specs.Reading.{most_digits}
+use Rattle.frame_lines.specs.Text.{row_text}
+use Rattle.framing.specs.Writing.{telling_rows}
 use Rattle.frame_lines.specs.Put.{TextPut}
 use Rattle.frame_lines.specs.Laws.Put.{put-none, put_both, put_as}
-use Rattle.framing.specs.Laws.Rows.{rowText-most}
+use Rattle.framing.specs.Laws.Rows.{row_text-most}
 use Rattle.framing.specs.Laws.Told.{position-more, told_more, told-end}
 use Rattle.framing.proofs.told.put_told.Statement.{statement}
 use Rattle.framing.proofs.told.put_told.Tie as tie
@@ -19,9 +19,9 @@ use Rattle.framing.proofs.told.put_told.Tie as tie
 abbrev invariant-loop : tie.invariant-loop
 invariant-loop out₀ at d m t told count next₀ i₀ k₀ out next i k =
     (k ≤ count)
-    × (next ≤ next₀ + mostDigits * k)
+    × (next ≤ next₀ + most_digits * k)
     × (i ≡ position t.told t.numbers m k)
-    × TextPut (flat_map (rowText d) (take k (tellingRows t m))) out₀ next₀ out next
+    × TextPut (flat_map (row_text d) (take k (telling_rows t m))) out₀ next₀ out next
 
 abbrev decreases-loop : tie.decreases-loop
 decreases-loop out₀ at d m t told count next₀ i₀ k₀ out next i k = count - k
@@ -47,7 +47,7 @@ loop-again c =
     let own = c.before.before.before.before.before.before.before.before.before.loop in
     let told = c.before.before.before.before.before.told-next in (
       omega arith,
-      omega (arith, rowText-most a.d (result_row told.result.row)),
+      omega (arith, row_text-most a.d (result_row told.result.row)),
       position-more a.t5 a.m.now own.k own.invariant.2 told.ensures.1,
       put_as
           (told_more a.t5 a.m.now start.requires own.k (omega arith) own.invariant.2 told.ensures.0)

@@ -10,7 +10,7 @@ use lib.Dec.{eqb}
 use lib.ListN.{length-take}
 use Rattle.zorder.proofs.Bits.{shl_one}
 use Rattle.numbers.proofs.Bits.{set-bit-same, set-bit-other}
-use Rattle.model.specs.Hours.{blockCount}
+use Rattle.model.specs.Hours.{block_count}
 use Rattle.hours.specs.Laws.Blocks.{OpenTo, open_none, open_more, open-same, open-all}
 use Rattle.hours.proofs.blocks.open_blocks.Statement.{statement}
 use Rattle.hours.proofs.blocks.open_blocks.Tie as tie
@@ -27,20 +27,20 @@ loop-holds c =
     (omega arith, open_none a.minute a.hours.now 0 (λ j. ap (λ (w : ℕ). eqb (w % 2) 1) (zero-div (2 ^ j))))
 
 mul-open-at : tie.Need-overflow-mul-open-at invariant-loop decreases-loop
-mul-open-at c = omega (arith, length-take blockCount c.before.before.before.args.hours.now)
+mul-open-at c = omega (arith, length-take block_count c.before.before.before.args.hours.now)
 
 shared-slice-copy-out-open-at : tie.Need-shared-slice-copy-out-open-at invariant-loop decreases-loop
-shared-slice-copy-out-open-at c = omega (arith, length-take blockCount c.before.before.before.args.hours.now)
+shared-slice-copy-out-open-at c = omega (arith, length-take block_count c.before.before.before.args.hours.now)
 
 shl-blocks : tie.Need-overflow-shl-blocks invariant-loop decreases-loop
-shl-blocks c = omega (arith, length-take blockCount c.before.before.before.before.before.before.args.hours.now)
+shl-blocks c = omega (arith, length-take block_count c.before.before.before.before.before.before.args.hours.now)
 
 loop-again : tie.Need-loop-preserved invariant-loop decreases-loop
 loop-again c =
     let a = c.before.before.before.before.before.before.args in
     let own = c.before.before.before.before.loop in
     let k = own.k in
-    let few : k < 64 = omega (arith, length-take blockCount a.hours.now) in
+    let few : k < 64 = omega (arith, length-take block_count a.hours.now) in
     let says = sym c.before.open_at.ensures in (
       omega arith,
       ⊎_elim

@@ -4,18 +4,18 @@ use mathlib.Core.Bool.{Bool}
 use mathlib.Core.List.{List}
 use mathlib.Core.Path.{sym}
 use native.Mathlib.Omega.{arith}
-use Rattle.promises.specs.Layout.{moveIn}
+use Rattle.promises.specs.Layout.{move_in}
 use Rattle.memory.specs.Laws.Held.{held-readable}
 use Rattle.memory.specs.declared.head.Head.{Head}
 use Rattle.upkeep.specs.Found.{move_of}
 use Rattle.upkeep.specs.Laws.Found.{FindsTo, finds-few, finds-none, adds-few, finds-more, finds-all}
-use Rattle.hours.specs.Open.{shownIn}
+use Rattle.hours.specs.Open.{shown_in}
 use Rattle.hours.proofs.shown.find_shown.Statement.{statement}
 use Rattle.hours.proofs.shown.find_shown.Tie as tie
 
 -- Whether the move of a number is shown.
 abbrev test : Head → ℕ → List ℕ → ℕ → Bool
-test h blocks m k = shownIn h blocks m (move_of h.size h.dimension m k)
+test h blocks m k = shown_in h blocks m (move_of h.size h.dimension m k)
 
 abbrev invariant-loop : tie.invariant-loop
 invariant-loop m h blocks n corners numbers₀ count₀ last₀ i₀ numbers count last i = (i ≤ n) × FindsTo h.size m (test h blocks m) numbers₀ i numbers count
@@ -38,7 +38,7 @@ add-count c =
     omega (arith, finds-few a.h.size a.m.now (test a.h a.blocks a.m.now) c.before.before.before.before.before.loop.invariant.1, adds-few a.h.size a.m.now _ c.add-found.ensures)
 
 loop-again : tie.Need-loop-preserved invariant-loop decreases-loop
-unfolding moveIn
+unfolding move_in
 loop-again c =
     let a = c.before.before.before.before.before.before.before.before.before.before.args in
     (omega arith, finds-more a.h.size a.m.now (test a.h a.blocks a.m.now) c.before.before.before.before.before.before.loop.invariant.1 (sym c.before.before.before.hider-of.ensures) c.before.add-found.ensures (omega arith))

@@ -6,14 +6,14 @@ use native.Mathlib.Omega.{arith}
 use borrow.Author.Tests.{not-true, not-false}
 use lib.Dec.{eqb}
 use Rattle.promises.specs.Run.{Bytes}
-use Rattle.search.specs.Search.{inBlocks, fits, Some}
-use Rattle.memory.specs.Held.{moveHeld}
+use Rattle.search.specs.Search.{in_blocks, fits, Some}
+use Rattle.memory.specs.Held.{move_held}
 use Rattle.memory.specs.Laws.Held.{held-readable}
 use Rattle.search.specs.Laws.Search.{tried-some, first_some, corners-fewer}
 use Rattle.memory.specs.Laws.Turns.{listed_at}
 use Rattle.memory.specs.declared.head.Head.{Head}
 use Rattle.search.specs.declared.search.Among.TheVariants.{InBlocks}
-use Rattle.hours.specs.Open.{shownIn}
+use Rattle.hours.specs.Open.{shown_in}
 use Rattle.hours.specs.Laws.Shown.{open-shown, listed-shown, shut-unshown}
 use Rattle.hours.proofs.shown.hider_of.Statement.{statement}
 use Rattle.hours.proofs.shown.hider_of.Tie as tie
@@ -36,7 +36,7 @@ returns c =
     let m = a.m.now in
     let bytes : Bytes m = λ i. omega (arith, c.before.before.before.shared-slice-known.given i) in
     shut-unshown a.h.size a.h.dimension a.h.count m s.requires.0.0 bytes a.blocks a.i s.requires.0.1
-    (ap (inBlocks a.blocks a.h.size m) (sym number.ensures) ∙ sym c.before.in_blocks.ensures ∙ not-true c.before.in_blocks.result c.if1.true)
+    (ap (in_blocks a.blocks a.h.size m) (sym number.ensures) ∙ sym c.before.in_blocks.ensures ∙ not-true c.before.in_blocks.result c.if1.true)
 
 is-listed-requires : tie.Need-is-listed-requires
 is-listed-requires c κs =
@@ -55,7 +55,7 @@ returns-2 c =
     let bytes : Bytes m = λ i. omega (arith, c.before.before.before.before.before.shared-slice-known.given i) in
     listed-shown a.h.size a.h.dimension a.h.count m s.requires.0.0 bytes a.blocks a.i s.requires.0.1
     (listed_at a.h.size m a.i number.result number.ensures ∙ sym c.before.is-listed.ensures ∙ c.if2.true)
-    (ap (inBlocks a.blocks a.h.size m) (sym number.ensures) ∙ sym inside.ensures ∙ not-false inside.result c.before.before.if1.false)
+    (ap (in_blocks a.blocks a.h.size m) (sym number.ensures) ∙ sym inside.ensures ∙ not-false inside.result c.before.before.if1.false)
 
 bounds-at-requires : tie.Need-bounds-at-requires
 bounds-at-requires c κs = let s = c.before.before.before.before.before.before in (held-readable s.requires.0.0, s.requires.0.1)
@@ -74,7 +74,7 @@ module _ (c : tie.After-bounds-at) where
   abbrev blocks : ℕ
   blocks = c.before.before.before.before.before.before.before.args.blocks
 
-  found : {r : ℕ} → Some (fits (InBlocks blocks) h.size m c.bounds-at.result) i r → eqb r i ≡ shownIn h blocks m (moveHeld h m i)
+  found : {r : ℕ} → Some (fits (InBlocks blocks) h.size m c.bounds-at.result) i r → eqb r i ≡ shown_in h blocks m (move_held h m i)
   unfolding Bytes
   found {r} some =
       let pre = c.before.before.before.before.before.before.before.requires.0 in
@@ -83,7 +83,7 @@ module _ (c : tie.After-bounds-at) where
       let bytes : Bytes m = λ i. omega (arith, c.before.before.before.before.before.before.shared-slice-known.given i) in
       open-shown h.size h.dimension h.count m pre.0 bytes blocks i pre.1 r
       (subst (λ (q : List ℕ). Some (fits (InBlocks blocks) h.size m q) i r) c.bounds-at.ensures some)
-      (ap (inBlocks blocks h.size m) (sym number.ensures) ∙ sym inside.ensures ∙ not-false inside.result c.before.before.before.if1.false)
+      (ap (in_blocks blocks h.size m) (sym number.ensures) ∙ sym inside.ensures ∙ not-false inside.result c.before.before.before.if1.false)
 
 fits-at-requires : tie.Need-fits-at-requires
 fits-at-requires c κs = (held-readable c.before.before.before.before.before.before.before.before.requires.0.0, omega arith)

@@ -3,8 +3,8 @@ use Prim.Native.Nat.{◌-◌, ◌≤◌}
 use mathlib.Core.Path.{sym, ◌∙◌}
 use native.Mathlib.Omega.{arith}
 use borrow.Author.Rules.{rules}
-use Rattle.model.specs.Hours.{windowBad}
-use Rattle.promises.specs.Answers.{windowAt}
+use Rattle.model.specs.Hours.{window_bad}
+use Rattle.promises.specs.Answers.{window_at}
 use Rattle.search.specs.Search.{None}
 use Rattle.search.specs.Laws.Search.{none-empty, none_more}
 use Rattle.hours.specs.Laws.Windows.{no-window, some-window, fifth-bad, few-bad}
@@ -12,7 +12,7 @@ use Rattle.hours.proofs.windows.hours_bad.Statement.{statement}
 use Rattle.hours.proofs.windows.hours_bad.Tie as tie
 
 abbrev invariant-loop : tie.invariant-loop
-invariant-loop entry n i₀ i = (i ≤ n) × None (λ j. windowBad (windowAt entry j)) 0 i
+invariant-loop entry n i₀ i = (i ≤ n) × None (λ j. window_bad (window_at entry j)) 0 i
 
 abbrev decreases-loop : tie.decreases-loop
 decreases-loop entry n i₀ i = n - i
@@ -31,13 +31,13 @@ returns-2 c =
     let n = c.before.before.before.before.windows-in in
     sym
     (few-bad entry start.if1.false
-    ∙ some-window entry windowBad n.result n.ensures.0 own.i c.before.before.loop-test.true (sym c.before.window-bad.ensures ∙ c.if2.true))
+    ∙ some-window entry window_bad n.result n.ensures.0 own.i c.before.before.loop-test.true (sym c.before.window-bad.ensures ∙ c.if2.true))
 
 loop-again : tie.Need-loop-preserved invariant-loop decreases-loop
 loop-again c =
     let entry = c.before.before.before.before.before.before.args.t1 in
     let own = c.before.before.before.loop in
-    (omega arith, none_more (λ j. windowBad (windowAt entry j)) 0 own.i own.invariant.1 (sym c.before.window-bad.ensures ∙ c.if2.false))
+    (omega arith, none_more (λ j. window_bad (window_at entry j)) 0 own.i own.invariant.1 (sym c.before.window-bad.ensures ∙ c.if2.false))
 
 returns-3 : tie.Need-returns-3 invariant-loop decreases-loop
 returns-3 c =
@@ -46,7 +46,7 @@ returns-3 c =
     let n = c.before.before.windows-in in
     sym
     (few-bad entry start.if1.false
-    ∙ no-window entry windowBad n.result n.ensures.0 (λ k a l. c.before.loop.invariant.1 k a (omega arith)))
+    ∙ no-window entry window_bad n.result n.ensures.0 (λ k a l. c.before.loop.invariant.1 k a (omega arith)))
 
 pub hours-bad-spec : {M : Type 1} → statement M
 hours-bad-spec =

@@ -6,7 +6,7 @@ use mathlib.Core.Path.{◌≡◌, sym, subst}
 use native.Mathlib.Nat.{le_refl}
 use native.Mathlib.Omega.{arith}
 use lib.ListN.{length, drop}
-use Rattle.promises.specs.Answers.{inputRow}
+use Rattle.promises.specs.Answers.{input_row}
 use Rattle.memory.specs.Laws.Frames.{room-over}
 use Rattle.loading.specs.Blocks.{BlocksGiven}
 use Rattle.loading.specs.Laws.Blocks.{lent_none, lent-storable, lent-more}
@@ -14,7 +14,7 @@ use Rattle.loading.proofs.blocks.give_blocks.Statement.{statement}
 use Rattle.loading.proofs.blocks.give_blocks.Tie as tie
 
 abbrev invariant-loop : tie.invariant-loop
-invariant-loop m₀ c rows left₀ m left = (left ≤ length rows) × BlocksGiven c (drop left (map inputRow rows)) m₀ m
+invariant-loop m₀ c rows left₀ m left = (left ≤ length rows) × BlocksGiven c (drop left (map input_row rows)) m₀ m
 
 abbrev decreases-loop : tie.decreases-loop
 decreases-loop m₀ c rows left₀ m left = left
@@ -46,7 +46,7 @@ loop-again c =
     let block = c.before.before.before.before.Block-of in
     let stored = c.before.before.set-block in (
       omega arith,
-      subst (BlocksGiven a.c (drop (own.left - 1) (map inputRow a.rows.now)) a.m.now) (sym stored.ensures)
+      subst (BlocksGiven a.c (drop (own.left - 1) (map input_row a.rows.now)) a.m.now) (sym stored.ensures)
           (lent-more a.c a.rows.now a.m.now own.left (omega arith) own.invariant.0 [] start.requires.1 number.result block.result own.m number.ensures.0 block.ensures start.requires.0 own.invariant.1),
     )
 
@@ -58,7 +58,7 @@ returns c =
     let a = c.before.before.before.args in
     let own = c.before.loop in
     let none : own.left ≡ 0 = omega arith in
-    subst (λ (k : ℕ). BlocksGiven a.c (drop k (map inputRow a.rows.now)) a.m.now own.m) none own.invariant.1
+    subst (λ (k : ℕ). BlocksGiven a.c (drop k (map input_row a.rows.now)) a.m.now own.m) none own.invariant.1
 
 pub give-blocks-spec : {M : Type 1} → statement M
 give-blocks-spec =

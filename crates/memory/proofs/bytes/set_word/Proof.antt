@@ -1,11 +1,11 @@
 -- `bytes::set_word` meets its contract. Assumes nothing.
 use borrow.Author.Rules.{rules}
-use Rattle.promises.specs.Layout.{setWord}
+use Rattle.promises.specs.Layout.{set_word}
 use Rattle.memory.proofs.bytes.set_word.Statement.{statement}
 use Rattle.memory.proofs.bytes.set_word.Tie as tie
 
 returns : tie.Need-returns
-unfolding setWord
+unfolding set_word
 returns c = search rules
 
 pub set-word-spec : {M : Type 1} → statement M

@@ -2,7 +2,7 @@
 use mathlib.Core.Path.{ap, ◌∙◌}
 use native.Mathlib.Omega.{arith}
 use borrow.Author.Rules.{rules}
-use Rattle.promises.specs.Layout.{costsIn, moveIn}
+use Rattle.promises.specs.Layout.{costs_in, move_in}
 use Rattle.memory.proofs.fields.costs_at.Statement.{statement}
 use Rattle.memory.proofs.fields.costs_at.Tie as tie
 
@@ -12,10 +12,10 @@ costs-of-requires c κs =
     (pre.0.room, omega (arith, pre.0.numbers c.before.before.args.i pre.1, c.number_at.ensures), pre.0.dimension)
 
 returns : tie.Need-returns
-unfolding moveIn
+unfolding move_in
 returns c =
     let a = c.before.before.before.args in
-    c.costs-of.ensures ∙ ap (costsIn a.h.size a.h.dimension a.m.now) c.before.number_at.ensures
+    c.costs-of.ensures ∙ ap (costs_in a.h.size a.h.dimension a.m.now) c.before.number_at.ensures
 
 pub costs-at-spec : {M : Type 1} → statement M
 costs-at-spec = tie.close (tie.spec (λ c κs. search rules) costs-of-requires returns)

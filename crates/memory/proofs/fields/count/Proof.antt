@@ -1,11 +1,11 @@
 -- `fields::count` meets its contract. Assumes nothing.
 use borrow.Author.Rules.{rules}
-use Rattle.promises.specs.Layout.{countIn}
+use Rattle.promises.specs.Layout.{count_in}
 use Rattle.memory.proofs.fields.count.Statement.{statement}
 use Rattle.memory.proofs.fields.count.Tie as tie
 
 returns : tie.Need-returns
-unfolding countIn
+unfolding count_in
 returns c = search rules
 
 pub count_spec : {M : Type 1} → statement M

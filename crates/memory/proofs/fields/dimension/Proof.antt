@@ -1,7 +1,7 @@
 -- `fields::dimension` meets its contract. Assumes nothing.
 use native.Mathlib.Omega.{arith}
 use borrow.Author.Rules.{rules}
-use Rattle.promises.specs.Layout.{dimensionIn}
+use Rattle.promises.specs.Layout.{dimension_in}
 use Rattle.memory.proofs.fields.dimension.Statement.{statement}
 use Rattle.memory.proofs.fields.dimension.Tie as tie
 
@@ -9,7 +9,7 @@ cast-result : tie.Need-overflow-cast-result
 cast-result c = omega (arith, c.shared-slice-known.given 2)
 
 returns : tie.Need-returns
-unfolding dimensionIn
+unfolding dimension_in
 returns c = omega (arith, c.shared-slice-known.given 2)
 
 pub dimension-spec : {M : Type 1} → statement M

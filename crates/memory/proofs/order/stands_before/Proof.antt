@@ -5,10 +5,10 @@ use mathlib.Core.List.{List}
 use mathlib.Core.Path.{◌≡◌, refl, sym, ap, ◌∙◌}
 use borrow.Author.Rules.{rules}
 use lib.Dec.{ltb}
-use Rattle.zorder.specs.Between.{before, samePlace, order_of}
+use Rattle.zorder.specs.Between.{before, same_place, order_of}
 use Rattle.zorder.specs.declared.Order.{Order}
 use Rattle.zorder.specs.declared.Order.TheVariants.{Before, Same, After}
-use Rattle.model.specs.Moves.{moveBefore, zBefore}
+use Rattle.model.specs.Moves.{move_before, z_before}
 use Rattle.memory.proofs.order.stands_before.Statement.{statement}
 use Rattle.memory.proofs.order.stands_before.Tie as tie
 
@@ -18,9 +18,9 @@ decided Before b = true
 decided Same b = b
 decided After b = false
 
-decided-before : (d n m : ℕ) (p q : List ℕ) → decided (order_of d p q) (ltb n m) ≡ zBefore d n p m q
-unfolding order_of zBefore
-decided-before d n m p q = go (before d p q) (samePlace d p q)
+decided-before : (d n m : ℕ) (p q : List ℕ) → decided (order_of d p q) (ltb n m) ≡ z_before d n p m q
+unfolding order_of z_before
+decided-before d n m p q = go (before d p q) (same_place d p q)
   where
     go : (b s : Bool) → decided (cond b Before (cond s Same After)) (ltb n m) ≡ (b || (s && ltb n m))
     go true s = refl
@@ -28,25 +28,25 @@ decided-before d n m p q = go (before d p q) (samePlace d p q)
     go false false = refl
 
 module _ (d n m : ℕ) (p q : List ℕ) (o : Order) (is : o ≡ order_of d p q) where
-  stands : (o' : Order) → o ≡ o' → decided o' (ltb n m) ≡ zBefore d n p m q
+  stands : (o' : Order) → o ≡ o' → decided o' (ltb n m) ≡ z_before d n p m q
   stands o' e = ap (λ (x : Order). decided x (ltb n m)) (sym e ∙ is) ∙ decided-before d n m p q
 
 returns : tie.Need-returns
-unfolding moveBefore
+unfolding move_before
 returns c =
     let a = c.before.before.before.before.before.args in
     let r = c.before.before.compare in
     stands a.d a.p.number a.q.number a.p.costs a.q.costs r.result r.ensures Before c.enum_told.given.1
 
 returns-2 : tie.Need-returns-2
-unfolding moveBefore
+unfolding move_before
 returns-2 c =
     let a = c.before.before.before.before.before.before.before.args in
     let r = c.before.before.before.before.compare in
     stands a.d a.p.number a.q.number a.p.costs a.q.costs r.result r.ensures Same c.before.before.enum-told2.given.1
 
 returns-3 : tie.Need-returns-3
-unfolding moveBefore
+unfolding move_before
 returns-3 c =
     let a = c.before.before.before.before.before.args in
     let r = c.before.before.compare in

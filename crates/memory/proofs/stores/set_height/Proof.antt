@@ -3,12 +3,12 @@ use Prim.Native.Nat.{ℕ}
 use mathlib.Core.Path.{ap}
 use borrow.Author.Rules.{rules}
 use lib.ListN.{set}
-use Rattle.memory.specs.Stores.{setHeight}
+use Rattle.memory.specs.Stores.{set_height}
 use Rattle.memory.proofs.stores.set_height.Statement.{statement}
 use Rattle.memory.proofs.stores.set_height.Tie as tie
 
 returns : tie.Need-returns
-unfolding setHeight
+unfolding set_height
 returns c = let a = c.before.before.args in ap (λ (o : ℕ). set a.m.now o a.height) c.height-place.ensures
 
 pub set_height_spec : {M : Type 1} → statement M

@@ -4,12 +4,12 @@ use mathlib.Core.Logic.{⊎_elim}
 use mathlib.Core.Path.{sym, ap, ap₂, ◌∙◌}
 use borrow.Author.Rules.{rules}
 use lib.ListN.{set}
-use Rattle.memory.specs.Stores.{setListed}
+use Rattle.memory.specs.Stores.{set_listed}
 use Rattle.memory.proofs.stores.set_listed.Statement.{statement}
 use Rattle.memory.proofs.stores.set_listed.Tie as tie
 
 returns : tie.Need-returns
-unfolding setListed
+unfolding set_listed
 returns c =
     let a = c.before.before.before.args in
     ap₂ (set a.m.now) c.flag-place.ensures

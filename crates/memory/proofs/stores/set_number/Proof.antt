@@ -2,16 +2,16 @@
 use Prim.Native.Nat.{ℕ}
 use mathlib.Core.Path.{ap, ◌∙◌}
 use borrow.Author.Rules.{rules}
-use Rattle.promises.specs.Layout.{setWord}
-use Rattle.memory.specs.Stores.{setNumber}
+use Rattle.promises.specs.Layout.{set_word}
+use Rattle.memory.specs.Stores.{set_number}
 use Rattle.memory.proofs.stores.set_number.Statement.{statement}
 use Rattle.memory.proofs.stores.set_number.Tie as tie
 
 returns : tie.Need-returns
-unfolding setNumber
+unfolding set_number
 returns c =
     let a = c.before.before.before.before.before.before.args in
-    c.before.before.set_word.ensures ∙ ap (λ (o : ℕ). setWord o a.number a.m.now) c.before.before.before.number-place.ensures
+    c.before.before.set_word.ensures ∙ ap (λ (o : ℕ). set_word o a.number a.m.now) c.before.before.before.number-place.ensures
 
 pub set-number-spec : {M : Type 1} → statement M
 set-number-spec = tie.close (tie.spec (λ c κs. search rules) (λ c κs. search rules) (λ c. search rules) returns)

@@ -6,8 +6,8 @@ use mathlib.Core.Path.{sym, ap, ◌∙◌}
 use native.Mathlib.Omega.{arith}
 use borrow.Author.Rules.{rules}
 use lib.ListN.{take}
-use Rattle.zorder.specs.Between.{farOf}
-use Rattle.model.specs.Dominance.{somewhereLess}
+use Rattle.zorder.specs.Between.{far_of}
+use Rattle.model.specs.Dominance.{somewhere_less}
 use Rattle.nodes.specs.Laws.Corners.{within_all, within-going}
 use Rattle.nodes.proofs.nodes.exceeds_far.Statement.{statement}
 use Rattle.nodes.proofs.nodes.exceeds_far.Tie as tie
@@ -15,7 +15,7 @@ use Rattle.nodes.proofs.nodes.exceeds_far.Tie as tie
 returns : tie.Need-returns
 returns c =
     let a = c.before.before.before.args in
-    ap not (sym (within_all a.h.size a.h.dimension a.goes a.h.count a.m.now (farOf a.h.dimension a.first a.last) (omega (arith, c.if1.true))))
+    ap not (sym (within_all a.h.size a.h.dimension a.goes a.h.count a.m.now (far_of a.h.dimension a.first a.last) (omega (arith, c.if1.true))))
 
 costs-of-requires : tie.Need-costs-of-requires
 costs-of-requires c κs =
@@ -28,8 +28,8 @@ returns-2 c =
     let number = c.before.before.before.number_at in
     let far = c.before.far-of in
     c.exceeds.ensures
-    ∙ ap (λ (q : List ℕ). somewhereLess (take a.h.dimension q) (take a.h.dimension c.before.before.costs-of.result)) far.ensures
-    ∙ within-going a.h.size a.h.dimension a.goes a.h.count a.m.now (farOf a.h.dimension a.first a.last)
+    ∙ ap (λ (q : List ℕ). somewhere_less (take a.h.dimension q) (take a.h.dimension c.before.before.costs-of.result)) far.ensures
+    ∙ within-going a.h.size a.h.dimension a.goes a.h.count a.m.now (far_of a.h.dimension a.first a.last)
     (omega (arith, c.before.before.before.before.if1.false)) number.ensures c.before.before.costs-of.ensures
 
 pub exceeds-far-spec : {M : Type 1} → statement M

@@ -6,9 +6,9 @@ use mathlib.Core.Path.{◌≡◌}
 use native.Mathlib.Nat.{zero-add}
 use native.Mathlib.Omega.{arith}
 use borrow.Author.Rules.{rules}
-use Rattle.line.specs.Places.{entriesAmong}
-use Rattle.promises.specs.Layout.{heightsFrom}
-use Rattle.memory.specs.Laws.Lines.{length-heightsFrom, getD-heightsFrom}
+use Rattle.line.specs.Places.{entries_among}
+use Rattle.promises.specs.Layout.{heights_from}
+use Rattle.memory.specs.Laws.Lines.{length-heights_from, get_or-heights_from}
 use Rattle.nodes.specs.Laws.Steps.{entry_here, entry-none, entries-end}
 use Rattle.nodes.proofs.places.entries.Statement.{statement}
 use Rattle.nodes.proofs.places.entries.Tie as tie
@@ -18,7 +18,7 @@ invariant-loop m c l s e k₀ i₀ k i =
     (s ≤ i)
     × (i ≤ e)
     × (k ≤ i - s)
-    × ((n : ℕ) → e ≤ n → k + entriesAmong l i e (heightsFrom c n m) ≡ entriesAmong l s e (heightsFrom c n m))
+    × ((n : ℕ) → e ≤ n → k + entries_among l i e (heights_from c n m) ≡ entries_among l s e (heights_from c n m))
 
 abbrev decreases-loop : tie.decreases-loop
 decreases-loop m c l s e k₀ i₀ k i = e - i
@@ -35,9 +35,9 @@ loop-again c =
       omega arith,
       ⊎_elim (λ w. omega arith) (λ w. omega arith) c.if1.branch,
       λ n h.
-          let ks = heightsFrom a.c n a.m.now in
-          let long = length-heightsFrom a.c n a.m.now in
-          let height = getD-heightsFrom a.c n a.m.now i (omega arith) in
+          let ks = heights_from a.c n a.m.now in
+          let long = length-heights_from a.c n a.m.now in
+          let height = get_or-heights_from a.c n a.m.now i (omega arith) in
           ⊎_elim
           (λ w. omega (arith, inv.3 n h, entry_here a.l i a.e ks (omega arith) (omega arith) (omega (arith, height, c.before.height-at.ensures))))
           (λ w. omega (arith, inv.3 n h, entry-none a.l i a.e ks (omega arith) (omega arith) (omega (arith, height, c.before.height-at.ensures))))
@@ -50,7 +50,7 @@ returns c =
     let i = c.before.loop.i in
     let inv = c.before.loop.invariant in
     record {
-      is = λ n h. omega (arith, inv.3 n h, entries-end a.l i a.e (heightsFrom a.c n a.m.now) (omega arith));
+      is = λ n h. omega (arith, inv.3 n h, entries-end a.l i a.e (heights_from a.c n a.m.now) (omega arith));
       within = omega arith;
     }
 

@@ -1,20 +1,20 @@
--- `places::node_end` meets its contract. The loop's invariant: the present place and the rows left below the level give the end.
+-- `places::node-end` meets its contract. The loop's invariant: the present place and the rows left below the level give the end.
 -- Assumes nothing.
 use Prim.Native.Nat.{◌+◌, ◌-◌, ◌≤◌, ◌<◌}
 use mathlib.Core.Path.{◌≡◌, sym, ◌∙◌}
 use native.Mathlib.Omega.{arith}
 use borrow.Author.Rules.{rules}
 use lib.ListN.{drop}
-use Rattle.line.specs.Places.{lowerAmong, endAmong}
-use Rattle.promises.specs.Layout.{heightsFrom}
-use Rattle.memory.specs.Laws.Lines.{length-heightsFrom, getD-heightsFrom}
+use Rattle.line.specs.Places.{lower_among, end_among}
+use Rattle.promises.specs.Layout.{heights_from}
+use Rattle.memory.specs.Laws.Lines.{length-heights_from, get_or-heights_from}
 use Rattle.nodes.specs.Laws.Steps.{end-first, end-here, end_later, end-last}
 use Rattle.nodes.proofs.places.node_end.Statement.{statement}
 use Rattle.nodes.proofs.places.node_end.Tie as tie
 
 abbrev invariant-loop : tie.invariant-loop
 invariant-loop m c n l p e₀ e =
-    (p < e) × (e ≤ n) × (e + lowerAmong l (drop e (heightsFrom c n m)) ≡ endAmong l p (heightsFrom c n m))
+    (p < e) × (e ≤ n) × (e + lower_among l (drop e (heights_from c n m)) ≡ end_among l p (heights_from c n m))
 
 abbrev decreases-loop : tie.decreases-loop
 decreases-loop m c n l p e₀ e = n - e
@@ -22,7 +22,7 @@ decreases-loop m c n l p e₀ e = n - e
 loop-holds : tie.Need-loop-init invariant-loop decreases-loop
 loop-holds c =
     let a = c.before.args in
-    (omega arith, omega arith, end-first a.l a.p (heightsFrom a.c a.n a.m.now))
+    (omega arith, omega arith, end-first a.l a.p (heights_from a.c a.n a.m.now))
 
 returns : tie.Need-returns invariant-loop decreases-loop
 returns c =
@@ -31,9 +31,9 @@ returns c =
     let inv = c.before.before.before.loop.invariant in
     record {
       is =
-          let ks = heightsFrom a.c a.n a.m.now in
-          sym (end-here a.l e ks (omega (arith, length-heightsFrom a.c a.n a.m.now))
-          (omega (arith, getD-heightsFrom a.c a.n a.m.now e (omega arith), c.before.height-at.ensures)))
+          let ks = heights_from a.c a.n a.m.now in
+          sym (end-here a.l e ks (omega (arith, length-heights_from a.c a.n a.m.now))
+          (omega (arith, get_or-heights_from a.c a.n a.m.now e (omega arith), c.before.height-at.ensures)))
           ∙ inv.2;
       after = inv.0;
       within = inv.1;
@@ -46,9 +46,9 @@ loop-again c =
     let inv = c.before.before.before.loop.invariant in (
       omega arith,
       omega arith,
-      let ks = heightsFrom a.c a.n a.m.now in
-          end_later a.l e ks (omega (arith, length-heightsFrom a.c a.n a.m.now))
-          (omega (arith, getD-heightsFrom a.c a.n a.m.now e (omega arith), c.before.height-at.ensures))
+      let ks = heights_from a.c a.n a.m.now in
+          end_later a.l e ks (omega (arith, length-heights_from a.c a.n a.m.now))
+          (omega (arith, get_or-heights_from a.c a.n a.m.now e (omega arith), c.before.height-at.ensures))
           ∙ inv.2,
     )
 
@@ -59,8 +59,8 @@ returns-2 c =
     let inv = c.before.loop.invariant in
     record {
       is =
-          let ks = heightsFrom a.c a.n a.m.now in
-          sym (end-last a.l e ks (omega (arith, length-heightsFrom a.c a.n a.m.now))) ∙ inv.2;
+          let ks = heights_from a.c a.n a.m.now in
+          sym (end-last a.l e ks (omega (arith, length-heights_from a.c a.n a.m.now))) ∙ inv.2;
       after = inv.0;
       within = inv.1;
     }

@@ -5,16 +5,16 @@ use mathlib.Core.Path.{◌≡◌, refl, ◌∙◌}
 use native.Mathlib.Nat.{le_refl}
 use native.Mathlib.Omega.{arith}
 use borrow.Author.Rules.{rules}
-use Rattle.line.specs.Places.{startAmong}
-use Rattle.promises.specs.Layout.{heightsFrom}
-use Rattle.memory.specs.Laws.Lines.{getD-heightsFrom}
+use Rattle.line.specs.Places.{start_among}
+use Rattle.promises.specs.Layout.{heights_from}
+use Rattle.memory.specs.Laws.Lines.{get_or-heights_from}
 use Rattle.nodes.specs.Laws.Steps.{start-here, start-earlier, start_first}
 use Rattle.nodes.proofs.places.node_start.Statement.{statement}
 use Rattle.nodes.proofs.places.node_start.Tie as tie
 
 abbrev invariant-loop : tie.invariant-loop
 invariant-loop m c l p s₀ s =
-    (s ≤ p) × ((n : ℕ) → p < n → startAmong l s (heightsFrom c n m) ≡ startAmong l p (heightsFrom c n m))
+    (s ≤ p) × ((n : ℕ) → p < n → start_among l s (heights_from c n m) ≡ start_among l p (heights_from c n m))
 
 abbrev decreases-loop : tie.decreases-loop
 decreases-loop m c l p s₀ s = s
@@ -29,8 +29,8 @@ returns c =
     let inv = c.before.before.before.loop.invariant in
     record {
       is = λ n h.
-          start-here a.l s (heightsFrom a.c n a.m.now) (omega arith)
-          (omega (arith, getD-heightsFrom a.c n a.m.now s (omega arith), c.before.height-at.ensures))
+          start-here a.l s (heights_from a.c n a.m.now) (omega arith)
+          (omega (arith, get_or-heights_from a.c n a.m.now s (omega arith), c.before.height-at.ensures))
           ∙ inv.1 n h;
       within = inv.0;
     }
@@ -42,8 +42,8 @@ loop-again c =
     let inv = c.before.before.before.loop.invariant in (
       omega arith,
       λ n h.
-          start-earlier a.l s (heightsFrom a.c n a.m.now) (omega arith)
-          (omega (arith, getD-heightsFrom a.c n a.m.now s (omega arith), c.before.height-at.ensures))
+          start-earlier a.l s (heights_from a.c n a.m.now) (omega arith)
+          (omega (arith, get_or-heights_from a.c n a.m.now s (omega arith), c.before.height-at.ensures))
           ∙ inv.1 n h,
     )
 
@@ -53,7 +53,7 @@ returns-2 c =
     let s = c.before.loop.s in
     let inv = c.before.loop.invariant in
     record {
-      is = λ n h. start_first a.l s (heightsFrom a.c n a.m.now) (omega arith) ∙ inv.1 n h;
+      is = λ n h. start_first a.l s (heights_from a.c n a.m.now) (omega arith) ∙ inv.1 n h;
       within = omega arith;
     }
 

@@ -4,13 +4,13 @@ use native.Mathlib.Omega.{arith}
 use borrow.Author.Rules.{rules}
 use Rattle.zorder.specs.Between.{side_of}
 use Rattle.zorder.specs.Laws.Between.{side-small}
-use Rattle.line.specs.Places.{sideAt}
+use Rattle.line.specs.Places.{side_at}
 use Rattle.nodes.specs.Laws.Heights.{costs-line}
 use Rattle.nodes.proofs.places.side_between.Statement.{statement}
 use Rattle.nodes.proofs.places.side_between.Tie as tie
 
 returns : tie.Need-returns
-unfolding sideAt
+unfolding side_at
 returns c =
     let a = c.before.before.before.before.before.before.args in
     let first = c.before.before.before.before.number_at in

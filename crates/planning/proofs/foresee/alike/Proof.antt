@@ -8,17 +8,17 @@ use borrow.Author.Rules.{rules}
 use borrow.Author.Tests.{lt-ltb, le-ltb, not-true, not-false}
 use lib.Dec.{ltb}
 use Rattle.model.specs.Basics.{equal}
-use Rattle.promises.specs.Layout.{number_in, costsIn}
+use Rattle.promises.specs.Layout.{number_in, costs_in}
 use Rattle.upkeep.specs.declared.exchange.Exchange.{Exchange}
 use Rattle.planning.specs.Plan.{alike}
 use Rattle.planning.proofs.foresee.alike.Statement.{statement}
 use Rattle.planning.proofs.foresee.alike.Tie as tie
 
 alike-by : (c d n : ℕ) (k : Exchange) (m : List ℕ) (comes inside : Bool) → k.comes ≡ comes → ltb k.goes n ≡ inside
-    → (comes && (inside && equal k.coming.costs (costsIn c d m (number_in c m k.goes)))) ≡ alike c d n k m
+    → (comes && (inside && equal k.coming.costs (costs_in c d m (number_in c m k.goes)))) ≡ alike c d n k m
 unfolding alike
 alike-by c d n k m comes inside e f =
-    sym (ap₂ (λ (p q : Bool). p && (q && equal k.coming.costs (costsIn c d m (number_in c m k.goes)))) e f)
+    sym (ap₂ (λ (p q : Bool). p && (q && equal k.coming.costs (costs_in c d m (number_in c m k.goes)))) e f)
 
 returns : tie.Need-returns
 returns c =
@@ -42,7 +42,7 @@ returns-3 c =
     let comes = inside.before in
     let a = comes.before.before.before.args in
     c.same.ensures
-    ∙ ap (equal a.k.coming.costs) (c.before.costs-of.ensures ∙ ap (costsIn a.h.size a.h.dimension a.m.now) c.before.before.number_at.ensures)
+    ∙ ap (equal a.k.coming.costs) (c.before.costs-of.ensures ∙ ap (costs_in a.h.size a.h.dimension a.m.now) c.before.before.number_at.ensures)
     ∙ alike-by a.h.size a.h.dimension a.h.count a.k a.m.now true true (not-false _ comes.if1.false) (lt-ltb _ _ inside.if2.false)
 
 pub alike_spec : {M : Type 1} → statement M

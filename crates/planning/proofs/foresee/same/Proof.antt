@@ -1,5 +1,5 @@
 -- `foresee::same` meets its contract. The loop's invariant: what is left to compare decides the whole. Assumes nothing.
-use Rattle.zorder.specs.Address.{rowCosts}
+use Rattle.zorder.specs.Address.{row_costs}
 use Prim.Native.Nat.{ℕ, ◌+◌, ◌-◌, ◌≤◌, ◌<◌}
 use mathlib.Core.Bool.{Bool, true, false, ◌&&◌}
 use mathlib.Core.List.{List}
@@ -29,10 +29,10 @@ equal-step p q j b h k test =
     ∙ ap₂ (λ (t : Bool) (n : ℕ). t && equal (drop n p) (drop n q)) test (sym (add-one j))
 
 abbrev invariant-loop : tie.invariant-loop
-invariant-loop p q j₀ j = (j ≤ rowCosts) × (equal (drop j p) (drop j q) ≡ equal p q)
+invariant-loop p q j₀ j = (j ≤ row_costs) × (equal (drop j p) (drop j q) ≡ equal p q)
 
 abbrev decreases-loop : tie.decreases-loop
-decreases-loop p q j₀ j = rowCosts - j
+decreases-loop p q j₀ j = row_costs - j
 
 loop-holds : tie.Need-loop-init invariant-loop decreases-loop
 loop-holds c = (omega arith, refl)

@@ -6,23 +6,23 @@ use mathlib.Core.Path.{◌≡◌, refl, sym, ap, ap₂, ◌∙◌}
 use native.Mathlib.Omega.{arith}
 use borrow.Author.Rules.{rules}
 use borrow.Author.Tests.{le-leb, lt-leb}
-use Rattle.zorder.specs.Refusal.{refusal, costPastBad}
-use Rattle.model.specs.Calls.{blockBad}
+use Rattle.zorder.specs.Refusal.{refusal, cost_past_bad}
+use Rattle.model.specs.Calls.{block_bad}
 use Rattle.model.specs.Laws.Bool.{both_ways}
-use Rattle.promises.specs.Answers.{outcomeNumber}
+use Rattle.promises.specs.Answers.{outcome_number}
 use Rattle.planning.specs.Kind.{comes}
 use Rattle.planning.specs.Laws.Judge.{judges-by}
 use Rattle.planning.proofs.judge.judge.Statement.{statement}
 use Rattle.planning.proofs.judge.judge.Tie as tie
 
 returns : tie.Need-returns
-unfolding refusal outcomeNumber
+unfolding refusal outcome_number
 returns c =
     let a = c.before.before.before.args in
     judges-by a.h a.x a.on true _ _ _ (le-leb a.h.size a.x.number c.if1.true) refl refl refl refl
 
 returns-2 : tie.Need-returns-2
-unfolding refusal outcomeNumber
+unfolding refusal outcome_number
 returns-2 c =
     let a = c.before.before.before.before.before.before.before.args in
     judges-by a.h a.x a.on false true _ _ (lt-leb a.h.size a.x.number (omega (arith, c.before.before.before.before.if1.false)))
@@ -30,7 +30,7 @@ returns-2 c =
     refl refl refl
 
 -- Once no block turns the change down, ..
-low : (c : tie.Joined2) → (comes c.before.before.before.before.before.args.x.kind && blockBad c.before.before.before.before.before.args.x.block) ≡ false
+low : (c : tie.Joined2) → (comes c.before.before.before.before.before.args.x.kind && block_bad c.before.before.before.before.before.args.x.block) ≡ false
 low c =
     ⊎_elim
     (λ w. ap₂ ◌&&◌ (sym c.before.comes.ensures ∙ w.0.taken) (sym w.1.ensures ∙ w.2.left))
@@ -38,7 +38,7 @@ low c =
     c.if2.branch
 
 returns-3 : tie.Need-returns-3
-unfolding refusal outcomeNumber costPastBad
+unfolding refusal outcome_number cost_past_bad
 returns-3 c =
     let a = c.before.before.before.before.before.before.before.before.before.before.args in
     judges-by a.h a.x a.on false false true _ (lt-leb a.h.size a.x.number (omega (arith, c.before.before.before.before.before.before.before.if1.false)))
@@ -47,8 +47,8 @@ returns-3 c =
     refl refl
 
 -- .. and no cost past d.
-passed : (c : tie.Joined4) → (comes c.before.before.before.before.before.before.before.before.args.x.kind && costPastBad c.before.before.before.before.before.before.before.before.args.h.dimension c.before.before.before.before.before.before.before.before.args.x.costs) ≡ false
-unfolding costPastBad
+passed : (c : tie.Joined4) → (comes c.before.before.before.before.before.before.before.before.args.x.kind && cost_past_bad c.before.before.before.before.before.before.before.before.args.h.dimension c.before.before.before.before.before.before.before.before.args.x.costs) ≡ false
+unfolding cost_past_bad
 passed c =
     ⊎_elim
     (λ w. ap₂ ◌&&◌ (sym c.before.comes2.ensures ∙ w.0.taken) (ap not (sym w.1.ensures) ∙ w.2.left))
@@ -75,21 +75,21 @@ absent false true e f = both_ways refl f
 absent false false e f = refl
 
 returns-4 : tie.Need-returns-4
-unfolding refusal outcomeNumber
+unfolding refusal outcome_number
 returns-4 c =
     let a = c.before.before.before.before.before.before.before.before.before.before.args in
     judges-by a.h a.x a.on false false false _ (lt-leb a.h.size a.x.number (omega (arith, c.before.before.before.before.before.before.before.if1.false))) (low c.before.before.before.before.before) (passed c.before.before) (sym c.before.is-new.ensures)
     (passes c.before.is-new.result a.on c.if6.true)
 
 returns-5 : tie.Need-returns-5
-unfolding refusal outcomeNumber
+unfolding refusal outcome_number
 returns-5 c =
     let a = c.before.before.before.before.before.before.before.before.before.before.before.args in
     judges-by a.h a.x a.on false false false _ (lt-leb a.h.size a.x.number (omega (arith, c.before.before.before.before.before.before.before.before.if1.false))) (low c.before.before.before.before.before.before) (passed c.before.before.before) (sym c.before.before.is-new.ensures)
     (twice c.before.before.is-new.result a.on c.before.if6.false c.if7.true)
 
 returns-6 : tie.Need-returns-6
-unfolding refusal outcomeNumber
+unfolding refusal outcome_number
 returns-6 c =
     let a = c.before.before.before.before.before.before.before.before.before.before.before.args in
     judges-by a.h a.x a.on false false false _ (lt-leb a.h.size a.x.number (omega (arith, c.before.before.before.before.before.before.before.before.if1.false))) (low c.before.before.before.before.before.before) (passed c.before.before.before) (sym c.before.before.is-new.ensures)

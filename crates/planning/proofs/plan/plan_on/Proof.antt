@@ -5,17 +5,17 @@ use mathlib.Core.Path.{◌≡◌, sym, ap, ◌∙◌, subst}
 use native.Mathlib.Omega.{arith}
 use borrow.Author.Rules.{rules}
 use borrow.Author.Tests.{eqb-true, eqb-false, not-true, not-false}
-use Rattle.zorder.specs.Address.{rowCosts}
+use Rattle.zorder.specs.Address.{row_costs}
 use Rattle.zorder.specs.Laws.Address.{Costs}
 use Rattle.zorder.proofs.Row.{row-costs}
-use Rattle.promises.specs.Answers.{outcomeNumber}
+use Rattle.promises.specs.Answers.{outcome_number}
 use Rattle.promises.specs.Run.{Bytes}
 use Rattle.memory.specs.Laws.Held.{held-dimension, held-room, held-few, held-readable, held-ordered}
 use Rattle.upkeep.specs.Change.{ChangeAsked, ComingPlace, Upkept}
 use Rattle.upkeep.specs.declared.exchange.Exchange.{Exchange}
-use Rattle.model.specs.Calls.{changeRefusal}
-use Rattle.promises.specs.Layout.{boardIn}
-use Rattle.planning.specs.Kind.{call_of, exchangeOf}
+use Rattle.model.specs.Calls.{change_refusal}
+use Rattle.promises.specs.Layout.{board_in}
+use Rattle.planning.specs.Kind.{call_of, exchange_of}
 use Rattle.planning.specs.Plan.{alike, ReadyRows}
 use Rattle.planning.specs.Laws.Judge.{judged}
 use Rattle.planning.specs.Laws.Notice.{upkeep-counted}
@@ -24,8 +24,8 @@ use Rattle.planning.proofs.plan.plan_on.Statement.{statement}
 use Rattle.planning.proofs.plan.plan_on.Tie as tie
 
 -- What the parameters hold.
-costs : (c : tie.Start) → Costs rowCosts c.args.x.costs
-costs c = subst (Costs rowCosts) (map-id c.args.x.costs) (row-costs c.well-formed.1.1.0.1.1.1.1.1.0)
+costs : (c : tie.Start) → Costs row_costs c.args.x.costs
+costs c = subst (Costs row_costs) (map-id c.args.x.costs) (row-costs c.well-formed.1.1.0.1.1.1.1.1.0)
 
 bytes : (c : tie.After-shared-slice-known) → Bytes c.before.args.m.now
 unfolding Bytes
@@ -42,13 +42,13 @@ module _ (c : tie.After-judge) where
   abbrev start : tie.Start
   start = c.before.before.before.before
 
-  judges : outcomeNumber c.judge.result ≡ changeRefusal (boardIn start.args.m.now) (call_of start.args.x)
+  judges : outcome_number c.judge.result ≡ change_refusal (board_in start.args.m.now) (call_of start.args.x)
   judges = judged start.pre c.before.before.place-of.ensures c.judge.ensures
 
 returns : tie.Need-returns
 returns c =
     let read = c.before.before.before.before.before.before in
-    let refused = eqb-false (outcomeNumber c.before.before.before.judge.result) 0 (sym c.before.before.accepts.ensures ∙ not-true _ c.before.if1.true) in
+    let refused = eqb-false (outcome_number c.before.before.before.judge.result) 0 (sym c.before.before.accepts.ensures ∙ not-true _ c.before.if1.true) in
     plan-refused read.before.requires (judges c.before.before.before)
     (omega (arith, refused)) c.keeps-moves.ensures
 
@@ -60,10 +60,10 @@ module _ (c : tie.Else1) where
   abbrev read : tie.After-shared-slice-known
   read = c.before.before.before.before.before
 
-  accepted : outcomeNumber judge.judge.result ≡ 0
+  accepted : outcome_number judge.judge.result ≡ 0
   accepted = eqb-true _ 0 (sym c.before.accepts.ensures ∙ not-false _ c.if1.false)
 
-  asked : ReadyRows read.before.args.h.size read.before.args.h.dimension read.before.args.h.count (exchangeOf read.before.args.x c.before.before.before.before.place-of.result) read.before.args.m.now
+  asked : ReadyRows read.before.args.h.size read.before.args.h.dimension read.before.args.h.count (exchange_of read.before.args.x c.before.before.before.before.place-of.result) read.before.args.m.now
   asked = ready read.before.pre (bytes read) read.before.args.x (costs read.before) c.before.before.before.before.place-of.ensures (sym (judges judge) ∙ accepted)
 
 alike-requires : tie.Need-alike-requires
@@ -71,10 +71,10 @@ alike-requires c κs = held-readable c.before.before.before.before.before.before
 
 -- The exchange of moves is that of the change.
 module _ (c : tie.After-exchange-of) where
-  as-exchange : (P : Exchange → Type 0) → P (exchangeOf c.before.before.before.before.before.before.before.args.x c.before.before.before.before.before.place-of.result) → P c.exchange-of.result
+  as-exchange : (P : Exchange → Type 0) → P (exchange_of c.before.before.before.before.before.before.before.args.x c.before.before.before.before.before.place-of.result) → P c.exchange-of.result
   as-exchange P = subst P (sym c.exchange-of.ensures)
 
-  of-exchange : (P : Exchange → Type 0) → P c.exchange-of.result → P (exchangeOf c.before.before.before.before.before.before.before.args.x c.before.before.before.before.before.place-of.result)
+  of-exchange : (P : Exchange → Type 0) → P c.exchange-of.result → P (exchange_of c.before.before.before.before.before.before.before.args.x c.before.before.before.before.before.place-of.result)
   of-exchange P = subst P c.exchange-of.ensures
 
 returns-2 : tie.Need-returns-2

@@ -5,12 +5,12 @@ use native.Mathlib.Decide.{dec_lt}
 use native.Mathlib.Omega.{arith}
 use borrow.Author.Tests.{lt-ltb, le-ltb}
 use lib.Dec.{ltb}
-use Rattle.model.specs.Calls.{blockBad}
+use Rattle.model.specs.Calls.{block_bad}
 use Rattle.model.specs.Laws.Blocks.{block-low, block-high}
 use Rattle.promises.proofs.ranges.block_bad.Statement.{statement}
 use Rattle.promises.proofs.ranges.block_bad.Tie as tie
 
-most : (n : ℕ) → Dec (63 < n) → ltb 63 n ≡ blockBad n
+most : (n : ℕ) → Dec (63 < n) → ltb 63 n ≡ block_bad n
 most n (yes h) = lt-ltb 63 n h ∙ sym (block-high n h)
 most n (no h) = le-ltb 63 n (omega arith) ∙ sym (block-low n (omega arith))
 

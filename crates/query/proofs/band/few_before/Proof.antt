@@ -7,21 +7,21 @@ use mathlib.Core.Logic.{⊎_elim}
 use mathlib.Core.Path.{sym, ap₂, ◌∙◌, subst}
 use native.Mathlib.Omega.{arith}
 use lib.ListN.{take}
-use Rattle.model.specs.Dominance.{somewhereLess}
-use Rattle.dominance.specs.Lanes.{Lanes, bound, isFirst}
-use Rattle.promises.specs.Layout.{moveIn}
+use Rattle.model.specs.Dominance.{somewhere_less}
+use Rattle.dominance.specs.Lanes.{Lanes, bound, is_first}
+use Rattle.promises.specs.Layout.{move_in}
 use Rattle.promises.specs.Run.{Bytes}
 use Rattle.search.specs.Search.{fits}
 use Rattle.search.specs.Laws.Search.{corners-fewer}
 use Rattle.search.specs.Laws.Counts.{CountedTo}
 use Rattle.search.specs.declared.search.Among.TheVariants.{All}
-use Rattle.query.specs.Band.{dominatesPlace}
+use Rattle.query.specs.Band.{dominates_place}
 use Rattle.query.specs.Laws.Band.{dominators-first, dominators-next, dominators-over, dominators-within}
 use Rattle.query.proofs.band.few_before.Statement.{statement}
 use Rattle.query.proofs.band.few_before.Tie as tie
 
 abbrev invariant-loop : tie.invariant-loop
-invariant-loop m h most i corners costs q found₀ j₀ found j = CountedTo (fits All h.size m q) (dominatesPlace h.size h.dimension m i) i j found × (found ≤ most)
+invariant-loop m h most i corners costs q found₀ j₀ found j = CountedTo (fits All h.size m q) (dominates_place h.size h.dimension m i) i j found × (found ≤ most)
 
 abbrev decreases-loop : tie.decreases-loop
 decreases-loop m h most i corners costs q found₀ j₀ found j = i - j
@@ -31,9 +31,9 @@ unfolding Bytes
 bytes c i = omega (arith, c.before.before.shared-slice-known.given i)
 
 -- The bounds are those of the move at place i.
-bounds : (c : tie.After-bounds-of invariant-loop decreases-loop) → let a = c.before.before.before.args in Lanes (bound (isFirst a.h.dimension) (moveIn a.h.size a.h.dimension a.m.now a.i).costs) c.bounds_of.result
+bounds : (c : tie.After-bounds-of invariant-loop decreases-loop) → let a = c.before.before.before.args in Lanes (bound (is_first a.h.dimension) (move_in a.h.size a.h.dimension a.m.now a.i).costs) c.bounds_of.result
 bounds c =
-    subst (λ (x : List ℕ). Lanes (bound (isFirst c.before.before.before.args.h.dimension) x) c.bounds_of.result) c.before.costs-at.ensures c.bounds_of.ensures
+    subst (λ (x : List ℕ). Lanes (bound (is_first c.before.before.before.args.h.dimension) x) c.bounds_of.result) c.before.costs-at.ensures c.bounds_of.ensures
 
 next-within-requires : tie.Need-next-within-requires invariant-loop decreases-loop
 next-within-requires c κs = let pre = c.before.before.before.requires in ((pre.0.0, omega arith, omega arith), corners-fewer (omega arith) pre.1)
@@ -53,7 +53,7 @@ returns c =
     let a = s.args in
     let own = c.before.before.before.before.before.loop in
     let at = c.before.before.before.before.before.before.before in
-    let lower = ap₂ (λ (p q : List ℕ). somewhereLess (take a.h.dimension p) (take a.h.dimension q)) (sym c.before.before.before.costs-at2.ensures) (sym at.before.costs-at.ensures) ∙ sym c.before.before.exceeds.ensures in
+    let lower = ap₂ (λ (p q : List ℕ). somewhere_less (take a.h.dimension p) (take a.h.dimension q)) (sym c.before.before.before.costs-at2.ensures) (sym at.before.costs-at.ensures) ∙ sym c.before.before.exceeds.ensures in
     sym
     (dominators-over a.h.size a.h.dimension a.m.now s.requires.0.0.dimension (bytes at) a.i at.bounds_of.result (bounds at) own.invariant.0 a.most c.before.before.before.before.loop-test.true
     (lower ∙ c.before.if1.true) c.if2.true)
@@ -69,7 +69,7 @@ loop-again c =
     let a = s.args in
     let own = c.before.before.before.before.before.loop in
     let at = c.before.before.before.before.before.before.before in
-    let lower = ap₂ (λ (p q : List ℕ). somewhereLess (take a.h.dimension p) (take a.h.dimension q)) (sym c.before.before.before.costs-at2.ensures) (sym at.before.costs-at.ensures) ∙ sym c.before.before.exceeds.ensures in
+    let lower = ap₂ (λ (p q : List ℕ). somewhere_less (take a.h.dimension p) (take a.h.dimension q)) (sym c.before.before.before.costs-at2.ensures) (sym at.before.costs-at.ensures) ∙ sym c.before.before.exceeds.ensures in
     let turn = dominators-next a.h.size a.h.dimension a.m.now s.requires.0.0.dimension (bytes at) a.i at.bounds_of.result (bounds at) own.invariant.0 in
     ⊎_elim
     (λ w. (turn true c.before.before.before.before.loop-test.true (lower ∙ w.0.taken) w.2 c.next-within2.ensures, omega (arith, w.1.left, w.2, own.invariant.1)))

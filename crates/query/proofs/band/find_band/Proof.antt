@@ -4,18 +4,18 @@ use mathlib.Core.Bool.{Bool}
 use mathlib.Core.List.{List}
 use mathlib.Core.Path.{sym}
 use native.Mathlib.Omega.{arith}
-use Rattle.promises.specs.Layout.{moveIn}
+use Rattle.promises.specs.Layout.{move_in}
 use Rattle.memory.specs.Laws.Held.{held-readable}
 use Rattle.memory.specs.declared.head.Head.{Head}
 use Rattle.upkeep.specs.Found.{move_of}
 use Rattle.upkeep.specs.Laws.Found.{FindsTo, finds-few, finds-none, adds-few, finds-more, finds-all}
-use Rattle.query.specs.Band.{bandOf}
+use Rattle.query.specs.Band.{band_of}
 use Rattle.query.proofs.band.find_band.Statement.{statement}
 use Rattle.query.proofs.band.find_band.Tie as tie
 
 -- Whether the move of a number is in the band.
 abbrev test : Head → ℕ → List ℕ → ℕ → Bool
-test h most m k = bandOf h most m (move_of h.size h.dimension m k)
+test h most m k = band_of h most m (move_of h.size h.dimension m k)
 
 abbrev invariant-loop : tie.invariant-loop
 invariant-loop m h most n corners numbers₀ count₀ i₀ numbers count i = (i ≤ n) × FindsTo h.size m (test h most m) numbers₀ i numbers count
@@ -38,7 +38,7 @@ add-count c =
     omega (arith, finds-few a.h.size a.m.now (test a.h a.most a.m.now) c.before.before.before.before.before.loop.invariant.1, adds-few a.h.size a.m.now c.before.before.in-band.result c.add-found.ensures)
 
 loop-again : tie.Need-loop-preserved invariant-loop decreases-loop
-unfolding moveIn
+unfolding move_in
 loop-again c =
     let a = c.before.before.before.before.before.before.before.before.before.args in
     (omega arith, finds-more a.h.size a.m.now (test a.h a.most a.m.now) c.before.before.before.before.before.loop.invariant.1 (sym c.before.before.in-band.ensures) c.add-found.ensures (omega arith))

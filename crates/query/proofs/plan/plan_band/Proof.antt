@@ -1,12 +1,12 @@
 -- `plan::plan_band` meets its contract. Assumes nothing.
 use mathlib.Core.Path.{refl}
 use borrow.Author.Rules.{rules}
-use Rattle.model.specs.Calls.{bandQuery}
-use Rattle.model.specs.Opening.{queryOpens}
+use Rattle.model.specs.Calls.{band_query}
+use Rattle.model.specs.Opening.{query_opens}
 use Rattle.memory.specs.Held.{SoundAt}
 use Rattle.soundness.specs.Laws.Held.{sound-held, unsound-held}
 use Rattle.rows.specs.Laws.Planned.{query-unsound, query-bad}
-use Rattle.query.specs.Band.{inBand}
+use Rattle.query.specs.Band.{in_band}
 use Rattle.query.specs.Laws.Calls.{band-bad, band-right, band-rows}
 use Rattle.query.specs.Laws.Plan.{found-planned}
 use Rattle.query.proofs.plan.plan_band.Statement.{statement}
@@ -19,21 +19,21 @@ sound-at c = sound-held c.before.before.before.sound-head.ensures c.before.h.giv
 returns : tie.Need-returns
 returns c =
     let a = c.before.before.before.before.before.args in
-    query-unsound (bandQuery a.b) a.m.now a.lent c.refused.ensures (unsound-held c.before.before.before.sound-head.ensures c.before.enum_told.given.1)
+    query-unsound (band_query a.b) a.m.now a.lent c.refused.ensures (unsound-held c.before.before.before.sound-head.ensures c.before.enum_told.given.1)
 
 returns-2 : tie.Need-returns-2
 returns-2 c =
     let a = c.before.before.before.before.before.before.before.args in
     let s = sound-at c.before.before in
-    query-bad (bandQuery a.b) a.m.now a.lent c.refused2.ensures s.sound
+    query-bad (band_query a.b) a.m.now a.lent c.refused2.ensures s.sound
     (band-bad a.m.now a.b c.before.if1.true)
 
 returns-3 : tie.Need-returns-3
-unfolding queryOpens
+unfolding query_opens
 returns-3 c =
     let a = c.before.before.before.before.before.before.before.before.args in
     let s = sound-at c.before.before.before in
-    found-planned (λ d ms. inBand d a.b ms) (bandQuery a.b) s c.before.find-band.ensures c.plan-found.ensures
+    found-planned (λ d ms. in_band d a.b ms) (band_query a.b) s c.before.find-band.ensures c.plan-found.ensures
     (band-right a.m.now a.b c.before.before.if1.false)
     (band-rows a.m.now a.b) (λ _. refl)
 

@@ -6,10 +6,10 @@ use mathlib.Core.Path.{ap, ap₂, ◌∙◌}
 use native.Mathlib.Omega.{arith}
 use borrow.Author.Rules.{rules}
 use lib.Pow.{pow_pos}
-use Rattle.zorder.specs.Address.{rowCosts}
+use Rattle.zorder.specs.Address.{row_costs}
 use Rattle.zorder.proofs.Bits.{shl_one}
-use Rattle.model.specs.Dominance.{somewhereLess, at}
-use Rattle.model.specs.Lists.{chosenCosts}
+use Rattle.model.specs.Dominance.{somewhere_less, at}
+use Rattle.model.specs.Lists.{chosen_costs}
 use Rattle.query.specs.Laws.Rule.{exceeds-chosen}
 use Rattle.query.proofs.rule.dominates_at.Statement.{statement}
 use Rattle.query.proofs.rule.dominates_at.Tie as tie
@@ -21,7 +21,7 @@ returns : tie.Need-returns
 returns c =
     let a = c.before.before.args in
     ap₂ (λ (t u : Bool). not t && u) c.before.exceeds-in.ensures c.exceeds-in2.ensures
-    ∙ ap (λ (n : ℕ). let s : List ℕ = chosenCosts rowCosts (a.set % n) in not (somewhereLess (at s a.q) (at s a.p)) && somewhereLess (at s a.p) (at s a.q)) (shl_one 64 a.d (omega arith))
+    ∙ ap (λ (n : ℕ). let s : List ℕ = chosen_costs row_costs (a.set % n) in not (somewhere_less (at s a.q) (at s a.p)) && somewhere_less (at s a.p) (at s a.q)) (shl_one 64 a.d (omega arith))
     ∙ exceeds-chosen a.p a.q a.d a.set (omega arith)
 
 pub dominates-at-spec : {M : Type 1} → statement M

@@ -5,13 +5,13 @@ use mathlib.Core.Bool.{Bool}
 use mathlib.Core.List.{List}
 use mathlib.Core.Path.{subst}
 use native.Mathlib.Omega.{arith}
-use Rattle.promises.specs.Layout.{moveIn}
-use Rattle.memory.specs.Held.{moveHeld}
+use Rattle.promises.specs.Layout.{move_in}
+use Rattle.memory.specs.Held.{move_held}
 use Rattle.memory.specs.Laws.Held.{held-readable}
 use Rattle.memory.specs.declared.head.Head.{Head}
 use Rattle.upkeep.specs.Found.{move_of}
 use Rattle.upkeep.specs.Laws.Found.{FindsTo, finds-few, finds-none, adds-few, finds-more, finds-all}
-use Rattle.query.specs.Unbeaten.{unbeatenOf, Beater}
+use Rattle.query.specs.Unbeaten.{unbeaten_of, Beater}
 use Rattle.query.specs.Laws.Unbeaten.{beater-tells}
 use Rattle.query.specs.declared.rule.Rule.{Rule}
 use Rattle.query.proofs.unbeaten.find_unbeaten.Statement.{statement}
@@ -19,7 +19,7 @@ use Rattle.query.proofs.unbeaten.find_unbeaten.Tie as tie
 
 -- Whether the move of a number is not beaten.
 abbrev test : Head → Rule → List ℕ → ℕ → Bool
-test h rule m k = unbeatenOf h rule m (move_of h.size h.dimension m k)
+test h rule m k = unbeaten_of h rule m (move_of h.size h.dimension m k)
 
 abbrev invariant-loop : tie.invariant-loop
 invariant-loop m h rule n corners numbers₀ count₀ last₀ i₀ numbers count last i = (i ≤ n) × FindsTo h.size m (test h rule m) numbers₀ i numbers count
@@ -45,13 +45,13 @@ add-count c =
     omega (arith, finds-few a.h.size a.m.now (test a.h a.rule a.m.now) c.before.before.before.before.before.before.loop.invariant.1, adds-few a.h.size a.m.now _ c.add-found.ensures)
 
 loop-again : tie.Need-loop-preserved invariant-loop decreases-loop
-unfolding moveIn
+unfolding move_in
 loop-again c =
     let a = c.before.before.before.before.before.before.before.before.before.before.before.args in
     let own = c.before.before.before.before.before.before.before.loop in
     let beater = c.before.before.before.beater in
     let none = subst (λ (x : List ℕ). Beater a.h a.rule a.m.now x beater.result) c.before.before.before.before.costs-at.ensures beater.ensures in
-    let stays = beater-tells a.h.size a.h.dimension a.h.count a.m.now a.rule (moveHeld a.h a.m.now own.i) none in
+    let stays = beater-tells a.h.size a.h.dimension a.h.count a.m.now a.rule (move_held a.h a.m.now own.i) none in
     (omega arith, finds-more a.h.size a.m.now (test a.h a.rule a.m.now) own.invariant.1 stays c.before.add-found.ensures (omega arith))
 
 returns : tie.Need-returns invariant-loop decreases-loop

@@ -7,17 +7,17 @@ use native.Mathlib.Omega.{arith}
 use Rattle.model.specs.Laws.Bool.{and-false-right}
 use Rattle.promises.specs.Run.{Bytes}
 use Rattle.search.specs.Search.{None}
-use Rattle.memory.specs.Tests.{isListed}
+use Rattle.memory.specs.Tests.{is_listed}
 use Rattle.memory.specs.Laws.Held.{held-readable}
 use Rattle.search.specs.Laws.Search.{none_more, none-join}
 use Rattle.query.specs.Rule as rules
-use Rattle.query.specs.Unbeaten.{beatsAt, listedBeats}
+use Rattle.query.specs.Unbeaten.{beats_at, listed_beats}
 use Rattle.query.specs.Laws.Unbeaten.{none-beats}
 use Rattle.query.proofs.unbeaten.listed_beater.Statement.{statement}
 use Rattle.query.proofs.unbeaten.listed_beater.Tie as tie
 
 abbrev invariant-loop : tie.invariant-loop
-invariant-loop m h rule corners costs n j₀ j = (j ≤ n) × None (listedBeats h.size h.dimension rule m costs) 0 j
+invariant-loop m h rule corners costs n j₀ j = (j ≤ n) × None (listed_beats h.size h.dimension rule m costs) 0 j
 
 abbrev decreases-loop : tie.decreases-loop
 decreases-loop m h rule corners costs n j₀ j = n - j
@@ -49,9 +49,9 @@ loop-again : tie.Need-loop-preserved invariant-loop decreases-loop
 loop-again c =
     let a = c.before.before.before.before.before.before.before.before.args in
     let own = c.before.before.before.before.before.loop in
-    let test = listedBeats a.h.size a.h.dimension a.rule a.m.now a.costs in
+    let test = listed_beats a.h.size a.h.dimension a.rule a.m.now a.costs in
     let beat = ap (λ (p : List ℕ). rules.beats a.h.dimension a.rule p a.costs) (sym c.before.before.before.costs-at.ensures) ∙ sym c.before.before.beats.ensures in
-    let here = and-false-right (isListed a.h.size a.m.now own.j) (beatsAt a.h.size a.h.dimension a.rule a.m.now a.costs own.j) (beat ∙ c.before.if1.false) in
+    let here = and-false-right (is_listed a.h.size a.m.now own.j) (beats_at a.h.size a.h.dimension a.rule a.m.now a.costs own.j) (beat ∙ c.before.if1.false) in
     (c.candidate2.ensures.to, none-join test 0 _ _ (none_more test 0 own.j own.invariant.1 here) c.candidate2.ensures.passed)
 
 returns-2 : tie.Need-returns-2 invariant-loop decreases-loop
@@ -66,7 +66,7 @@ returns-2 c =
       to = omega arith;
       found = λ l. absurd (omega arith);
       none = λ l. none-beats s.requires.0.0 bytes a.rule a.costs
-          (subst (None (listedBeats a.h.size a.h.dimension a.rule a.m.now a.costs) 0) all own.invariant.1);
+          (subst (None (listed_beats a.h.size a.h.dimension a.rule a.m.now a.costs) 0) all own.invariant.1);
     }
 
 pub listed-beater-spec : {M : Type 1} → statement M

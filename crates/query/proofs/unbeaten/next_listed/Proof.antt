@@ -3,14 +3,14 @@ use Prim.Native.Nat.{◌-◌, ◌≤◌}
 use mathlib.Core.Path.{sym, ◌∙◌}
 use native.Mathlib.Omega.{arith}
 use Rattle.search.specs.Search.{None}
-use Rattle.memory.specs.Tests.{isListed}
+use Rattle.memory.specs.Tests.{is_listed}
 use Rattle.search.specs.Laws.Search.{none-empty, none_more}
 use Rattle.memory.specs.Laws.Turns.{listed_at}
 use Rattle.query.proofs.unbeaten.next_listed.Statement.{statement}
 use Rattle.query.proofs.unbeaten.next_listed.Tie as tie
 
 abbrev invariant-loop : tie.invariant-loop
-invariant-loop m h i n j₀ j = (i ≤ j) × (j ≤ n) × None (isListed h.size m) i j
+invariant-loop m h i n j₀ j = (i ≤ j) × (j ≤ n) × None (is_listed h.size m) i j
 
 abbrev decreases-loop : tie.decreases-loop
 decreases-loop m h i n j₀ j = n - j
@@ -45,7 +45,7 @@ loop-again c =
     let number = c.before.before.number_at in (
       omega arith,
       omega arith,
-      none_more (isListed a.h.size a.m.now) a.i own.j own.invariant.2
+      none_more (is_listed a.h.size a.m.now) a.i own.j own.invariant.2
           (listed_at a.h.size a.m.now own.j number.result number.ensures ∙ sym c.before.is-listed.ensures ∙ c.if1.false),
     )
 

@@ -5,7 +5,7 @@ use mathlib.Core.Path.{◌≡◌, refl, ap, ◌∙◌}
 use native.Mathlib.Omega.{arith}
 use borrow.Author.Rules.{rules}
 use lib.ListN.{length, get_or, drop}
-use Rattle.rows.specs.Rows.{rowNumbers}
+use Rattle.rows.specs.Rows.{row_numbers}
 use Rattle.rows.proofs.row.row_from.Statement.{statement}
 use Rattle.rows.proofs.row.row_from.Tie as tie
 
@@ -15,7 +15,7 @@ two-first (p ∷ []) h = absurd (omega arith)
 two-first (p ∷ q ∷ ns) h = refl
 
 returns : tie.Need-returns
-unfolding rowNumbers
+unfolding row_numbers
 returns c =
     let ns = c.before.args.t1 in
     ap (λ (costs : List ℕ). get_or ns 0 0 ∷ get_or ns 1 0 ∷ costs) c.costs-from.ensures ∙ two-first ns (omega arith)

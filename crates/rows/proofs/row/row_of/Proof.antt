@@ -5,19 +5,19 @@ use mathlib.Core.Path.{◌≡◌, sym, ap, ◌∙◌}
 use native.Mathlib.Omega.{arith}
 use borrow.Author.Rules.{rules}
 use lib.ListN.{length, get_or, set, length-map}
-use Rattle.zorder.specs.Address.{rowCosts, padded}
+use Rattle.zorder.specs.Address.{row_costs, padded}
 use Rattle.zorder.proofs.Fill.{filled, filled_none, filled_more, filled-all}
-use Rattle.rows.specs.Rows.{moveNumbers}
+use Rattle.rows.specs.Rows.{move_numbers}
 use Rattle.rows.proofs.row.row_of.Statement.{statement}
 use Rattle.rows.proofs.row.row_of.Tie as tie
 
 abbrev invariant-loop : tie.invariant-loop
-invariant-loop mark p row₀ j₀ row j = (j ≤ rowCosts) × (row ≡ mark ∷ get_or row₀ 1 0 ∷ filled p j)
+invariant-loop mark p row₀ j₀ row j = (j ≤ row_costs) × (row ≡ mark ∷ get_or row₀ 1 0 ∷ filled p j)
 
 abbrev decreases-loop : tie.decreases-loop
-decreases-loop mark p row₀ j₀ row j = rowCosts - j
+decreases-loop mark p row₀ j₀ row j = row_costs - j
 
-count : (c : tie.After-p invariant-loop decreases-loop) → length c.before.args.x.costs ≡ rowCosts
+count : (c : tie.After-p invariant-loop decreases-loop) → length c.before.args.x.costs ≡ row_costs
 count c = sym (length-map c.before.args.x.costs (λ (v : ℕ). v)) ∙ c.before.well-formed.0.1.1.1.0.1.0.1
 
 set-two : (a b v j : ℕ) (cs : List ℕ) → set (a ∷ b ∷ cs) (j + 2) v ≡ a ∷ b ∷ set cs j v
@@ -34,7 +34,7 @@ loop-again : tie.Need-loop-preserved invariant-loop decreases-loop
 loop-again c =
     let a = c.before.before.before.args in
     let own = c.before.loop in
-    let all : length a.x.costs ≡ rowCosts = count c.before.before in (
+    let all : length a.x.costs ≡ row_costs = count c.before.before in (
       omega arith,
       ap (λ (row : List ℕ). set row (own.j + 2) (get_or a.x.costs own.j 0)) own.invariant.1
           ∙ set-two a.mark a.x.number (get_or a.x.costs own.j 0) own.j (filled a.x.costs own.j)
@@ -42,14 +42,14 @@ loop-again c =
     )
 
 returns : tie.Need-returns invariant-loop decreases-loop
-unfolding moveNumbers padded
+unfolding move_numbers padded
 returns c =
     let a = c.before.before.before.args in
     let own = c.before.loop in
-    let all : own.j ≡ rowCosts = omega arith in
+    let all : own.j ≡ row_costs = omega arith in
     own.invariant.1
     ∙ ap (λ (cs : List ℕ). a.mark ∷ a.x.number ∷ cs)
-    (ap (filled a.x.costs) all ∙ filled-all a.x.costs rowCosts (count c.before.before) ∙ append-nil a.x.costs)
+    (ap (filled a.x.costs) all ∙ filled-all a.x.costs row_costs (count c.before.before) ∙ append-nil a.x.costs)
 
 pub row-of-spec : {M : Type 1} → statement M
 row-of-spec =

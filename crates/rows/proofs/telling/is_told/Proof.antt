@@ -5,9 +5,9 @@ use mathlib.Core.Path.{◌≡◌, refl, sym, ap, ◌∙◌}
 use native.Mathlib.Omega.{arith}
 use borrow.Author.Rules.{rules}
 use borrow.Author.Tests.{not-true, not-false}
-use Rattle.search.specs.Search.{looks, looksAt}
+use Rattle.search.specs.Search.{looks, looks_at}
 use Rattle.numbers.specs.Set.{in_set}
-use Rattle.rows.specs.Telling.{tellsPlace, toldAt}
+use Rattle.rows.specs.Telling.{tells_place, told_at}
 use Rattle.rows.specs.Laws.Telling.{place-below, coming-told, place-told}
 use Rattle.rows.proofs.telling.is_told.Statement.{statement}
 use Rattle.rows.proofs.telling.is_told.Tie as tie
@@ -39,13 +39,13 @@ has-requires c κs =
     omega (arith, below c, pre.room.1)
 
 -- The answer by the two tests: in the set, and among those that are told.
-by_tests : (c : tie.After-number-at) → {own seen : Bool}
+by-tests : (c : tie.After-number-at) → {own seen : Bool}
     → in_set c.before.before.before.before.before.before.before.args.numbers.now c.number_at.result ≡ own
     → looks c.before.before.before.before.before.before.before.args.t.among c.before.before.before.before.before.before.before.args.t.head.size c.before.before.before.before.before.before.before.args.m.now c.number_at.result ≡ seen
     → let a = c.before.before.before.before.before.before.before.args in
-    (own && seen) ≡ toldAt a.t a.numbers.now a.m.now a.i
-unfolding tellsPlace looksAt
-by_tests c p q =
+    (own && seen) ≡ told_at a.t a.numbers.now a.m.now a.i
+unfolding tells_place looks_at
+by-tests c p q =
     let read = c.before in
     let a = read.before.before.before.before.before.before.args in
     let number = c.number_at in
@@ -53,7 +53,7 @@ by_tests c p q =
     ∙ (λ i. (ap (in_set a.numbers.now) (sym number.ensures) ∙ p) i && (ap (looks a.t.among a.t.head.size a.m.now) (sym number.ensures) ∙ q) i))
 
 returns-2 : tie.Need-returns-2
-returns-2 c = by_tests c.before.before (sym c.before.has.ensures ∙ not-true _ c.if2.true) refl
+returns-2 c = by-tests c.before.before (sym c.before.has.ensures ∙ not-true _ c.if2.true) refl
 
 looks-requires : tie.Need-looks-requires
 looks-requires c κs =
@@ -61,7 +61,7 @@ looks-requires c κs =
     (number.before.before.before.before.before.before.before.requires.0.readable.room, below number)
 
 returns-3 : tie.Need-returns-3
-returns-3 c = by_tests c.before.before.before (sym c.before.before.has.ensures ∙ not-false _ c.before.if2.false) (sym c.looks.ensures)
+returns-3 c = by-tests c.before.before.before (sym c.before.before.has.ensures ∙ not-false _ c.before.if2.false) (sym c.looks.ensures)
 
 pub is-told-spec : {M : Type 1} → statement M
 is-told-spec =

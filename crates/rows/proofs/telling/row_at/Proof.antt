@@ -4,7 +4,7 @@ use mathlib.Core.List.{[]}
 use mathlib.Core.Path.{sym, ap, ◌∙◌}
 use native.Mathlib.Omega.{arith}
 use borrow.Author.Rules.{rules}
-use Rattle.rows.specs.Rows.{moveNumbers}
+use Rattle.rows.specs.Rows.{move_numbers}
 use Rattle.rows.specs.Laws.Telling.{place-below, coming-row, place-row}
 use Rattle.rows.proofs.telling.row_at.Statement.{statement}
 use Rattle.rows.proofs.telling.row_at.Tie as tie
@@ -27,7 +27,7 @@ returns-2 c =
     let read = c.before.before in
     let a = read.before.before.before.before.before.before.args in
     c.row-of2.ensures
-    ∙ ap (moveNumbers a.t.mark) c.before.move_at.ensures
+    ∙ ap (move_numbers a.t.mark) c.before.move_at.ensures
     ∙ sym (place-row a.t [] a.m.now a.i read.before.if1.false read.place_at.result (sym read.place_at.ensures))
 
 pub row-at-spec : {M : Type 1} → statement M

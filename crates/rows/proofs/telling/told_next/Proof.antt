@@ -4,13 +4,13 @@ use Prim.Native.Nat.{◌-◌}
 use mathlib.Core.Path.{◌≡◌, refl, sym, ap, ◌∙◌}
 use native.Mathlib.Numerals.{add-one}
 use native.Mathlib.Omega.{arith}
-use Rattle.rows.specs.Telling.{positions, toldFrom}
+use Rattle.rows.specs.Telling.{positions, told_from}
 use Rattle.rows.specs.Laws.Telling.{from_told, from-other, from_end, next-told, next-none}
 use Rattle.rows.proofs.telling.told_next.Statement.{statement}
 use Rattle.rows.proofs.telling.told_next.Tie as tie
 
 abbrev invariant-loop : tie.invariant-loop
-invariant-loop m t numbers i end j₀ j = (end ≡ positions t) × (toldFrom t numbers m j ≡ toldFrom t numbers m i)
+invariant-loop m t numbers i end j₀ j = (end ≡ positions t) × (told_from t numbers m j ≡ told_from t numbers m i)
 
 abbrev decreases-loop : tie.decreases-loop
 decreases-loop m t numbers i end j₀ j = end - j
@@ -40,7 +40,7 @@ loop-again c =
     let a = c.before.before.before.before.before.before.before.args in
     let own = c.before.before.before.loop in (
       own.invariant.0,
-      ap (toldFrom a.t a.numbers.now a.m.now) (add-one own.j)
+      ap (told_from a.t a.numbers.now a.m.now) (add-one own.j)
           ∙ sym (from-other a.t a.numbers.now a.m.now own.j (omega (arith, own.invariant.0, c.before.before.loop-test.true)) (sym c.before.is-told.ensures ∙ c.if1.false))
           ∙ own.invariant.1,
     )

@@ -5,13 +5,13 @@ use mathlib.Core.Path.{◌≡◌, ap, ◌∙◌}
 use native.Mathlib.Omega.{arith}
 use lib.Bits.{bit_or}
 use lib.Dec.{eqb}
-use Rattle.search.specs.Columns.{columnFits}
+use Rattle.search.specs.Columns.{column_fits}
 use Rattle.search.specs.Laws.Columns.{asked-none, asked-more}
 use Rattle.search.proofs.columns.fits_column.Statement.{statement}
 use Rattle.search.proofs.columns.fits_column.Tie as tie
 
 abbrev invariant-loop : tie.invariant-loop
-invariant-loop columns w j q worse₀ k₀ worse k = (k ≤ w) × (eqb worse 0 ≡ columnFits k columns q j)
+invariant-loop columns w j q worse₀ k₀ worse k = (k ≤ w) × (eqb worse 0 ≡ column_fits k columns q j)
 
 abbrev decreases-loop : tie.decreases-loop
 decreases-loop columns w j q worse₀ k₀ worse k = w - k
@@ -30,7 +30,7 @@ returns c =
     let a = c.before.before.before.args in
     let own = c.before.before.loop in
     let all : own.k ≡ a.w = omega arith in
-    c.zero.ensures ∙ ap (λ (t : Bool). cond t 1 0) (own.invariant.1 ∙ ap (λ (w : ℕ). columnFits w a.columns.now a.t4 a.j) all)
+    c.zero.ensures ∙ ap (λ (t : Bool). cond t 1 0) (own.invariant.1 ∙ ap (λ (w : ℕ). column_fits w a.columns.now a.t4 a.j) all)
 
 pub fits-column-spec : {M : Type 1} → statement M
 fits-column-spec =

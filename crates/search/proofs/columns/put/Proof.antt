@@ -1,16 +1,16 @@
 -- `columns::put` meets its contract. The loop's invariant: the costs passed stand in the column. Assumes nothing.
 use Prim.Native.Nat.{◌-◌, ◌≤◌}
 use native.Mathlib.Omega.{arith}
-use Rattle.zorder.specs.Address.{rowCosts}
+use Rattle.zorder.specs.Address.{row_costs}
 use Rattle.search.specs.Laws.Columns.{PutTo, put-none, put-more, put_all}
 use Rattle.search.proofs.columns.put.Statement.{statement}
 use Rattle.search.proofs.columns.put.Tie as tie
 
 abbrev invariant-loop : tie.invariant-loop
-invariant-loop at costs cells₀ k₀ cells k = (k ≤ rowCosts) × PutTo cells₀ at costs k cells
+invariant-loop at costs cells₀ k₀ cells k = (k ≤ row_costs) × PutTo cells₀ at costs k cells
 
 abbrev decreases-loop : tie.decreases-loop
-decreases-loop at costs cells₀ k₀ cells k = rowCosts - k
+decreases-loop at costs cells₀ k₀ cells k = row_costs - k
 
 loop-holds : tie.Need-loop-init invariant-loop decreases-loop
 loop-holds c = (omega arith, put-none)

@@ -3,19 +3,19 @@ use Prim.Native.Nat.{ℕ}
 use mathlib.Core.List.{List}
 use mathlib.Core.Path.{ap, ◌∙◌}
 use borrow.Author.Rules.{rules}
-use Rattle.zorder.specs.Address.{rowCosts}
-use Rattle.dominance.specs.Lanes.{bound, isFirst}
+use Rattle.zorder.specs.Address.{row_costs}
+use Rattle.dominance.specs.Lanes.{bound, is_first}
 use Rattle.promises.specs.Layout.{tab}
-use Rattle.search.specs.Search.{boundsAt}
+use Rattle.search.specs.Search.{bounds_at}
 use Rattle.search.specs.Laws.Search.{lanes-tab}
 use Rattle.search.proofs.search.bounds_at.Statement.{statement}
 use Rattle.search.proofs.search.bounds_at.Tie as tie
 
 returns : tie.Need-returns
-unfolding boundsAt
+unfolding bounds_at
 returns c =
     let a = c.before.before.before.args in
-    lanes-tab c.bounds_of.ensures ∙ ap (λ (x : List ℕ). tab (bound (isFirst a.h.dimension) x) rowCosts) c.before.seen_at.ensures
+    lanes-tab c.bounds_of.ensures ∙ ap (λ (x : List ℕ). tab (bound (is_first a.h.dimension) x) row_costs) c.before.seen_at.ensures
 
 pub bounds-at-spec : {M : Type 1} → statement M
 bounds-at-spec = tie.close (tie.spec (λ c κs. search rules) (λ c κs. search rules) returns)

@@ -5,7 +5,7 @@ use mathlib.Core.List.{List}
 use mathlib.Core.Path.{sym, ap, ◌∙◌}
 use native.Mathlib.Omega.{arith}
 use borrow.Author.Rules.{rules}
-use Rattle.model.specs.Dominance.{nowhereGreater}
+use Rattle.model.specs.Dominance.{nowhere_greater}
 use Rattle.search.specs.Laws.Search.{fits-within, fits-exceeding, whole_row}
 use Rattle.search.proofs.search.fits_at.Statement.{statement}
 use Rattle.search.proofs.search.fits_at.Tie as tie
@@ -15,7 +15,7 @@ returns c =
     let a = c.before.before.before.before.args in
     let row = c.before.before.seen_at in
     sym (fits-exceeding a.among a.h.size a.m.now a.q a.i
-    (sym (ap (λ (l : List ℕ). nowhereGreater l a.q) row.ensures)
+    (sym (ap (λ (l : List ℕ). nowhere_greater l a.q) row.ensures)
     ∙ sym (whole_row row.result a.q (omega arith) (omega arith))
     ∙ sym (ap not c.before.exceeds.ensures)
     ∙ ap not c.if1.true))
@@ -26,7 +26,7 @@ returns-2 c =
     let row = c.before.before.before.seen_at in
     c.looks-at.ensures
     ∙ sym (fits-within a.among a.h.size a.m.now a.q a.i
-    (sym (ap (λ (l : List ℕ). nowhereGreater l a.q) row.ensures)
+    (sym (ap (λ (l : List ℕ). nowhere_greater l a.q) row.ensures)
     ∙ sym (whole_row row.result a.q (omega arith) (omega arith))
     ∙ sym (ap not c.before.before.exceeds.ensures)
     ∙ ap not c.before.if1.false))

@@ -4,12 +4,12 @@ use mathlib.Core.Path.{ap, ◌∙◌}
 use borrow.Author.Rules.{rules}
 use lib.Bits.{and_mask}
 use lib.Dec.{eqb}
-use Rattle.search.specs.Search.{inBlocks}
+use Rattle.search.specs.Search.{in_blocks}
 use Rattle.search.proofs.search.in_blocks.Statement.{statement}
 use Rattle.search.proofs.search.in_blocks.Tie as tie
 
 returns : tie.Need-returns
-unfolding inBlocks
+unfolding in_blocks
 returns c =
     let a = c.before.before.args in
     let block = c.Block-of in

@@ -1,7 +1,7 @@
 -- `search::looks_at` meets its contract. Assumes nothing.
 use mathlib.Core.Path.{ap, ◌∙◌}
 use native.Mathlib.Omega.{arith}
-use Rattle.search.specs.Search.{looks, looksAt}
+use Rattle.search.specs.Search.{looks, looks_at}
 use Rattle.search.proofs.search.looks_at.Statement.{statement}
 use Rattle.search.proofs.search.looks_at.Tie as tie
 
@@ -9,7 +9,7 @@ looks-requires : tie.Need-looks-requires
 looks-requires c κs = let s = c.before.before in (s.requires.0.room, omega (arith, c.number_at.ensures, s.requires.0.numbers s.args.i s.requires.1))
 
 returns : tie.Need-returns
-unfolding looksAt
+unfolding looks_at
 returns c =
     let a = c.before.before.before.args in
     c.looks.ensures ∙ ap (looks a.among a.h.size a.m.now) c.before.number_at.ensures

@@ -2,8 +2,8 @@
 use mathlib.Core.Path.{ap, ◌∙◌}
 use native.Mathlib.Omega.{arith}
 use borrow.Author.Rules.{rules}
-use Rattle.zorder.specs.Address.{rowCosts}
-use Rattle.promises.specs.Layout.{costsIn}
+use Rattle.zorder.specs.Address.{row_costs}
+use Rattle.promises.specs.Layout.{costs_in}
 use Rattle.search.specs.Search.{seen, seen_at}
 use Rattle.search.proofs.search.seen_at.Statement.{statement}
 use Rattle.search.proofs.search.seen_at.Tie as tie
@@ -17,7 +17,7 @@ unfolding seen_at
 returns c =
     let a = c.before.before.before.before.args in
     c.seen.ensures
-    ∙ ap (seen a.among) (c.before.costs-of.ensures ∙ ap (costsIn a.h.size rowCosts a.m.now) c.before.before.number_at.ensures)
+    ∙ ap (seen a.among) (c.before.costs-of.ensures ∙ ap (costs_in a.h.size row_costs a.m.now) c.before.before.number_at.ensures)
 
 pub seen-at-spec : {M : Type 1} → statement M
 seen-at-spec = tie.close (tie.spec (λ c κs. search rules) costs-of-requires (λ c κs. search rules) returns)

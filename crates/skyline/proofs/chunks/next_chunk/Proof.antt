@@ -8,10 +8,10 @@ use mathlib.Core.Path.{◌≡◌, refl, sym, ap, ◌∙◌, subst}
 use native.Mathlib.Omega.{arith}
 use borrow.Author.Tests.{ltb-true, ltb-false, not-false}
 use lib.Dec.{ltb}
-use Rattle.model.specs.Laws.Bool.{byCases, both_ways, and_left, and_right}
+use Rattle.model.specs.Laws.Bool.{by_cases, both_ways, and_left, and_right}
 use Rattle.dominance.specs.Lanes.{Lanes, lesser}
 use Rattle.promises.specs.Run.{Bytes}
-use Rattle.search.specs.Search.{seen_at, boundsAt}
+use Rattle.search.specs.Search.{seen_at, bounds_at}
 use Rattle.search.specs.Columns.{count_to, Bounds, Put, Filled}
 use Rattle.skyline.specs.Chunks.{listed, Gathered, Unhidden}
 use Rattle.skyline.specs.Laws.Chunks.{bounds-past, gathered_none, gathered-same, gathered-more, same_count, more-count, none-fits-before, chunk-grows, chunk-some}
@@ -154,10 +154,10 @@ loop-again c =
           ⊎_elim
           (λ u. columns-none size d m i w.1.result w.1.ensures a.from i own.columns own.low inv.5 (u.2.ensures.false-says u.3.left))
           (λ u.
-          byCases (ltb 0 own.count)
+          by_cases (ltb 0 own.count)
           (λ some. exceeds-none size d m i w.1.result w.1.ensures a.from i own.columns own.low inv.5
           (sym w.2.ensures ∙ not-false w.2.result (ap (λ (b : Bool). b && not w.2.result) (sym some) ∙ u.left)))
-          (λ none. none-fits-before size m a.from i own.count own.columns own.low inv.0 inv.5 inv.4 (omega (arith, ltb-false 0 own.count none)) (boundsAt size d m i)))
+          (λ none. none-fits-before size m a.from i own.count own.columns own.low inv.0 inv.5 inv.4 (omega (arith, ltb-false 0 own.count none)) (bounds_at size d m i)))
           w.3.came)
           (λ w. both_ways t (shown ∙ w.0.left))
           c.if1.branch),

@@ -2,7 +2,7 @@
 use mathlib.Core.Bool.{Bool, ◌&&◌}
 use mathlib.Core.Path.{refl, sym, ap, ◌∙◌}
 use borrow.Author.Tests.{not-true, not-false}
-use Rattle.memory.specs.Tests.{listedRight}
+use Rattle.memory.specs.Tests.{listed_right}
 use Rattle.skyline.specs.Laws.Halves.{flags-halves}
 use Rattle.skyline.proofs.flags.flags_right.Statement.{statement}
 use Rattle.skyline.proofs.flags.flags_right.Tie as tie
@@ -13,7 +13,7 @@ returns c =
     let half = c.before.hidden-right in
     sym
     (flags-halves a.h.size a.h.dimension a.h.count a.m.now
-    ∙ ap (λ (t : Bool). t && listedRight a.h.size a.h.dimension a.h.count a.m.now) (sym half.ensures ∙ not-true half.result c.if1.true))
+    ∙ ap (λ (t : Bool). t && listed_right a.h.size a.h.dimension a.h.count a.m.now) (sym half.ensures ∙ not-true half.result c.if1.true))
 
 returns-2 : tie.Need-returns-2
 returns-2 c =
@@ -22,7 +22,7 @@ returns-2 c =
     c.listed-right.ensures
     ∙ sym
     (flags-halves a.h.size a.h.dimension a.h.count a.m.now
-    ∙ ap (λ (t : Bool). t && listedRight a.h.size a.h.dimension a.h.count a.m.now) (sym half.ensures ∙ not-false half.result c.before.before.before.if1.false))
+    ∙ ap (λ (t : Bool). t && listed_right a.h.size a.h.dimension a.h.count a.m.now) (sym half.ensures ∙ not-false half.result c.before.before.before.if1.false))
 
 pub flags-right-spec : {M : Type 1} → statement M
 flags-right-spec =

@@ -6,7 +6,7 @@ use native.Mathlib.Omega.{arith}
 use borrow.Author.Rules.{rules}
 use Rattle.promises.specs.Run.{Bytes}
 use Rattle.search.specs.Search.{ListedSome}
-use Rattle.search.specs.Laws.Hiders.{hidden_at}
+use Rattle.search.specs.Laws.Hiders.{hidden-at}
 use Rattle.skyline.proofs.flags.hider_before.Statement.{statement}
 use Rattle.skyline.proofs.flags.hider_before.Tie as tie
 
@@ -17,7 +17,7 @@ returns c =
     let a = s.args in
     let asked = s.requires.0 in
     let bytes : Bytes a.m.now = λ i. omega (arith, c.before.before.shared-slice-known.given i) in
-    hidden_at a.h.size a.h.dimension a.m.now asked.0.dimension bytes a.h.count asked.1 a.i c.found_from_lem.result asked.2
+    hidden-at a.h.size a.h.dimension a.m.now asked.0.dimension bytes a.h.count asked.1 a.i c.found_from_lem.result asked.2
     (subst (λ (q : List ℕ). ListedSome a.h a.m.now q a.i c.found_from_lem.result) c.before.bounds-at.ensures c.found_from_lem.ensures)
 
 pub hider-before-spec : {M : Type 1} → statement M

@@ -8,17 +8,17 @@ use mathlib.Core.Path.{◌≡◌, sym, ◌∙◌, subst}
 use native.Mathlib.Omega.{arith}
 use borrow.Author.Tests.{lt-ltb, le-ltb}
 use Rattle.promises.specs.Run.{Bytes}
-use Rattle.search.specs.Search.{looksAt, looks, boundsAt, ListedCorners, ListedSome}
-use Rattle.memory.specs.Tests.{isListed, hiddenRight}
+use Rattle.search.specs.Search.{looks_at, looks, bounds_at, ListedCorners, ListedSome}
+use Rattle.memory.specs.Tests.{is_listed, hidden_right}
 use Rattle.search.specs.Laws.Search.{corners-none, corners-unlooked, corners-more}
-use Rattle.search.specs.Laws.Hiders.{hidden_at}
+use Rattle.search.specs.Laws.Hiders.{hidden-at}
 use Rattle.skyline.specs.Laws.Halves.{hidden-none, hidden-shown, hidden-more, hidden-fail}
 use Rattle.skyline.proofs.hiders.hidden_right.Statement.{statement}
 use Rattle.skyline.proofs.hiders.hidden_right.Tie as tie
 
 abbrev invariant-loop : tie.invariant-loop
 invariant-loop m h corners₀ columns₀ n places₀ at₀ last₀ nearest₀ i₀ corners columns places at last nearest i =
-    (i ≤ n) × (at < 8) × ListedCorners h m i corners × (hiddenRight h.size h.dimension i m ≡ true)
+    (i ≤ n) × (at < 8) × ListedCorners h m i corners × (hidden_right h.size h.dimension i m ≡ true)
 
 abbrev decreases-loop : tie.decreases-loop
 decreases-loop m h corners₀ columns₀ n places₀ at₀ last₀ nearest₀ i₀ corners columns places at last nearest i = n - i
@@ -44,7 +44,7 @@ found-from-requires : tie.Need-found-from-requires invariant-loop decreases-loop
 found-from-requires c κs = ((c.before.before.before.before.before.before.before.before.before.before.before.requires.0, omega (arith, c.before.before.before.before.before.before.before.before.loop-test.true)), c.before.before.before.before.before.before.before.before.before.loop.invariant.2)
 
 returns : tie.Need-returns invariant-loop decreases-loop
-unfolding Bytes looksAt looks isListed
+unfolding Bytes looks_at looks is_listed
 returns c =
     let s = c.before.before.before.before.before.before.before.before.before.before.before.before.before in
     let a = s.args in
@@ -55,14 +55,14 @@ returns c =
     let some = subst (λ (q : List ℕ). ListedSome a.h a.m.now q own.i found.result) c.before.before.before.before.before.before.before.bounds-at.ensures found.ensures in
     sym
     (hidden-fail a.h.size a.h.dimension a.m.now a.h.count own.i inside (sym c.before.before.before.before.before.before.before.before.before.looks-at.ensures ∙ c.before.before.before.before.before.before.before.before.if1.false)
-    (hidden_at a.h.size a.h.dimension a.m.now s.requires.0.dimension bytes a.h.count s.requires.1 own.i found.result inside some
+    (hidden-at a.h.size a.h.dimension a.m.now s.requires.0.dimension bytes a.h.count s.requires.1 own.i found.result inside some
     ∙ le-ltb found.result own.i (omega (arith, c.if3.true))))
 
 seen-at-requires : tie.Need-seen-at-requires invariant-loop decreases-loop
 seen-at-requires c κs = (c.before.before.before.before.before.before.before.before.before.before.before.before.before.before.requires.0, omega (arith, c.before.before.before.before.before.before.before.before.before.before.before.loop-test.true, c.before.if3.false))
 
 loop-again : tie.Need-loop-preserved invariant-loop decreases-loop
-unfolding Bytes looksAt looks isListed
+unfolding Bytes looks_at looks is_listed
 loop-again c =
     let s = c.before.before.before.before.before in
     let a = s.args in
@@ -70,11 +70,11 @@ loop-again c =
     let inside : own.i < a.h.count = omega (arith, c.before.before.loop-test.true) in
     let bytes : Bytes a.m.now = λ k. omega (arith, c.before.before.before.before.shared-slice-known.given k) in
     let shown = sym c.before.looks-at.ensures in
-    let hidden : (q : List ℕ) (r : ℕ) → q ≡ boundsAt a.h.size a.h.dimension a.m.now own.i → r < own.i → ListedSome a.h a.m.now q own.i r
-    → hiddenRight a.h.size a.h.dimension (own.i + 1) a.m.now ≡ true =
+    let hidden : (q : List ℕ) (r : ℕ) → q ≡ bounds_at a.h.size a.h.dimension a.m.now own.i → r < own.i → ListedSome a.h a.m.now q own.i r
+    → hidden_right a.h.size a.h.dimension (own.i + 1) a.m.now ≡ true =
     λ q r e l some.
     hidden-more a.h.size a.h.dimension a.m.now own.i own.invariant.3
-    (hidden_at a.h.size a.h.dimension a.m.now s.requires.0.dimension bytes a.h.count s.requires.1 own.i r inside
+    (hidden-at a.h.size a.h.dimension a.m.now s.requires.0.dimension bytes a.h.count s.requires.1 own.i r inside
     (subst (λ (x : List ℕ). ListedSome a.h a.m.now x own.i r) e some)
     ∙ lt-ltb r own.i l) in
     let For : List (List ℕ) → Type 0 = λ r. ListedCorners a.h a.m.now (own.i + 1) r in (
@@ -100,7 +100,7 @@ returns-2 c =
     let a = c.before.before.before.args in
     let own = c.before.loop in
     let all : own.i ≡ a.h.count = omega arith in
-    sym (subst (λ (k : ℕ). hiddenRight a.h.size a.h.dimension k a.m.now ≡ true) all own.invariant.3)
+    sym (subst (λ (k : ℕ). hidden_right a.h.size a.h.dimension k a.m.now ≡ true) all own.invariant.3)
 
 pub hidden-right-spec : {M : Type 1} → statement M
 hidden-right-spec =

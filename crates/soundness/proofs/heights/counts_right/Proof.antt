@@ -11,22 +11,22 @@ use lib.ListN.{drop}
 use borrow.Author.Tests.{ltb-true, ltb-false, leb-false, le-leb, lt-leb}
 use Rattle.model.specs.Basics.{within}
 use Rattle.model.specs.Laws.Tree.{within-true, within-false}
-use Rattle.line.specs.Heights.{countsFrom, countsAt}
-use Rattle.promises.specs.Layout.{heightsFrom}
+use Rattle.line.specs.Heights.{counts_from, counts_at}
+use Rattle.promises.specs.Layout.{heights_from}
 use Rattle.soundness.specs.Laws.Levels.{counts-first, counts-last, node-right, node-wrong, node-entry, node-inside}
 use Rattle.soundness.proofs.heights.counts_right.Statement.{statement}
 use Rattle.soundness.proofs.heights.counts_right.Tie as tie
 
 -- At the end the node at hand is left.
-ended : (c n : ℕ) (m : List ℕ) (l lo k i : ℕ) → i ≡ n → countsFrom l lo k (drop i (heightsFrom c n m)) ≡ countsAt l lo (heightsFrom c n m)
-    → within lo 8 k ≡ countsAt l lo (heightsFrom c n m)
+ended : (c n : ℕ) (m : List ℕ) (l lo k i : ℕ) → i ≡ n → counts_from l lo k (drop i (heights_from c n m)) ≡ counts_at l lo (heights_from c n m)
+    → within lo 8 k ≡ counts_at l lo (heights_from c n m)
 ended c n m l lo k i e h =
-    sym (counts-last c m l lo k n) ∙ ap (λ (j : ℕ). countsFrom l lo k (drop j (heightsFrom c n m))) (sym e) ∙ h
+    sym (counts-last c m l lo k n) ∙ ap (λ (j : ℕ). counts_from l lo k (drop j (heights_from c n m))) (sym e) ∙ h
 
 abbrev invariant-loop : tie.invariant-loop
 invariant-loop m c n l lo entries₀ i₀ entries i =
     (1 ≤ i) × (i ≤ n) × (entries ≤ i)
-    × (countsFrom l lo entries (drop i (heightsFrom c n m)) ≡ countsAt l lo (heightsFrom c n m))
+    × (counts_from l lo entries (drop i (heights_from c n m)) ≡ counts_at l lo (heights_from c n m))
 
 abbrev decreases-loop : tie.decreases-loop
 decreases-loop m c n l lo entries₀ i₀ entries i = n - i
@@ -52,7 +52,7 @@ loop-again : tie.Need-loop-preserved invariant-loop decreases-loop
 loop-again c =
     let a = c.before.before.before.before.before.args in
     let own = c.before.before.before.loop in
-    let left : ℕ → Bool = λ k. countsFrom a.l a.lo k (drop (own.i + 1) (heightsFrom a.c a.n a.m.now)) in (
+    let left : ℕ → Bool = λ k. counts_from a.l a.lo k (drop (own.i + 1) (heights_from a.c a.n a.m.now)) in (
       omega arith,
       omega arith,
       ⊎_elim (λ w. omega (arith, w.3)) (⊎_elim (λ w. omega (arith, w.2)) (λ w. omega (arith, w.2))) c.if1.branch,

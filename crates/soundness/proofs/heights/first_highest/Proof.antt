@@ -4,13 +4,13 @@ use mathlib.Core.Bool.{true}
 use mathlib.Core.Path.{◌≡◌, refl, sym, subst}
 use native.Mathlib.Omega.{arith}
 use borrow.Author.Tests.{eqb-true, eqb-false, leb-true, leb-false}
-use Rattle.memory.specs.Tests.{allTo}
-use Rattle.soundness.specs.Laws.Levels.{lowerNext, lower-next, highest-none, highest-found, highest-flat, highest-lost}
+use Rattle.memory.specs.Tests.{all_to}
+use Rattle.soundness.specs.Laws.Levels.{lower_next, lower-next, highest-none, highest-found, highest-flat, highest-lost}
 use Rattle.soundness.proofs.heights.first_highest.Statement.{statement}
 use Rattle.soundness.proofs.heights.first_highest.Tie as tie
 
 abbrev invariant-loop : tie.invariant-loop
-invariant-loop m c n top i₀ i = (1 ≤ i) × (i ≤ n) × (allTo (lowerNext c m) (i - 1) ≡ true)
+invariant-loop m c n top i₀ i = (1 ≤ i) × (i ≤ n) × (all_to (lower_next c m) (i - 1) ≡ true)
 
 abbrev decreases-loop : tie.decreases-loop
 decreases-loop m c n top i₀ i = n - i
@@ -29,7 +29,7 @@ returns-2 c =
     sym (highest-flat a.c a.m.now a.n (omega (arith, eqb-false)) (omega (arith, eqb-true)))
 
 loop-holds : tie.Need-loop-init invariant-loop decreases-loop
-unfolding allTo
+unfolding all_to
 loop-holds c = (omega arith, omega (arith, eqb-false), refl)
 
 returns-3 : tie.Need-returns-3 invariant-loop decreases-loop
@@ -49,7 +49,7 @@ returns-4 c =
     let a = c.before.before.before.before.before.before.args in
     let own = c.before.loop in
     let all : own.i ≡ a.n = omega arith in
-    sym (highest-found a.c a.m.now a.n (omega arith) (omega (arith, eqb-false)) (subst (λ (k : ℕ). allTo (lowerNext a.c a.m.now) (k - 1) ≡ true) all own.invariant.2))
+    sym (highest-found a.c a.m.now a.n (omega arith) (omega (arith, eqb-false)) (subst (λ (k : ℕ). all_to (lower_next a.c a.m.now) (k - 1) ≡ true) all own.invariant.2))
 
 pub first-highest-spec : {M : Type 1} → statement M
 first-highest-spec =

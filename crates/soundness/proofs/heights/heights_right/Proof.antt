@@ -5,14 +5,14 @@ use mathlib.Core.Bool.{true, false}
 use mathlib.Core.Path.{◌≡◌, sym, ap, ◌∙◌}
 use native.Mathlib.Omega.{arith}
 use borrow.Author.Tests.{eqb-true, eqb-false, not-true, not-false}
-use Rattle.line.specs.Heights.{firstHighest, countsAt, levelsRight, heightsRight}
-use Rattle.promises.specs.Layout.{heightsFrom}
+use Rattle.line.specs.Heights.{first_highest, counts_at, levels_right, heights_right}
+use Rattle.promises.specs.Layout.{heights_from}
 use Rattle.soundness.specs.Laws.Levels.{heights-none, heights-by, level-right, level-wrong}
 use Rattle.soundness.proofs.heights.heights_right.Statement.{statement}
 use Rattle.soundness.proofs.heights.heights_right.Tie as tie
 
 abbrev invariant-loop : tie.invariant-loop
-invariant-loop m c n top l₀ l = levelsRight top l (heightsFrom c n m) ≡ heightsRight (heightsFrom c n m)
+invariant-loop m c n top l₀ l = levels_right top l (heights_from c n m) ≡ heights_right (heights_from c n m)
 
 abbrev decreases-loop : tie.decreases-loop
 decreases-loop m c n top l₀ l = l
@@ -25,7 +25,7 @@ returns c =
 returns-2 : tie.Need-returns-2 invariant-loop decreases-loop
 returns-2 c =
     let a = c.before.before.before.before.args in
-    let lost : firstHighest (heightsFrom a.c a.n a.m.now) ≡ false = sym c.before.first-highest.ensures ∙ not-true c.before.first-highest.result c.if2.true in
+    let lost : first_highest (heights_from a.c a.n a.m.now) ≡ false = sym c.before.first-highest.ensures ∙ not-true c.before.first-highest.result c.if2.true in
     sym (heights-by a.c a.m.now a.n (omega (arith, eqb-false)) false lost)
 
 height-at-requires : tie.Need-height-at-requires invariant-loop decreases-loop
@@ -34,9 +34,9 @@ height-at-requires c κs = omega (arith, eqb-false)
 loop-holds : tie.Need-loop-init invariant-loop decreases-loop
 loop-holds c =
     let a = c.before.before.before.before.before.args in
-    let line = heightsFrom a.c a.n a.m.now in
-    let found : firstHighest line ≡ true = sym c.before.before.first-highest.ensures ∙ not-false c.before.before.first-highest.result c.before.if2.false in
-    ap (λ (top : ℕ). levelsRight top top line) c.height-at.ensures
+    let line = heights_from a.c a.n a.m.now in
+    let found : first_highest line ≡ true = sym c.before.before.first-highest.ensures ∙ not-false c.before.before.first-highest.result c.before.if2.false in
+    ap (λ (top : ℕ). levels_right top top line) c.height-at.ensures
     ∙ sym (heights-by a.c a.m.now a.n (omega (arith, eqb-false)) true found)
 
 counts-right-requires : tie.Need-counts-right-requires invariant-loop decreases-loop
@@ -47,10 +47,10 @@ returns-3 c =
     let a = c.before.before.before.before.before.before.before.before.before.before.args in
     let own = c.before.before.before.before.loop in
     let top = c.before.before.before.before.before.height-at.result in
-    let line = heightsFrom a.c a.n a.m.now in
+    let line = heights_from a.c a.n a.m.now in
     sym
     (level-wrong top own.l line (omega arith)
-    (ap (λ (lo : ℕ). countsAt own.l lo line) (sym c.before.before.least-entries.ensures) ∙ sym c.before.counts-right.ensures ∙ not-true c.before.counts-right.result c.if3.true))
+    (ap (λ (lo : ℕ). counts_at own.l lo line) (sym c.before.before.least-entries.ensures) ∙ sym c.before.counts-right.ensures ∙ not-true c.before.counts-right.result c.if3.true))
     ∙ own.invariant
 
 loop-again : tie.Need-loop-preserved invariant-loop decreases-loop
@@ -58,19 +58,19 @@ loop-again c =
     let a = c.before.before.before.before.before.before.before.before.before.before.args in
     let own = c.before.before.before.before.loop in
     let top = c.before.before.before.before.before.height-at.result in
-    let line = heightsFrom a.c a.n a.m.now in
+    let line = heights_from a.c a.n a.m.now in
     sym
     (level-right top own.l line (omega arith)
-    (ap (λ (lo : ℕ). countsAt own.l lo line) (sym c.before.before.least-entries.ensures) ∙ sym c.before.counts-right.ensures ∙ not-false c.before.counts-right.result c.if3.false))
+    (ap (λ (lo : ℕ). counts_at own.l lo line) (sym c.before.before.least-entries.ensures) ∙ sym c.before.counts-right.ensures ∙ not-false c.before.counts-right.result c.if3.false))
     ∙ own.invariant
 
 returns-4 : tie.Need-returns-4 invariant-loop decreases-loop
-unfolding levelsRight
+unfolding levels_right
 returns-4 c =
     let a = c.before.before.before.before.before.before.before.args in
     let own = c.before.loop in
     let none : 0 ≡ own.l = omega arith in
-    ap (λ (l : ℕ). levelsRight c.before.before.height-at.result l (heightsFrom a.c a.n a.m.now)) none ∙ own.invariant
+    ap (λ (l : ℕ). levels_right c.before.before.height-at.result l (heights_from a.c a.n a.m.now)) none ∙ own.invariant
 
 pub heights-right-spec : {M : Type 1} → statement M
 heights-right-spec =

@@ -4,10 +4,10 @@ use native.Mathlib.Omega.{arith}
 use borrow.Author.Rules.{rules}
 use borrow.Author.Tests.{eqb-true, eq-eqb, not-true, not-false}
 use lib.Dec.{leb}
-use Rattle.zorder.specs.Refusal.{costCountBad}
-use Rattle.model.specs.Calls.{sizeBad, memoryNeed}
+use Rattle.zorder.specs.Refusal.{cost_count_bad}
+use Rattle.model.specs.Calls.{size_bad, memory_need}
 use Rattle.model.specs.Laws.Bool.{both_ways}
-use Rattle.promises.specs.Layout.{format_in, formatNumber}
+use Rattle.promises.specs.Layout.{format_in, format_number}
 use Rattle.soundness.specs.Laws.Head.{head-wrong, head-count}
 use Rattle.soundness.proofs.sound.head_right.Statement.{statement}
 use Rattle.soundness.proofs.sound.head_right.Tie as tie
@@ -15,18 +15,18 @@ use Rattle.soundness.proofs.sound.head_right.Tie as tie
 returns : tie.Need-returns
 returns c =
     let m = c.before.before.before.args.m.now in
-    sym (head-wrong m (λ r. both_ways (sym c.before.size-bad.ensures ∙ c.if1.true) (ap sizeBad c.before.before.before.requires.size ∙ r.size)))
+    sym (head-wrong m (λ r. both_ways (sym c.before.size-bad.ensures ∙ c.if1.true) (ap size_bad c.before.before.before.requires.size ∙ r.size)))
 
 returns-2 : tie.Need-returns-2
 returns-2 c =
     let m = c.before.before.before.before.before.args.m.now in
-    sym (head-wrong m (λ r. both_ways (sym c.before.cost-count-bad.ensures ∙ c.if2.true) (ap costCountBad c.before.before.before.before.before.requires.dimension ∙ r.dimension)))
+    sym (head-wrong m (λ r. both_ways (sym c.before.cost-count-bad.ensures ∙ c.if2.true) (ap cost_count_bad c.before.before.before.before.before.requires.dimension ∙ r.dimension)))
 
 returns-3 : tie.Need-returns-3
 returns-3 c =
     let m = c.before.before.before.before.before.before.before.args.m.now in
     let answer = c.before.has-format in
-    sym (head-wrong m (λ r. both_ways (eq-eqb (format_in m) formatNumber r.format) (sym answer.ensures ∙ not-true answer.result c.if3.true)))
+    sym (head-wrong m (λ r. both_ways (eq-eqb (format_in m) format_number r.format) (sym answer.ensures ∙ not-true answer.result c.if3.true)))
 
 memory-need-requires : tie.Need-memory-need-requires
 memory-need-requires c κs = sym c.before.before.before.before.before.size-bad.ensures ∙ c.before.before.before.before.if1.false
@@ -34,7 +34,7 @@ memory-need-requires c κs = sym c.before.before.before.before.before.size-bad.e
 returns-4 : tie.Need-returns-4
 returns-4 c =
     let m = c.before.before.before.before.before.before.before.before.before.args.m.now in
-    sym (head-wrong m (λ r. omega (arith, c.if4.true, c.before.memory-need.ensures, ap memoryNeed c.before.before.before.before.before.before.before.before.before.requires.size, r.room)))
+    sym (head-wrong m (λ r. omega (arith, c.if4.true, c.before.memory-need.ensures, ap memory_need c.before.before.before.before.before.before.before.before.before.requires.size, r.room)))
 
 returns-5 : tie.Need-returns-5
 returns-5 c =
@@ -45,10 +45,10 @@ returns-5 c =
     ∙ sym
     (head-count m (λ l.
     record {
-      size = ap sizeBad (sym own.size) ∙ sym c.before.before.before.before.before.before.before.before.size-bad.ensures ∙ c.before.before.before.before.before.before.before.if1.false;
-      dimension = ap costCountBad (sym own.dimension) ∙ sym c.before.before.before.before.before.before.cost-count-bad.ensures ∙ c.before.before.before.before.before.if2.false;
-      format = eqb-true (format_in m) formatNumber (sym format.ensures ∙ not-false format.result c.before.before.before.if3.false);
-      room = omega (arith, c.before.if4.false, c.before.before.memory-need.ensures, ap memoryNeed own.size);
+      size = ap size_bad (sym own.size) ∙ sym c.before.before.before.before.before.before.before.before.size-bad.ensures ∙ c.before.before.before.before.before.before.before.if1.false;
+      dimension = ap cost_count_bad (sym own.dimension) ∙ sym c.before.before.before.before.before.before.cost-count-bad.ensures ∙ c.before.before.before.before.before.if2.false;
+      format = eqb-true (format_in m) format_number (sym format.ensures ∙ not-false format.result c.before.before.before.if3.false);
+      room = omega (arith, c.before.if4.false, c.before.before.memory-need.ensures, ap memory_need own.size);
       count = l;
     }))
 

@@ -5,15 +5,15 @@ use mathlib.Core.List.{List}
 use mathlib.Core.Path.{◌≡◌, sym, ap, ◌∙◌, subst}
 use native.Mathlib.Omega.{arith}
 use borrow.Author.Rules.{rules}
-use Rattle.model.specs.Calls.{blockBad}
-use Rattle.promises.specs.Layout.{number_in, blockIn}
-use Rattle.memory.specs.Tests.{numbersRight}
+use Rattle.model.specs.Calls.{block_bad}
+use Rattle.promises.specs.Layout.{number_in, block_in}
+use Rattle.memory.specs.Tests.{numbers_right}
 use Rattle.memory.specs.Laws.Turns.{numbers-none, numbers_more, numbers-fail, blocks-fail}
 use Rattle.soundness.proofs.sound.numbers_right.Statement.{statement}
 use Rattle.soundness.proofs.sound.numbers_right.Tie as tie
 
 abbrev invariant-loop : tie.invariant-loop
-invariant-loop m c n i₀ i = (i ≤ n) × (numbersRight c i m ≡ true)
+invariant-loop m c n i₀ i = (i ≤ n) × (numbers_right c i m ≡ true)
 
 abbrev decreases-loop : tie.decreases-loop
 decreases-loop m c n i₀ i = n - i
@@ -27,8 +27,8 @@ returns c =
     sym (numbers-fail a.c a.m.now a.n c.before.before.before.loop.i (omega arith) (omega arith))
 
 -- What the number's block is said to be, of the block at the number's place.
-said : (c : ℕ) (m : List ℕ) (i : ℕ) {number block : ℕ} {r : Bool} → number ≡ number_in c m i → block ≡ blockIn c m number → r ≡ blockBad block → blockBad (blockIn c m (number_in c m i)) ≡ r
-said c m i is held e = ap (λ (k : ℕ). blockBad (blockIn c m k)) (sym is) ∙ ap blockBad (sym held) ∙ sym e
+said : (c : ℕ) (m : List ℕ) (i : ℕ) {number block : ℕ} {r : Bool} → number ≡ number_in c m i → block ≡ block_in c m number → r ≡ block_bad block → block_bad (block_in c m (number_in c m i)) ≡ r
+said c m i is held e = ap (λ (k : ℕ). block_bad (block_in c m k)) (sym is) ∙ ap block_bad (sym held) ∙ sym e
 
 returns-2 : tie.Need-returns-2 invariant-loop decreases-loop
 returns-2 c =
@@ -51,7 +51,7 @@ returns-3 c =
     let a = c.before.before.before.args in
     let own = c.before.loop in
     let all : own.i ≡ a.n = omega arith in
-    sym (subst (λ (k : ℕ). numbersRight a.c k a.m.now ≡ true) all own.invariant.1)
+    sym (subst (λ (k : ℕ). numbers_right a.c k a.m.now ≡ true) all own.invariant.1)
 
 pub numbers-right-spec : {M : Type 1} → statement M
 numbers-right-spec =

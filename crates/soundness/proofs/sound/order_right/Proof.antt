@@ -4,14 +4,14 @@ use mathlib.Core.Bool.{true}
 use mathlib.Core.Path.{◌≡◌, sym, ap₂, ◌∙◌}
 use native.Mathlib.Omega.{arith}
 use borrow.Author.Tests.{not-true, not-false}
-use Rattle.model.specs.Moves.{moveBefore}
-use Rattle.memory.specs.Tests.{orderRight}
+use Rattle.model.specs.Moves.{move_before}
+use Rattle.memory.specs.Tests.{order_right}
 use Rattle.memory.specs.Laws.Turns.{order-none, order-more, order-fail, order-end}
 use Rattle.soundness.proofs.sound.order_right.Statement.{statement}
 use Rattle.soundness.proofs.sound.order_right.Tie as tie
 
 abbrev invariant-loop : tie.invariant-loop
-invariant-loop m h n i₀ i = (1 ≤ i) × (i - 1 ≤ n - 1) × (orderRight h.size h.dimension i m ≡ true)
+invariant-loop m h n i₀ i = (1 ≤ i) × (i - 1 ≤ n - 1) × (order_right h.size h.dimension i m ≡ true)
 
 abbrev decreases-loop : tie.decreases-loop
 decreases-loop m h n i₀ i = n - i
@@ -31,7 +31,7 @@ returns c =
     let i = c.before.before.before.before.before.loop.i in
     sym
     (order-fail a.h.size a.h.dimension a.m.now a.h.count i (omega arith) (omega arith)
-    (ap₂ (moveBefore a.h.dimension) (sym c.before.before.before.move_at.ensures) (sym c.before.before.move-at2.ensures)
+    (ap₂ (move_before a.h.dimension) (sym c.before.before.before.move_at.ensures) (sym c.before.before.move-at2.ensures)
     ∙ sym c.before.stands-before.ensures
     ∙ not-true c.before.stands-before.result c.if1.true))
 
@@ -42,7 +42,7 @@ loop-again c =
       omega arith,
       omega arith,
       order-more a.h.size a.h.dimension a.m.now own.i (omega arith) own.invariant.2
-          (ap₂ (moveBefore a.h.dimension) (sym c.before.before.before.move_at.ensures) (sym c.before.before.move-at2.ensures)
+          (ap₂ (move_before a.h.dimension) (sym c.before.before.before.move_at.ensures) (sym c.before.before.move-at2.ensures)
           ∙ sym c.before.stands-before.ensures
           ∙ not-false c.before.stands-before.result c.if1.false),
     )

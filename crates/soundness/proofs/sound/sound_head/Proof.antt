@@ -2,13 +2,13 @@
 use native.Mathlib.Omega.{arith}
 use borrow.Author.Rules.{rules}
 use borrow.Author.Tests.{not-true, not-false}
-use Rattle.model.specs.Calls.{memoryNeed}
+use Rattle.model.specs.Calls.{memory_need}
 use Rattle.soundness.specs.Held.{HeldIn}
 use Rattle.soundness.proofs.sound.sound_head.Statement.{statement}
 use Rattle.soundness.proofs.sound.sound_head.Tie as tie
 
 returns : tie.Need-returns
-unfolding HeldIn memoryNeed
+unfolding HeldIn memory_need
 returns c = λ s. omega (arith, s.stands.room)
 
 returns-2 : tie.Need-returns-2

@@ -2,21 +2,21 @@
 use Prim.Native.Nat.{◌-◌}
 use native.Mathlib.Omega.{arith}
 use borrow.Author.Rules.{rules}
-use Rattle.dominance.specs.Move.{asMove}
+use Rattle.dominance.specs.Move.{as_move}
 use Rattle.tree.specs.Laws.Putting.{over_first, over-past, over_none, over-gap}
 use Rattle.tree.proofs.enter.takes_over.Statement.{statement}
 use Rattle.tree.proofs.enter.takes_over.Tie as tie
 
 returns : tie.Need-returns
-returns c = let start = c.before.before in over_first start.requires (asMove start.args.x) c.if1.true
+returns c = let start = c.before.before in over_first start.requires (as_move start.args.x) c.if1.true
 
 returns-2 : tie.Need-returns-2
-returns-2 c = let start = c.before.before.before in over-past start.requires (asMove start.args.x) (omega arith) (omega arith)
+returns-2 c = let start = c.before.before.before in over-past start.requires (as_move start.args.x) (omega arith) (omega arith)
 
 returns-3 : tie.Need-returns-3
 returns-3 c =
     let start = c.before.before.before.before.before in
-    over_none start.requires (asMove start.args.x) (omega arith) (omega arith) (omega arith)
+    over_none start.requires (as_move start.args.x) (omega arith) (omega arith) (omega arith)
 
 costs-of-requires : tie.Need-costs-of-requires
 costs-of-requires c κs =
@@ -31,7 +31,7 @@ costs-of-requires-2 c κs =
 returns-4 : tie.Need-returns-4
 returns-4 c =
     let start = c.before.before.before.before.before.before.before.before.before.before.before.before.before.before.before in
-    over-gap start.requires (asMove start.args.x)
+    over-gap start.requires (as_move start.args.x)
     (omega (arith, c.before.before.before.before.before.before.before.before.before.before.before.before.before.if1.false)) (omega (arith, c.before.before.before.before.before.before.before.before.before.before.before.before.if2.false)) c.before.before.before.before.before.before.before.before.before.before.before.height-at.ensures (omega (arith, c.before.before.before.before.before.before.before.before.before.before.if3.false))
     c.before.before.before.before.before.before.before.before.before.node-start.ensures c.before.before.before.before.before.before.node_end.ensures
     c.before.before.before.before.before.before.before.before.number_at.ensures c.before.before.before.before.before.before.before.costs-of.ensures c.before.before.before.before.before.number-at2.ensures c.before.before.before.before.costs-of2.ensures

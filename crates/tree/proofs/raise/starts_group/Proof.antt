@@ -7,7 +7,7 @@ use borrow.Author.Rules.{rules}
 use borrow.Author.Tests.{eq-eqb, ne_eqb}
 use lib.Dec.{leb, ltb, eqb}
 use Rattle.model.specs.Laws.Bool.{and_both, and-false-right}
-use Rattle.line.specs.Load.{startsGroup}
+use Rattle.line.specs.Load.{starts_group}
 use Rattle.tree.proofs.raise.starts_group.Statement.{statement}
 use Rattle.tree.proofs.raise.starts_group.Tie as tie
 
@@ -16,8 +16,8 @@ module _ (n j : ℕ) where
   few = eqb (n % 8) 1 || eqb (n % 8) 2
 
   -- What the three tests give.
-  starts : (a b t : Bool) → eqb j 0 ≡ a → (eqb (j % 8) 0 && leb (j + 3) n) ≡ b → (eqb (j + 3) n && ltb 8 n) ≡ t → (a || b || (t && few)) ≡ startsGroup n j
-  unfolding startsGroup
+  starts : (a b t : Bool) → eqb j 0 ≡ a → (eqb (j % 8) 0 && leb (j + 3) n) ≡ b → (eqb (j + 3) n && ltb 8 n) ≡ t → (a || b || (t && few)) ≡ starts_group n j
+  unfolding starts_group
   starts a b t e f g = sym (λ i. e i || f i || (g i && few))
 
   eighth : j % 8 ≡ 0 → leb (j + 3) n ≡ true → (eqb (j % 8) 0 && leb (j + 3) n) ≡ true

@@ -3,8 +3,8 @@
 use Prim.Native.Nat.{◌+◌, ◌-◌}
 use mathlib.Core.Logic.{⊎_elim}
 use native.Mathlib.Omega.{arith}
-use Rattle.line.specs.Line.{heightsIn}
-use Rattle.promises.specs.Layout.{lineFrom}
+use Rattle.line.specs.Line.{heights_in}
+use Rattle.promises.specs.Layout.{line_from}
 use Rattle.nodes.specs.Laws.Steps.{entry-turn}
 use Rattle.nodes.specs.Laws.Heights.{end_line, entry-line}
 use Rattle.tree.specs.Laws.Cut.{Tried, nine-entry, nine-cut, tried-first, tried-less, tried-more, tried-all}
@@ -12,7 +12,7 @@ use Rattle.tree.proofs.split.cut_place.Statement.{statement}
 use Rattle.tree.proofs.split.cut_place.Tie as tie
 
 abbrev invariant-loop : tie.invariant-loop
-invariant-loop m h l s e q₀ best₀ least₀ j₀ q best least j = Tried h.dimension l s e (lineFrom h.size h.dimension h.count m) j q best least
+invariant-loop m h l s e q₀ best₀ least₀ j₀ q best least j = Tried h.dimension l s e (line_from h.size h.dimension h.count m) j q best least
 
 abbrev decreases-loop : tie.decreases-loop
 decreases-loop m h l s e q₀ best₀ least₀ j₀ q best least j = 6 - j
@@ -43,7 +43,7 @@ cut-sides-requires-2 c κs =
     let p = c.before.before.before.before.before.before.requires in
     let own = c.before.before.loop in
     nine-cut p (own.j + 1) (omega arith) (omega arith)
-    (entry-turn (a.l - 1) a.s own.j own.q c.node_end.result (heightsIn (lineFrom a.h.size a.h.dimension a.h.count a.m.now)) own.invariant.at
+    (entry-turn (a.l - 1) a.s own.j own.q c.node_end.result (heights_in (line_from a.h.size a.h.dimension a.h.count a.m.now)) own.invariant.at
     (end_line a.h.dimension c.node_end.ensures))
 
 loop-again : tie.Need-loop-preserved invariant-loop decreases-loop

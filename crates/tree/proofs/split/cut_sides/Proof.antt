@@ -13,8 +13,8 @@ side-between-requires c κs =
       room = p.readable.room;
       first = omega arith;
       last = omega arith;
-      firstNumber = p.readable.numbers _ (omega arith);
-      lastNumber = p.readable.numbers _ (omega arith);
+      first_number = p.readable.numbers _ (omega arith);
+      last_number = p.readable.numbers _ (omega arith);
       dimension = p.readable.dimension;
     }
 
@@ -25,8 +25,8 @@ side-between-requires-2 c κs =
       room = p.readable.room;
       first = omega arith;
       last = omega arith;
-      firstNumber = p.readable.numbers _ (omega arith);
-      lastNumber = p.readable.numbers _ (omega arith);
+      first_number = p.readable.numbers _ (omega arith);
+      last_number = p.readable.numbers _ (omega arith);
       dimension = p.readable.dimension;
     }
 

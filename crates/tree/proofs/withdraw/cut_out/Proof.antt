@@ -4,7 +4,7 @@ use mathlib.Core.List.{List}
 use mathlib.Core.Path.{sym, ap, ◌∙◌, subst}
 use native.Mathlib.Omega.{arith}
 use borrow.Author.Rules.{rules}
-use Rattle.memory.specs.Stores.{setHeight}
+use Rattle.memory.specs.Stores.{set_height}
 use Rattle.tree.specs.Withdraw.{CutOut}
 use Rattle.tree.specs.Laws.Gap.{cut-none, cut_low, cut_high}
 use Rattle.tree.proofs.withdraw.cut_out.Statement.{statement}
@@ -18,7 +18,7 @@ returns c =
     let k = closed.before.before.height-at in
     let m : List ℕ = closed.close-gap.new.0 in
     subst (CutOut a.c a.n a.from a.to a.m.now)
-    (sym (c.before.before.set-height.ensures ∙ ap (λ h. setHeight a.c a.from h m) k.ensures))
+    (sym (c.before.before.set-height.ensures ∙ ap (λ h. set_height a.c a.from h m) k.ensures))
     (cut_high start.requires closed.close-gap.ensures (omega arith) (omega arith))
 
 returns-2 : tie.Need-returns-2

@@ -3,7 +3,7 @@ use Prim.Native.Nat.{◌+◌, ◌-◌}
 use mathlib.Core.Path.{◌≡◌, sym, subst}
 use native.Mathlib.Omega.{arith}
 use borrow.Author.Rules.{rules}
-use Rattle.dominance.specs.Move.{asMove}
+use Rattle.dominance.specs.Move.{as_move}
 use Rattle.memory.specs.declared.head.Head.{Head}
 use Rattle.tree.specs.Enter.{EnterAsked, Entered}
 use Rattle.tree.specs.Laws.Again.{Entering, entering-none, entering-low, entering-read, entering-asked, entering-more, entering-all}
@@ -31,7 +31,7 @@ enter-line-requires c κs =
     let a = start.args in
     let number = c.before.before.before.before.work-at in
     let costs = c.before.before.costs-of in
-    subst (λ (g : Head). EnterAsked g.size g.dimension g.count (asMove (record { number = number.result; costs = costs.result })) own.m) (sym c.with_rows.ensures)
+    subst (λ (g : Head). EnterAsked g.size g.dimension g.count (as_move (record { number = number.result; costs = costs.result })) own.m) (sym c.with_rows.ensures)
     (subst (λ x. EnterAsked a.h.size a.h.dimension (a.h.count + own.j) x own.m)
     (entering-read start.requires own.invariant (omega arith) (record { number = number.result; costs = costs.result }) number.ensures costs.ensures)
     (entering-asked start.requires own.invariant (omega arith)))
@@ -49,7 +49,7 @@ loop-again c =
     entering-more start.requires own.invariant (omega (arith, turn.loop-test.true)) after.new.0
     (subst (λ x. Entered a.h.size a.h.dimension (a.h.count + own.j) x own.m after.new.0)
     (sym (entering-read start.requires own.invariant (omega (arith, turn.loop-test.true)) (record { number = number.result; costs = costs.result }) number.ensures costs.ensures))
-    (subst (λ (g : Head). Entered g.size g.dimension g.count (asMove (record { number = number.result; costs = costs.result })) own.m after.new.0) made.with_rows.ensures after.ensures))
+    (subst (λ (g : Head). Entered g.size g.dimension g.count (as_move (record { number = number.result; costs = costs.result })) own.m after.new.0) made.with_rows.ensures after.ensures))
 
 returns : tie.Need-returns invariant-loop decreases-loop
 returns c =

@@ -3,7 +3,7 @@ use Prim.Native.Nat.{ℕ, ◌+◌, ◌-◌, ◌≤◌}
 use mathlib.Core.Path.{◌≡◌, refl, ap, ◌∙◌, subst}
 use native.Mathlib.Omega.{arith}
 use borrow.Author.Rules.{rules}
-use Rattle.promises.specs.Layout.{heightIn}
+use Rattle.promises.specs.Layout.{height_in}
 use Rattle.tree.specs.Rows.{HeightsMoved}
 use Rattle.tree.specs.Laws.Moving.{height-set, moved_none, moved-above}
 use Rattle.tree.proofs.withdraw.lower_heights.Statement.{statement}
@@ -31,7 +31,7 @@ loop-again c =
     let set = c.before.before.set-height.ensures in
     let read = c.before.before.before.before.height-at in
     let at : own.i ≡ a.from + (own.i - a.to) + (a.to - a.from) = omega arith in
-    (omega arith, omega arith, moved-above own.invariant.2 (height-set a.c (a.from + (own.i - a.to)) read.result (omega (arith, own.invariant.2.frame.length)) (omega arith) set) (read.ensures ∙ ap (heightIn a.c own.m) at) refl (omega arith) (omega arith) (omega arith))
+    (omega arith, omega arith, moved-above own.invariant.2 (height-set a.c (a.from + (own.i - a.to)) read.result (omega (arith, own.invariant.2.frame.length)) (omega arith) set) (read.ensures ∙ ap (height_in a.c own.m) at) refl (omega arith) (omega arith) (omega arith))
 
 returns : tie.Need-returns invariant-loop decreases-loop
 returns c =

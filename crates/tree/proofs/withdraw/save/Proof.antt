@@ -3,7 +3,7 @@ use Prim.Native.Nat.{◌+◌, ◌-◌, ◌≤◌}
 use mathlib.Core.Logic.{⊎_elim}
 use mathlib.Core.Path.{◌≡◌, sym, ap, ◌∙◌, subst₂}
 use native.Mathlib.Omega.{arith}
-use Rattle.memory.specs.Stores.{setWork}
+use Rattle.memory.specs.Stores.{set_work}
 use Rattle.tree.specs.Withdraw.{others}
 use Rattle.tree.specs.Laws.Saving.{Saving, saving-none, saving-less, saving-more}
 use Rattle.tree.proofs.withdraw.save.Statement.{statement}
@@ -29,7 +29,7 @@ loop-again c =
       ⊎_elim
           (λ w.
           subst₂ (λ k m. Saving a.c a.from (own.i + 1) a.number k a.m.now m) (sym w.6)
-          (sym (w.5 ∙ w.2.ensures ∙ ap (λ v. setWork a.c own.k v own.m) read))
+          (sym (w.5 ∙ w.2.ensures ∙ ap (λ v. set_work a.c own.k v own.m) read))
           (saving-more a.c a.from a.number a.m.now own.i own.k own.m own.invariant.1 (omega arith) (omega arith) (λ e. w.0.taken (read ∙ e))))
           (λ w.
           subst₂ (λ k m. Saving a.c a.from (own.i + 1) a.number k a.m.now m) (sym w.2) (sym w.1)

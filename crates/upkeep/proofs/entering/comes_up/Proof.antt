@@ -7,24 +7,24 @@ use native.Mathlib.Omega.{arith}
 use borrow.Author.Tests.{not-true, not-false}
 use Rattle.model.specs.Moves.{Move}
 use Rattle.model.specs.Dominance.{hides}
-use Rattle.promises.specs.Layout.{moveIn}
+use Rattle.promises.specs.Layout.{move_in}
 use Rattle.promises.specs.Run.{Bytes}
 use Rattle.memory.specs.Laws.Held.{held-readable}
-use Rattle.upkeep.specs.Change.{goesListed, hiddenByOthers, hiddenByComing, comesUp, Parted}
+use Rattle.upkeep.specs.Change.{goes_listed, hidden_by_others, hidden_by_coming, comes_up, Parted}
 use Rattle.upkeep.specs.Laws.Change.{goes-on-board}
 use Rattle.upkeep.specs.Laws.Others.{own-place}
 use Rattle.upkeep.specs.declared.exchange.Exchange.{Exchange}
 use Rattle.upkeep.proofs.entering.comes_up.Statement.{statement}
 use Rattle.upkeep.proofs.entering.comes_up.Tie as tie
 
-by_tests : (c d n : ℕ) (k : Exchange) (x : Move) (m : List ℕ) {gone hid coming others : Bool}
-    → goesListed c n k.goes m ≡ gone
-    → hides d (moveIn c d m k.goes) x ≡ hid
-    → hiddenByComing d k x ≡ coming
-    → hiddenByOthers c d n k.goes x m ≡ others
-    → (gone && hid && not coming && not others) ≡ comesUp c d n k x m
-unfolding comesUp
-by_tests c d n k x m p q r s = sym (λ i. p i && q i && not (r i) && not (s i))
+by-tests : (c d n : ℕ) (k : Exchange) (x : Move) (m : List ℕ) {gone hid coming others : Bool}
+    → goes_listed c n k.goes m ≡ gone
+    → hides d (move_in c d m k.goes) x ≡ hid
+    → hidden_by_coming d k x ≡ coming
+    → hidden_by_others c d n k.goes x m ≡ others
+    → (gone && hid && not coming && not others) ≡ comes_up c d n k x m
+unfolding comes_up
+by-tests c d n k x m p q r s = sym (λ i. p i && q i && not (r i) && not (s i))
 
 move-at-requires : tie.Need-move-at-requires
 move-at-requires c κs =
@@ -45,7 +45,7 @@ returns c =
     let start = c.before.before.before.before.before in
     let a = start.args in
     let x = c.before.before.before.move_at.ensures in
-    by_tests a.h.size a.h.dimension a.h.count a.k (moveIn a.h.size a.h.dimension a.m.now a.i) a.m.now start.requires.0.goes
+    by-tests a.h.size a.h.dimension a.h.count a.k (move_in a.h.size a.h.dimension a.m.now a.i) a.m.now start.requires.0.goes
     (ap₂ (hides a.h.dimension) (sym c.before.before.move-at2.ensures) (sym x) ∙ sym c.before.hides.ensures ∙ not-true _ c.if1.true) refl refl
 
 returns-2 : tie.Need-returns-2
@@ -53,9 +53,9 @@ returns-2 c =
     let start = c.before.before.before.before.before.before.before in
     let a = start.args in
     let x = c.before.before.before.before.before.move_at.ensures in
-    by_tests a.h.size a.h.dimension a.h.count a.k (moveIn a.h.size a.h.dimension a.m.now a.i) a.m.now start.requires.0.goes
+    by-tests a.h.size a.h.dimension a.h.count a.k (move_in a.h.size a.h.dimension a.m.now a.i) a.m.now start.requires.0.goes
     (ap₂ (hides a.h.dimension) (sym c.before.before.before.before.move-at2.ensures) (sym x) ∙ sym c.before.before.before.hides.ensures ∙ not-false _ c.before.before.if1.false)
-    (ap (hiddenByComing a.h.dimension a.k) (sym x) ∙ sym c.before.hidden-by-coming.ensures ∙ c.if2.true) refl
+    (ap (hidden_by_coming a.h.dimension a.k) (sym x) ∙ sym c.before.hidden-by-coming.ensures ∙ c.if2.true) refl
 
 hidden-by-others-requires : tie.Need-hidden-by-others-requires
 unfolding Bytes
@@ -73,10 +73,10 @@ returns-3 c =
     let start = c.before.before.before.before.before.before.before.before in
     let a = start.args in
     let x = c.before.before.before.before.before.before.move_at.ensures in
-    by_tests a.h.size a.h.dimension a.h.count a.k (moveIn a.h.size a.h.dimension a.m.now a.i) a.m.now start.requires.0.goes
+    by-tests a.h.size a.h.dimension a.h.count a.k (move_in a.h.size a.h.dimension a.m.now a.i) a.m.now start.requires.0.goes
     (ap₂ (hides a.h.dimension) (sym c.before.before.before.before.before.move-at2.ensures) (sym x) ∙ sym c.before.before.before.before.hides.ensures ∙ not-false _ c.before.before.before.if1.false)
-    (ap (hiddenByComing a.h.dimension a.k) (sym x) ∙ sym c.before.before.hidden-by-coming.ensures ∙ c.before.if2.false)
-    (ap (λ (y : Move). hiddenByOthers a.h.size a.h.dimension a.h.count a.k.goes y a.m.now) (sym x) ∙ sym c.hidden-by-others.ensures)
+    (ap (hidden_by_coming a.h.dimension a.k) (sym x) ∙ sym c.before.before.hidden-by-coming.ensures ∙ c.before.if2.false)
+    (ap (λ (y : Move). hidden_by_others a.h.size a.h.dimension a.h.count a.k.goes y a.m.now) (sym x) ∙ sym c.hidden-by-others.ensures)
 
 pub comes-up-spec : {M : Type 1} → statement M
 comes-up-spec =

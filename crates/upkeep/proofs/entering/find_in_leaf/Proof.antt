@@ -6,14 +6,14 @@ use mathlib.Core.Path.{◌≡◌, sym, subst, ◌∙◌}
 use native.Mathlib.Omega.{arith}
 use Rattle.memory.specs.Laws.Held.{held-readable}
 use Rattle.numbers.specs.Set.{With}
-use Rattle.upkeep.specs.Change.{entersAt, Passing}
+use Rattle.upkeep.specs.Change.{enters_at, Passing}
 use Rattle.upkeep.specs.Laws.Passing.{passing-few, passing-none, passing-takes, passing-passes}
 use Rattle.upkeep.proofs.entering.find_in_leaf.Statement.{statement}
 use Rattle.upkeep.proofs.entering.find_in_leaf.Tie as tie
 
 abbrev invariant-loop : tie.invariant-loop
 invariant-loop m h k corners start end changed₀ entered₀ i₀ changed entered i =
-    (start ≤ i) × (i ≤ end) × Passing h.size m (entersAt h.size h.dimension h.count k m) changed₀ start i changed entered
+    (start ≤ i) × (i ≤ end) × Passing h.size m (enters_at h.size h.dimension h.count k m) changed₀ start i changed entered
 
 abbrev decreases-loop : tie.decreases-loop
 decreases-loop m h k corners start end changed₀ entered₀ i₀ changed entered i = end - i
@@ -23,7 +23,7 @@ loop-holds c =
     let a = c.before.args in (
       omega arith,
       omega arith,
-      passing-none a.h.size a.m.now (entersAt a.h.size a.h.dimension a.h.count a.k a.m.now) a.changed.now a.start,
+      passing-none a.h.size a.m.now (enters_at a.h.size a.h.dimension a.h.count a.k a.m.now) a.changed.now a.start,
     )
 
 enters-requires : tie.Need-enters-requires invariant-loop decreases-loop
@@ -42,13 +42,13 @@ add-requires c κs =
 add-entered : tie.Need-overflow-add-entered invariant-loop decreases-loop
 add-entered c =
     let a = c.before.before.before.before.before.before.before.before.args in
-    omega (arith, passing-few a.h.size a.m.now (entersAt a.h.size a.h.dimension a.h.count a.k a.m.now) c.before.before.before.before.before.before.loop.invariant.2)
+    omega (arith, passing-few a.h.size a.m.now (enters_at a.h.size a.h.dimension a.h.count a.k a.m.now) c.before.before.before.before.before.before.loop.invariant.2)
 
 loop-again : tie.Need-loop-preserved invariant-loop decreases-loop
 loop-again c =
     let a = c.before.before.before.before.before.args in
     let own = c.before.before.before.loop in
-    let test = entersAt a.h.size a.h.dimension a.h.count a.k a.m.now in
+    let test = enters_at a.h.size a.h.dimension a.h.count a.k a.m.now in
     let says = sym c.before.enters.ensures in (
       omega arith,
       omega arith,
@@ -64,7 +64,7 @@ returns c =
     let a = c.before.before.before.args in
     let own = c.before.loop in
     let all : own.i ≡ a.end = omega arith in
-    subst (λ (e : ℕ). Passing a.h.size a.m.now (entersAt a.h.size a.h.dimension a.h.count a.k a.m.now) a.changed.now a.start e own.changed own.entered) all own.invariant.2
+    subst (λ (e : ℕ). Passing a.h.size a.m.now (enters_at a.h.size a.h.dimension a.h.count a.k a.m.now) a.changed.now a.start e own.changed own.entered) all own.invariant.2
 
 pub find-in-leaf-spec : {M : Type 1} → statement M
 find-in-leaf-spec =

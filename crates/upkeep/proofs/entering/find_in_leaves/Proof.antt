@@ -5,7 +5,7 @@ use native.Mathlib.Omega.{arith}
 use Rattle.nodes.specs.Laws.Search.{Counting, sound-searchable, counting-none, counting-few, counting-leaf}
 use Rattle.promises.specs.Run.{Bytes}
 use Rattle.memory.specs.Laws.Held.{held-readable}
-use Rattle.upkeep.specs.Change.{entersAt, Passing}
+use Rattle.upkeep.specs.Change.{enters_at, Passing}
 use Rattle.upkeep.specs.Laws.Passing.{passing-few, passing-none}
 use Rattle.upkeep.specs.Laws.BroughtUp.{leaf-enters, entering-all}
 use Rattle.upkeep.proofs.entering.find_in_leaves.Statement.{statement}
@@ -13,7 +13,7 @@ use Rattle.upkeep.proofs.entering.find_in_leaves.Tie as tie
 
 abbrev invariant-loop : tie.invariant-loop
 invariant-loop m h k corners changed₀ n listed count₀ opened₀ i₀ changed count opened i =
-    Counting h.size h.dimension k.goes h.count m opened i × Passing h.size m (entersAt h.size h.dimension h.count k m) changed₀ 0 i changed count
+    Counting h.size h.dimension k.goes h.count m opened i × Passing h.size m (enters_at h.size h.dimension h.count k m) changed₀ 0 i changed count
 
 abbrev decreases-loop : tie.decreases-loop
 decreases-loop m h k corners changed₀ n listed count₀ opened₀ i₀ changed count opened i = n - i
@@ -24,7 +24,7 @@ loop-holds c =
     let a = c.before.before.args in
     let bytes : Bytes a.m.now = λ i. omega (arith, c.before.shared-slice-known.given i) in (
       counting-none (sound-searchable a.h.size a.h.dimension a.h.count a.m.now c.before.before.requires.0.sound bytes),
-      passing-none a.h.size a.m.now (entersAt a.h.size a.h.dimension a.h.count a.k a.m.now) a.changed.now 0,
+      passing-none a.h.size a.m.now (enters_at a.h.size a.h.dimension a.h.count a.k a.m.now) a.changed.now 0,
     )
 
 next-leaf-requires : tie.Need-next-leaf-requires invariant-loop decreases-loop
@@ -39,7 +39,7 @@ find-in-leaf-requires c κs =
 add-count : tie.Need-overflow-add-count invariant-loop decreases-loop
 add-count c =
     let a = c.before.before.before.before.before.before.before.before.args in
-    let test = entersAt a.h.size a.h.dimension a.h.count a.k a.m.now in
+    let test = enters_at a.h.size a.h.dimension a.h.count a.k a.m.now in
     let rows = held-readable c.before.before.before.before.before.before.before.before.requires.0.sound in
     let leaf = c.before.before.next-leaf.ensures in
     omega

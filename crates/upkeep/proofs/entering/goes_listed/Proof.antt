@@ -4,17 +4,17 @@ use mathlib.Core.Path.{sym, ap, ap₂, ◌∙◌}
 use native.Mathlib.Omega.{arith}
 use borrow.Author.Rules.{rules}
 use borrow.Author.Tests.{lt-ltb, le-ltb}
-use Rattle.memory.specs.Tests.{isListed}
+use Rattle.memory.specs.Tests.{is_listed}
 use Rattle.memory.specs.Laws.Turns.{listed_at}
-use Rattle.upkeep.specs.Change.{goesListed}
+use Rattle.upkeep.specs.Change.{goes_listed}
 use Rattle.upkeep.proofs.entering.goes_listed.Statement.{statement}
 use Rattle.upkeep.proofs.entering.goes_listed.Tie as tie
 
 returns : tie.Need-returns
-unfolding goesListed
+unfolding goes_listed
 returns c =
     let a = c.before.before.before.args in
-    sym (ap (λ (t : Bool). t && isListed a.h.size a.m.now a.goes) (le-ltb a.goes a.h.count c.if1.true))
+    sym (ap (λ (t : Bool). t && is_listed a.h.size a.m.now a.goes) (le-ltb a.goes a.h.count c.if1.true))
 
 is-listed-requires : tie.Need-is-listed-requires
 is-listed-requires c κs =
@@ -22,7 +22,7 @@ is-listed-requires c κs =
     (start.requires.room, omega (arith, c.number_at.ensures, start.requires.numbers start.args.goes (omega arith)))
 
 returns-2 : tie.Need-returns-2
-unfolding goesListed
+unfolding goes_listed
 returns-2 c =
     let a = c.before.before.before.before.before.args in
     let number = c.before.number_at in

@@ -4,7 +4,7 @@ use mathlib.Core.Path.{sym}
 use native.Mathlib.Omega.{arith}
 use borrow.Author.Rules.{rules}
 use Rattle.promises.specs.Run.{Bytes}
-use Rattle.dominance.specs.Move.{asMove}
+use Rattle.dominance.specs.Move.{as_move}
 use Rattle.search.specs.Laws.Search.{corners-fewer}
 use Rattle.upkeep.specs.Laws.Others.{others-none, others-found, others-next}
 use Rattle.upkeep.proofs.exchange.hidden_by_others.Statement.{statement}
@@ -23,7 +23,7 @@ returns c =
     let bytes : Bytes a.m.now = λ i. omega (arith, c.before.before.before.before.shared-slice-known.given i) in
     let found = c.before.next-within in
     sym
-    (others-none a.h.size a.h.dimension a.h.count a.goes a.i (asMove a.x) c.before.before.bounds_of.result a.m.now start.requires.0.0.dimension bytes start.requires.1
+    (others-none a.h.size a.h.dimension a.h.count a.goes a.i (as_move a.x) c.before.before.bounds_of.result a.m.now start.requires.0.0.dimension bytes start.requires.1
     c.before.before.bounds_of.ensures found.result found.ensures c.if1.true)
 
 returns-2 : tie.Need-returns-2
@@ -35,7 +35,7 @@ returns-2 c =
     let found = c.before.before.next-within in
     let within : found.result < a.i = omega arith in
     sym
-    (others-found a.h.size a.h.dimension a.h.count a.goes a.i (asMove a.x) c.before.before.before.bounds_of.result a.m.now start.requires.0.0.dimension bytes start.requires.1
+    (others-found a.h.size a.h.dimension a.h.count a.goes a.i (as_move a.x) c.before.before.before.bounds_of.result a.m.now start.requires.0.0.dimension bytes start.requires.1
     c.before.before.before.bounds_of.ensures found.result (found.ensures.found within) within c.if2.true)
 
 next-within-requires-2 : tie.Need-next-within-requires-2
@@ -51,7 +51,7 @@ returns-3 c =
     let bytes : Bytes a.m.now = λ i. omega (arith, c.before.before.before.before.before.before.shared-slice-known.given i) in
     let found = c.before.before.before.next-within in
     sym
-    (others-next a.h.size a.h.dimension a.h.count a.goes a.i (asMove a.x) c.before.before.before.before.bounds_of.result a.m.now start.requires.0.0.dimension bytes start.requires.1
+    (others-next a.h.size a.h.dimension a.h.count a.goes a.i (as_move a.x) c.before.before.before.before.bounds_of.result a.m.now start.requires.0.0.dimension bytes start.requires.1
     c.before.before.before.before.bounds_of.ensures found.result c.next-within2.result found.ensures c.before.if2.false c.next-within2.ensures)
 
 pub hidden-by-others-spec : {M : Type 1} → statement M

@@ -4,7 +4,7 @@ use mathlib.Core.Path.{ap, ◌∙◌}
 use native.Mathlib.Omega.{arith}
 use borrow.Author.Tests.{not-true, not-false}
 use Rattle.promises.specs.Run.{Bytes}
-use Rattle.dominance.specs.Move.{asMove}
+use Rattle.dominance.specs.Move.{as_move}
 use Rattle.memory.specs.Laws.Held.{held-readable}
 use Rattle.upkeep.specs.Laws.Change.{listed-law, unlisted-law}
 use Rattle.upkeep.specs.Laws.Others.{new-place}
@@ -28,7 +28,7 @@ hidden-by-others-requires c κs =
     let bytes : Bytes a.m.now = λ i. omega (arith, c.before.before.before.shared-slice-known.given i) in
     let comes = not-false a.k.comes c.before.if1.false in (
       (held-readable asked.sound, start.requires.0.1),
-      new-place a.h.size a.h.dimension a.h.count a.m.now asked.sound bytes (asMove a.k.coming) (asked.fit comes) a.place start.requires.1.within (start.requires.1.is comes),
+      new-place a.h.size a.h.dimension a.h.count a.m.now asked.sound bytes (as_move a.k.coming) (asked.fit comes) a.place start.requires.1.within (start.requires.1.is comes),
     )
 
 returns-2 : tie.Need-returns-2

@@ -10,12 +10,12 @@ use borrow.Author.Rules.{rules}
 use lib.Dec.{ltb}
 use lib.ListN.{take}
 use lib.Pow.{pow_mono}
-use Rattle.zorder.specs.Address.{rowCosts, costsOf, padded}
+use Rattle.zorder.specs.Address.{row_costs, costs_of, padded}
 use Rattle.zorder.specs.Promise.{RegionPromise, RefusedRegion, number_of}
-use Rattle.zorder.specs.Refusal.{or_zero, orZeros, costCountBad, addressBad, regionRefusal, refusal}
-use Rattle.zorder.specs.Region.{unkept, zerosBelow, onesBelow, nearCorner, farCorner, side}
+use Rattle.zorder.specs.Refusal.{or_zero, or_zeros, cost_count_bad, address_bad, region_refusal, refusal}
+use Rattle.zorder.specs.Region.{unkept, zeros_below, ones_below, near_corner, far_corner, side}
 use Rattle.zorder.specs.Laws.Corners.{near-costs, far-costs}
-use Rattle.zorder.specs.Laws.Inverse.{costsOf-costs}
+use Rattle.zorder.specs.Laws.Inverse.{costs_of-costs}
 use Rattle.zorder.specs.declared.RegionResult.{RegionResult}
 use Rattle.zorder.specs.declared.Verdict.{Verdict}
 use Rattle.zorder.specs.declared.Verdict.TheVariants.{Accepted, BadCostCount, BadArgument}
@@ -27,29 +27,29 @@ use Rattle.zorder.proofs.corners.region.Statement.{statement}
 use Rattle.zorder.proofs.corners.region.Tie as tie
 
 -- A refused call, by the number that is not 0.
-promised-none : (d a b n : ℕ) {v : Verdict} {r : RegionResult} → RefusedRegion v r → number_of v ≡ suc n → suc n ≡ regionRefusal d a b → RegionPromise d a b r
-unfolding or_zero orZeros
+promised-none : (d a b n : ℕ) {v : Verdict} {r : RegionResult} → RefusedRegion v r → number_of v ≡ suc n → suc n ≡ region_refusal d a b → RegionPromise d a b r
+unfolding or_zero or_zeros
 promised-none d a b n {v} {r} R number refused =
     record {
       number = ap number_of R.verdict ∙ number ∙ refused;
       detail = no-detail r.verdict;
-      near = R.near ∙ ap (λ (k : ℕ). orZeros k (padded d (nearCorner d a b))) refused;
-      far = R.far ∙ ap (λ (k : ℕ). orZeros k (padded d (farCorner d a b))) refused;
+      near = R.near ∙ ap (λ (k : ℕ). or_zeros k (padded d (near_corner d a b))) refused;
+      far = R.far ∙ ap (λ (k : ℕ). or_zeros k (padded d (far_corner d a b))) refused;
       side = R.side ∙ ap (λ (k : ℕ). or_zero k (side d a b)) refused;
     }
 
 module _ (d a b : ℕ) (r : RegionResult) where
-  bad-count : costCountBad d ≡ true → RefusedRegion BadCostCount r → RegionPromise d a b r
-  unfolding number_of regionRefusal refusal
-  bad-count bad R = promised-none d a b 1 R refl (three-checks true (addressBad d a || addressBad d b) (ltb b a) bad refl refl)
+  bad-count : cost_count_bad d ≡ true → RefusedRegion BadCostCount r → RegionPromise d a b r
+  unfolding number_of region_refusal refusal
+  bad-count bad R = promised-none d a b 1 R refl (three-checks true (address_bad d a || address_bad d b) (ltb b a) bad refl refl)
 
-  module _ (right : costCountBad d ≡ false) (R : RefusedRegion BadArgument r) where
-    bad-large : (addressBad d a || addressBad d b) ≡ true → RegionPromise d a b r
-    unfolding number_of regionRefusal refusal
+  module _ (right : cost_count_bad d ≡ false) (R : RefusedRegion BadArgument r) where
+    bad-large : (address_bad d a || address_bad d b) ≡ true → RegionPromise d a b r
+    unfolding number_of region_refusal refusal
     bad-large bad = promised-none d a b 6 R refl (three-checks false true (ltb b a) right bad refl)
 
-    bad-order : (addressBad d a || addressBad d b) ≡ false → ltb b a ≡ true → RegionPromise d a b r
-    unfolding number_of regionRefusal refusal
+    bad-order : (address_bad d a || address_bad d b) ≡ false → ltb b a ≡ true → RegionPromise d a b r
+    unfolding number_of region_refusal refusal
     bad-order good bad = promised-none d a b 6 R refl (three-checks false false true right good bad)
 
 -- An accepted call.
@@ -57,36 +57,36 @@ module _
     (d a b u : ℕ)
     (row : List ℕ)
     (count : u ≡ unkept d a b)
-    (costs : row ≡ padded d (costsOf d a))
+    (costs : row ≡ padded d (costs_of d a))
   where
-    corner : (f : ℕ → ℕ → ℕ) → padded d (map (f u) (take d row)) ≡ padded d (map (f (unkept d a b)) (costsOf d a))
+    corner : (f : ℕ → ℕ → ℕ) → padded d (map (f u) (take d row)) ≡ padded d (map (f (unkept d a b)) (costs_of d a))
     corner f =
-        ap₂ (λ (n : ℕ) (cs : List ℕ). padded d (map (f n) cs)) count (ap (take d) costs ∙ take-padded d (costsOf d a) (costsOf-costs d a).count)
+        ap₂ (λ (n : ℕ) (cs : List ℕ). padded d (map (f n) cs)) count (ap (take d) costs ∙ take-padded d (costs_of d a) (costs_of-costs d a).count)
 
-    accepted : (near far : List ℕ) (s : ℕ) → near ≡ padded d (map (zerosBelow 1 u) (take d row)) → far ≡ padded d (map (onesBelow 1 u) (take d row)) → s ≡ 2 ^ u
-        → 0 ≡ regionRefusal d a b → RegionPromise d a b (record { verdict = Accepted; near = near; far = far; side = s })
-    unfolding number_of or_zero orZeros side
+    accepted : (near far : List ℕ) (s : ℕ) → near ≡ padded d (map (zeros_below 1 u) (take d row)) → far ≡ padded d (map (ones_below 1 u) (take d row)) → s ≡ 2 ^ u
+        → 0 ≡ region_refusal d a b → RegionPromise d a b (record { verdict = Accepted; near = near; far = far; side = s })
+    unfolding number_of or_zero or_zeros side
     accepted near far s is-near is-far is-side none =
         record {
           number = none;
           detail = no-detail Accepted;
-          near = is-near ∙ corner (zerosBelow 1) ∙ ap (padded d) (sym (near-costs d a b)) ∙ ap (λ (k : ℕ). orZeros k (padded d (nearCorner d a b))) none;
-          far = is-far ∙ corner (onesBelow 1) ∙ ap (padded d) (sym (far-costs d a b)) ∙ ap (λ (k : ℕ). orZeros k (padded d (farCorner d a b))) none;
+          near = is-near ∙ corner (zeros_below 1) ∙ ap (padded d) (sym (near-costs d a b)) ∙ ap (λ (k : ℕ). or_zeros k (padded d (near_corner d a b))) none;
+          far = is-far ∙ corner (ones_below 1) ∙ ap (padded d) (sym (far-costs d a b)) ∙ ap (λ (k : ℕ). or_zeros k (padded d (far_corner d a b))) none;
           side = is-side ∙ ap (λ (k : ℕ). 2 ^ k) count ∙ ap (λ (k : ℕ). or_zero k (side d a b)) none;
         }
 
-passed : (d a b : ℕ) → costCountBad d ≡ false → (addressBad d a || addressBad d b) ≡ false → ltb b a ≡ false → 0 ≡ regionRefusal d a b
-unfolding regionRefusal refusal
+passed : (d a b : ℕ) → cost_count_bad d ≡ false → (address_bad d a || address_bad d b) ≡ false → ltb b a ≡ false → 0 ≡ region_refusal d a b
+unfolding region_refusal refusal
 passed d a b right good ordered = three-checks false false false right good ordered
 
 -- What the checks passed at each place tell.
-right-count : (c : tie.Else1) → costCountBad c.before.before.args.d ≡ false
+right-count : (c : tie.Else1) → cost_count_bad c.before.before.args.d ≡ false
 right-count c = sym c.before.cost-count-bad.ensures ∙ c.if1.false
 
-first_good : (c : tie.Else2) → addressBad c.before.before.before.before.args.d (value c.before.before.before.before.args.a) ≡ false
+first_good : (c : tie.Else2) → address_bad c.before.before.before.before.args.d (value c.before.before.before.before.args.a) ≡ false
 first_good c = sym c.before.too_large.ensures ∙ c.if2.false
 
-second-good : (c : tie.Else3) → addressBad c.before.before.before.before.before.before.args.d (value c.before.before.before.before.before.before.args.b) ≡ false
+second-good : (c : tie.Else3) → address_bad c.before.before.before.before.before.before.args.d (value c.before.before.before.before.before.before.args.b) ≡ false
 second-good c = sym c.before.too-large2.ensures ∙ c.if3.false
 
 returns : tie.Need-returns
@@ -111,7 +111,7 @@ returns-2 c =
     let large = bad-large a.d (value a.a) (value a.b) c.refused2.result right R in
     let order = bad-order a.d (value a.a) (value a.b) c.refused2.result right R in
     ⊎_elim
-    (λ w. large (ap (λ (t : Bool). t || addressBad a.d (value a.b)) (first ∙ w.taken)))
+    (λ w. large (ap (λ (t : Bool). t || address_bad a.d (value a.b)) (first ∙ w.taken)))
     (⊎_elim
     (λ w. large (ap₂ ◌||◌ (first ∙ w.0.left) (sym w.1.ensures ∙ w.2.taken)))
     (λ w. order (ap₂ ◌||◌ (first ∙ w.0.left) (sym w.1.ensures ∙ w.2.left)) (sym w.3.ensures ∙ w.4.taken)))
@@ -126,7 +126,7 @@ unkept-requires c κs =
     let also = address-right a.d (value a.b) (second-good c.before.before) in
     (omega arith, right.1, below, also)
 
-right-at : (c : tie.After-unkept) → c.before.before.before.before.before.before.before.before.before.args.d ≤ rowCosts
+right-at : (c : tie.After-unkept) → c.before.before.before.before.before.before.before.before.before.args.d ≤ row_costs
 right-at c = (count-right c.before.before.before.before.before.before.before.before.before.args.d (right-count c.before.before.before.before.before.before.before)).1
 
 separated-requires : tie.Need-separated-requires

@@ -9,7 +9,7 @@ use borrow.Author.Rules.{rules}
 use lib.Bits.{bit_xor}
 use lib.Count.{count_leading_zeros, leading_le}
 use lib.Pow.{pow_mono}
-use Rattle.zorder.specs.Address.{rowCosts}
+use Rattle.zorder.specs.Address.{row_costs}
 use Rattle.zorder.specs.Region.{unkept}
 use Rattle.zorder.specs.Words.{value}
 use Rattle.zorder.specs.Laws.Region.{unkept-unique}
@@ -23,7 +23,7 @@ record Counted (d a b zeros : ℕ) : Type 0 where
   most : (zeros - (128 - 16 * d)) / d ≤ 16
   count : 16 - (zeros - (128 - 16 * d)) / d ≡ unkept d a b
 
-counted : (d a b : ℕ) → 1 ≤ d → d ≤ rowCosts → a < 2 ^ (16 * d) → b < 2 ^ (16 * d) → Counted d a b (count_leading_zeros 128 (bit_xor a b))
+counted : (d a b : ℕ) → 1 ≤ d → d ≤ row_costs → a < 2 ^ (16 * d) → b < 2 ^ (16 * d) → Counted d a b (count_leading_zeros 128 (bit_xor a b))
 counted d a b some few f h =
     let zeros : ℕ = count_leading_zeros 128 (bit_xor a b) in
     let m : ℕ = 128 - zeros in

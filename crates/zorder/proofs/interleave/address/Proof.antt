@@ -8,7 +8,7 @@ use borrow.Author.Rules.{rules}
 use lib.ListN.{drop}
 use Rattle.zorder.specs.Address as definition
 use Rattle.zorder.specs.Promise.{AddressPromise, number_of}
-use Rattle.zorder.specs.Refusal.{or_zero, allZero, costCountBad, costPastBad, addressRefusal, refusal}
+use Rattle.zorder.specs.Refusal.{or_zero, all_zero, cost_count_bad, cost_past_bad, address_refusal, refusal}
 use Rattle.zorder.specs.Words.{words_of}
 use Rattle.zorder.specs.declared.AddressWords.{AddressWords}
 use Rattle.zorder.specs.declared.Verdict.{Verdict}
@@ -20,7 +20,7 @@ use Rattle.zorder.proofs.interleave.address.Statement.{statement}
 use Rattle.zorder.proofs.interleave.address.Tie as tie
 
 module _ (d : ℕ) (costs : List ℕ) where
-  promised : (v : Verdict) (a : AddressWords) → number_of v ≡ addressRefusal d costs → a ≡ words_of (or_zero (number_of v) (definition.address d costs))
+  promised : (v : Verdict) (a : AddressWords) → number_of v ≡ address_refusal d costs → a ≡ words_of (or_zero (number_of v) (definition.address d costs))
       → AddressPromise d costs (record { verdict = v; address = a })
   promised v a number told =
       record {
@@ -29,17 +29,17 @@ module _ (d : ℕ) (costs : List ℕ) where
         address = told ∙ ap (λ (n : ℕ). words_of (or_zero n (definition.address d costs))) number;
       }
 
-  bad-count : costCountBad d ≡ true → AddressPromise d costs (record { verdict = BadCostCount; address = record { upper = 0; lower = 0 } })
-  unfolding number_of or_zero addressRefusal refusal words_of
-  bad-count bad = promised BadCostCount (record { upper = 0; lower = 0 }) (two-checks true (costPastBad d costs) bad refl) refl
+  bad-count : cost_count_bad d ≡ true → AddressPromise d costs (record { verdict = BadCostCount; address = record { upper = 0; lower = 0 } })
+  unfolding number_of or_zero address_refusal refusal words_of
+  bad-count bad = promised BadCostCount (record { upper = 0; lower = 0 }) (two-checks true (cost_past_bad d costs) bad refl) refl
 
-  module _ (right : costCountBad d ≡ false) where
-    bad-past : allZero (drop d costs) ≡ false → AddressPromise d costs (record { verdict = BadArgument; address = record { upper = 0; lower = 0 } })
-    unfolding number_of or_zero addressRefusal refusal costPastBad words_of
+  module _ (right : cost_count_bad d ≡ false) where
+    bad-past : all_zero (drop d costs) ≡ false → AddressPromise d costs (record { verdict = BadArgument; address = record { upper = 0; lower = 0 } })
+    unfolding number_of or_zero address_refusal refusal cost_past_bad words_of
     bad-past bad = promised BadArgument (record { upper = 0; lower = 0 }) (two-checks false true right (ap not bad)) refl
 
-    accepted : allZero (drop d costs) ≡ true → (a : AddressWords) → a ≡ words_of (definition.address d costs) → AddressPromise d costs (record { verdict = Accepted; address = a })
-    unfolding number_of or_zero addressRefusal refusal costPastBad
+    accepted : all_zero (drop d costs) ≡ true → (a : AddressWords) → a ≡ words_of (definition.address d costs) → AddressPromise d costs (record { verdict = Accepted; address = a })
+    unfolding number_of or_zero address_refusal refusal cost_past_bad
     accepted good a told = promised Accepted a (two-checks false false right (ap not good)) told
 
 returns : tie.Need-returns
@@ -47,7 +47,7 @@ returns c =
     let a = c.before.before.args in
     bad-count a.d a.costs (sym c.before.cost-count-bad.ensures ∙ c.if1.true)
 
-right-count : (c : tie.Else1) → costCountBad c.before.before.args.d ≡ false
+right-count : (c : tie.Else1) → cost_count_bad c.before.before.args.d ≡ false
 right-count c = sym c.before.cost-count-bad.ensures ∙ c.if1.false
 
 zero-past-requires : tie.Need-zero-past-requires

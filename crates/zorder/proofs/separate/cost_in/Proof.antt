@@ -4,29 +4,29 @@ use Prim.Native.Nat.{ℕ, ◌+◌, ◌-◌, ◌*◌, ◌^◌, ◌≤◌, ◌<◌
 use mathlib.Core.Path.{refl, sym, ap}
 use native.Mathlib.Nat.{one-mul, mul-le-mul}
 use native.Mathlib.Omega.{arith}
-use Rattle.zorder.specs.Address.{rowCosts, bit, costFromBits}
+use Rattle.zorder.specs.Address.{row_costs, bit, cost_from_bits}
 use Rattle.zorder.specs.Words.{value}
 use Rattle.zorder.proofs.Digits.{Digits, Whole, digit-in, digits-end}
 use Rattle.zorder.proofs.separate.cost_in.Statement.{statement}
 use Rattle.zorder.proofs.separate.cost_in.Tie as tie
 
 -- The bits of the cost, as digits of one bit.
-cost-bits : (d e a : ℕ) → Digits 1 (λ (k : ℕ). bit (d * k + e) a) (λ (k : ℕ). costFromBits d e k a)
-unfolding bit costFromBits
+cost-bits : (d e a : ℕ) → Digits 1 (λ (k : ℕ). bit (d * k + e) a) (λ (k : ℕ). cost_from_bits d e k a)
+unfolding bit cost_from_bits
 cost-bits d e a = record {
   none = refl;
-  more = λ k. ap (λ (n : ℕ). bit (d * k + e) a * 2 ^ n + costFromBits d e k a) (sym (one-mul k));
+  more = λ k. ap (λ (n : ℕ). bit (d * k + e) a * 2 ^ n + cost_from_bits d e k a) (sym (one-mul k));
   small = λ k. omega arith;
 }
 
 abbrev invariant-loop : tie.invariant-loop
-invariant-loop d a e c₀ j₀ c j = (j ≤ 16) × Whole 1 (λ (k : ℕ). costFromBits d e k (value a)) 16 c j
+invariant-loop d a e c₀ j₀ c j = (j ≤ 16) × Whole 1 (λ (k : ℕ). cost_from_bits d e k (value a)) 16 c j
 
 abbrev decreases-loop : tie.decreases-loop
 decreases-loop d a e c₀ j₀ c j = j
 
 -- The place of a bit is below 128.
-place-lt : (d e j : ℕ) → e < d → d ≤ rowCosts → 0 < j → j ≤ 16 → d * (j - 1) + e < 128
+place-lt : (d e j : ℕ) → e < d → d ≤ row_costs → 0 < j → j ≤ 16 → d * (j - 1) + e < 128
 place-lt d e j inside few some most =
     let low : j - 1 ≤ 15 = omega arith in
     omega (arith, mul-le-mul few low)

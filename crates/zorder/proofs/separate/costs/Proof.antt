@@ -5,9 +5,9 @@ use mathlib.Core.List.{List}
 use mathlib.Core.Path.{◌≡◌, refl, sym, ap, ◌∙◌}
 use borrow.Author.Rules.{rules}
 use lib.ListN.{replicate}
-use Rattle.zorder.specs.Address.{rowCosts, costsOf, padded}
+use Rattle.zorder.specs.Address.{row_costs, costs_of, padded}
 use Rattle.zorder.specs.Promise.{CostsPromise, number_of}
-use Rattle.zorder.specs.Refusal.{orZeros, costCountBad, addressBad, costsRefusal, refusal}
+use Rattle.zorder.specs.Refusal.{or_zeros, cost_count_bad, address_bad, costs_refusal, refusal}
 use Rattle.zorder.specs.declared.Verdict.{Verdict}
 use Rattle.zorder.specs.declared.Verdict.TheVariants.{Accepted, BadCostCount, BadArgument}
 use Rattle.zorder.specs.Laws.Refusal.{count-right}
@@ -17,26 +17,26 @@ use Rattle.zorder.proofs.separate.costs.Statement.{statement}
 use Rattle.zorder.proofs.separate.costs.Tie as tie
 
 module _ (d a : ℕ) where
-  promised : (v : Verdict) (cs : List ℕ) → number_of v ≡ costsRefusal d a → cs ≡ orZeros (number_of v) (padded d (costsOf d a))
+  promised : (v : Verdict) (cs : List ℕ) → number_of v ≡ costs_refusal d a → cs ≡ or_zeros (number_of v) (padded d (costs_of d a))
       → CostsPromise d a (record { verdict = v; costs = cs })
   promised v cs number told =
       record {
         number = number;
         detail = no-detail v;
-        costs = told ∙ ap (λ (n : ℕ). orZeros n (padded d (costsOf d a))) number;
+        costs = told ∙ ap (λ (n : ℕ). or_zeros n (padded d (costs_of d a))) number;
       }
 
-  bad-count : costCountBad d ≡ true → CostsPromise d a (record { verdict = BadCostCount; costs = replicate rowCosts 0 })
-  unfolding number_of orZeros costsRefusal refusal
-  bad-count bad = promised BadCostCount (replicate rowCosts 0) (two-checks true (addressBad d a) bad refl) refl
+  bad-count : cost_count_bad d ≡ true → CostsPromise d a (record { verdict = BadCostCount; costs = replicate row_costs 0 })
+  unfolding number_of or_zeros costs_refusal refusal
+  bad-count bad = promised BadCostCount (replicate row_costs 0) (two-checks true (address_bad d a) bad refl) refl
 
-  module _ (right : costCountBad d ≡ false) where
-    bad-address : addressBad d a ≡ true → CostsPromise d a (record { verdict = BadArgument; costs = replicate rowCosts 0 })
-    unfolding number_of orZeros costsRefusal refusal
-    bad-address bad = promised BadArgument (replicate rowCosts 0) (two-checks false true right bad) refl
+  module _ (right : cost_count_bad d ≡ false) where
+    bad-address : address_bad d a ≡ true → CostsPromise d a (record { verdict = BadArgument; costs = replicate row_costs 0 })
+    unfolding number_of or_zeros costs_refusal refusal
+    bad-address bad = promised BadArgument (replicate row_costs 0) (two-checks false true right bad) refl
 
-    accepted : addressBad d a ≡ false → (cs : List ℕ) → cs ≡ padded d (costsOf d a) → CostsPromise d a (record { verdict = Accepted; costs = cs })
-    unfolding number_of orZeros costsRefusal refusal
+    accepted : address_bad d a ≡ false → (cs : List ℕ) → cs ≡ padded d (costs_of d a) → CostsPromise d a (record { verdict = Accepted; costs = cs })
+    unfolding number_of or_zeros costs_refusal refusal
     accepted good cs told = promised Accepted cs (two-checks false false right good) told
 
 returns : tie.Need-returns
@@ -44,7 +44,7 @@ returns c =
     let a = c.before.before.args in
     bad-count a.d (value a.address) (sym c.before.cost-count-bad.ensures ∙ c.if1.true)
 
-right-count : (c : tie.Else1) → costCountBad c.before.before.args.d ≡ false
+right-count : (c : tie.Else1) → cost_count_bad c.before.before.args.d ≡ false
 right-count c = sym c.before.cost-count-bad.ensures ∙ c.if1.false
 
 too-large-requires : tie.Need-too-large-requires

@@ -4,7 +4,7 @@ use mathlib.Core.Path.{ap, ◌∙◌}
 use native.Mathlib.Omega.{arith}
 use borrow.Author.Rules.{rules}
 use lib.Dec.{ltb}
-use Rattle.zorder.specs.Refusal.{addressBad}
+use Rattle.zorder.specs.Refusal.{address_bad}
 use Rattle.zorder.specs.Words.{value}
 use Rattle.zorder.specs.Laws.Words.{value-lt}
 use Rattle.zorder.proofs.Bits.{leading-large}
@@ -12,7 +12,7 @@ use Rattle.zorder.proofs.separate.too_large.Statement.{statement}
 use Rattle.zorder.proofs.separate.too_large.Tie as tie
 
 returns : tie.Need-returns
-unfolding addressBad
+unfolding address_bad
 returns c =
     let a = c.before.args in
     ap (λ (n : ℕ). ltb n (128 - 16 * a.d)) c.leading_zeros.ensures
