@@ -1,4 +1,3 @@
--- `interleave::interleaved` meets its contract. The loop's invariant: a, with the groups to come, is the address. Assumes nothing.
 use Prim.Native.Nat.{ℕ, ◌+◌, ◌-◌, ◌*◌, ◌^◌, ◌≤◌, ◌<◌}
 use mathlib.Core.List.{List}
 use mathlib.Core.Path.{◌≡◌, refl, sym, ap, subst, ◌∙◌}
@@ -11,8 +10,7 @@ use Rattle.zorder.specs.Address.{address, group, groups}
 use Rattle.zorder.specs.Words.{value}
 use Rattle.zorder.specs.Laws.Address.{group-lt}
 use Rattle.zorder.proofs.Digits.{Digits, Whole, digit-more, digits-end}
-use Rattle.zorder.proofs.interleave.interleaved.Statement.{statement}
-use Rattle.zorder.proofs.interleave.interleaved.Tie as tie
+use Rattle.zorder.proofs.interleave.interleaved.Goals as goal
 
 -- The groups, as digits of d bits.
 group-digits : (d : ℕ) (costs : List ℕ) → d ≤ length costs → Digits d (λ (k : ℕ). group k (take d costs)) (λ (k : ℕ). groups k (take d costs))
@@ -26,26 +24,20 @@ group-digits d costs room =
       small = λ k. subst (λ (n : ℕ). group k cs < 2 ^ n) count (group-lt k cs);
     }
 
-abbrev invariant-loop : tie.invariant-loop
-invariant-loop d costs a₀ j₀ a j = (j ≤ 16) × Whole d (λ (k : ℕ). groups k (take d costs)) 16 (value a) j
-
-abbrev decreases-loop : tie.decreases-loop
-decreases-loop d costs a₀ j₀ a j = j
-
-loop-holds : tie.Need-loop-init invariant-loop decreases-loop
-unfolding value
-loop-holds c = omega arith
-
 -- A turn: the groups so far shifted up, and the next one in.
 turn : (d : ℕ) (costs : List ℕ) (a j : ℕ) → d ≤ length costs → 0 < j → Whole d (λ (k : ℕ). groups k (take d costs)) 16 a j
     → Whole d (λ (k : ℕ). groups k (take d costs)) 16 (a * 2 ^ d + group (j - 1) (take d costs)) (j - 1) × (a * 2 ^ d < 2 ^ (d * 16))
 turn d costs a j room = digit-more (group-digits d costs room) 16 a j
 
-shift-in-requires : tie.Need-shift-in-requires invariant-loop decreases-loop
-shift-in-requires c κs =
-    let a = c.before.before.before.args in
-    let own = c.before.before.loop in
-    let next = turn a.d a.costs (value own.a) own.j (omega arith) c.before.loop-test.true own.invariant.1 in
+pub loop-j-init : goal.loop-j-init
+unfolding value
+loop-j-init c = omega arith
+
+pub shift_in-a-requires : goal.shift_in-a-requires
+shift_in-a-requires c =
+    let a = c.args in
+    let own = c.loop-j in
+    let next = turn a.d a.costs (value own.a) own.j (omega arith) c.loop-j-test.true own.invariant.1 in
     let few : a.d * 16 ≤ 128 = omega arith in (
       omega arith,
       omega arith,
@@ -53,26 +45,21 @@ shift-in-requires c κs =
       lt_of_lt_of_le next.1 (pow_mono few),
     )
 
-loop-again : tie.Need-loop-preserved invariant-loop decreases-loop
-loop-again c =
-    let a = c.before.before.before.before.args in
-    let own = c.before.before.before.loop in
-    let next = turn a.d a.costs (value own.a) own.j (omega arith) c.before.before.loop-test.true own.invariant.1 in (
+pub loop-j-preserved : goal.loop-j-preserved
+loop-j-preserved c =
+    let a = c.args in
+    let own = c.loop-j in
+    let next = turn a.d a.costs (value own.a) own.j (omega arith) c.loop-j-test.true own.invariant.1 in (
       omega arith,
       subst
           (λ (n : ℕ). Whole a.d (λ (k : ℕ). groups k (take a.d a.costs)) 16 n (own.j - 1))
-          (sym (c.shift_in.ensures ∙ ap (λ (g : ℕ). value own.a * 2 ^ a.d + g) c.before.group.ensures))
+          (sym (c.shift_in-a.ensures ∙ ap (λ (g : ℕ). value own.a * 2 ^ a.d + g) c.group.ensures))
           next.0,
     )
 
-returns : tie.Need-returns invariant-loop decreases-loop
+pub returns : goal.returns
 unfolding address
 returns c =
-    let a = c.before.before.args in
-    let own = c.before.loop in
-    digits-end (group-digits a.d a.costs (omega arith)) 16 (value own.a) own.j c.loop-test.false own.invariant.1
-
-pub interleaved-spec : {M : Type 1} → statement M
-interleaved-spec =
-    tie.close
-    (tie.spec invariant-loop decreases-loop loop-holds (λ c. omega arith) (λ c κs. omega arith) shift-in-requires (λ c. omega arith) loop-again returns)
+    let a = c.args in
+    let own = c.loop-j in
+    digits-end (group-digits a.d a.costs (omega arith)) 16 (value own.a) own.j c.loop-j-test.false own.invariant.1

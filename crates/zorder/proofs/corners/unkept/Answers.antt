@@ -14,8 +14,8 @@ use Rattle.zorder.specs.Region.{unkept}
 use Rattle.zorder.specs.Words.{value}
 use Rattle.zorder.specs.Laws.Region.{unkept-unique}
 use Rattle.zorder.proofs.Bits.{round-up-iff, shr-eq-leading}
-use Rattle.zorder.proofs.corners.unkept.Statement.{statement}
-use Rattle.zorder.proofs.corners.unkept.Tie as tie
+use Rattle.zorder.proofs.corners.unkept.Goals.{After-leading_zeros-zeros}
+use Rattle.zorder.proofs.corners.unkept.Goals as goal
 
 -- What the code counts, of two addresses of d costs.
 record Counted (d a b zeros : ℕ) : Type 0 where
@@ -43,24 +43,19 @@ counted d a b some few f h =
     }
 
 -- The number counted, at the place where it is.
-counted-here : (c : tie.After-leading-zeros) → Counted c.before.before.args.d (value c.before.before.args.a) (value c.before.before.args.b) c.leading_zeros.result
+counted-here : (c : After-leading_zeros-zeros) → Counted c.args.d (value c.args.a) (value c.args.b) c.leading_zeros-zeros.result
 counted-here c =
     let s = c.before.before in
     let a = s.args in
     subst (Counted a.d (value a.a) (value a.b))
-    (sym (c.leading_zeros.ensures ∙ ap (count_leading_zeros 128) c.before.xor.ensures))
+    (sym (c.leading_zeros-zeros.ensures ∙ ap (count_leading_zeros 128) c.xor.ensures))
     (counted a.d (value a.a) (value a.b) s.requires.0 s.requires.1 s.requires.2 s.requires.3)
 
-sub-result-2 : tie.Need-overflow-sub-result-2
-sub-result-2 c = (counted-here c).room
+pub overflow_sub-result-2 : goal.overflow_sub-result-2
+overflow_sub-result-2 c = (counted-here c).room
 
-sub-result-3 : tie.Need-overflow-sub-result-3
-sub-result-3 c = (counted-here c).most
+pub overflow_sub-result-3 : goal.overflow_sub-result-3
+overflow_sub-result-3 c = (counted-here c).most
 
-returns : tie.Need-returns
+pub returns : goal.returns
 returns c = ((counted-here c).count, omega arith)
-
-pub unkept-spec : {M : Type 1} → statement M
-unkept-spec =
-    tie.close
-    (tie.spec (λ c κs. tt) (λ c κs. tt) (λ c. search rules) (λ c. search rules) sub-result-2 (λ c. search rules) sub-result-3 returns)

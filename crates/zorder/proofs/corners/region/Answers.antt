@@ -23,8 +23,9 @@ use Rattle.zorder.specs.Words.{value}
 use Rattle.zorder.specs.Laws.Refusal.{count-right, address-right}
 use Rattle.zorder.proofs.Checks.{three-checks, no-detail}
 use Rattle.zorder.proofs.Row.{take-padded}
-use Rattle.zorder.proofs.corners.region.Statement.{statement}
-use Rattle.zorder.proofs.corners.region.Tie as tie
+use Rattle.zorder.proofs.corners.region.Goals.{After-unkept-u, Else-cost_count_bad, Else-too_large, Else-too_large-2}
+use Rattle.zorder.proofs.corners.region.Goals.{then-too_large-via-then-too_large, then-too_large-via-else-too_large+then-too_large-2, then-too_large-via-else-too_large+else-too_large-2+then-below}
+use Rattle.zorder.proofs.corners.region.Goals as goal
 
 -- A refused call, by the number that is not 0.
 promised-none : (d a b n : ℕ) {v : Verdict} {r : RegionResult} → RefusedRegion v r → number_of v ≡ suc n → suc n ≡ region_refusal d a b → RegionPromise d a b r
@@ -80,107 +81,87 @@ unfolding region_refusal refusal
 passed d a b right good ordered = three-checks false false false right good ordered
 
 -- What the checks passed at each place tell.
-right-count : (c : tie.Else1) → cost_count_bad c.before.before.args.d ≡ false
-right-count c = sym c.before.cost-count-bad.ensures ∙ c.if1.false
+right-count : (c : Else-cost_count_bad) → cost_count_bad c.args.d ≡ false
+right-count c = sym c.cost_count_bad.ensures ∙ c.if-cost_count_bad.false
 
-first_good : (c : tie.Else2) → address_bad c.before.before.before.before.args.d (value c.before.before.before.before.args.a) ≡ false
-first_good c = sym c.before.too_large.ensures ∙ c.if2.false
+first_good : (c : Else-too_large) → address_bad c.args.d (value c.args.a) ≡ false
+first_good c = sym c.too_large.ensures ∙ c.if-too_large.false
 
-second-good : (c : tie.Else3) → address_bad c.before.before.before.before.before.before.args.d (value c.before.before.before.before.before.before.args.b) ≡ false
-second-good c = sym c.before.too-large2.ensures ∙ c.if3.false
+second-good : (c : Else-too_large-2) → address_bad c.args.d (value c.args.b) ≡ false
+second-good c = sym c.too_large-else-too_large.ensures ∙ c.if-too_large-2.false
 
-returns : tie.Need-returns
-returns c =
+right-at : (c : After-unkept-u) → c.args.d ≤ row_costs
+right-at c = (count-right c.args.d (right-count c.before.before.before.before.before.before.before)).1
+
+pub returns-then-cost_count_bad : goal.returns-then-cost_count_bad
+returns-then-cost_count_bad c =
     let s = c.before.before in
-    let a = s.before.args in
-    bad-count a.d (value a.a) (value a.b) c.refused.result (sym s.cost-count-bad.ensures ∙ c.before.if1.true) c.refused.ensures
+    let a = s.args in
+    bad-count a.d (value a.a) (value a.b) c.refused.result (sym s.cost_count_bad.ensures ∙ c.if-cost_count_bad.true) c.refused.ensures
 
-too-large-requires : tie.Need-too-large-requires
-too-large-requires c κs = (count-right c.before.before.args.d (right-count c)).1
+pub too_large-requires : goal.too_large-requires
+too_large-requires c = (count-right c.args.d (right-count c)).1
 
-too-large-requires-2 : tie.Need-too-large-requires-2
-too-large-requires-2 c κs = (count-right c.before.before.before.before.args.d (right-count c.before.before)).1
+pub too_large-requires-else-too_large : goal.too_large-requires-else-too_large
+too_large-requires-else-too_large c = (count-right c.args.d (right-count c.before.before)).1
 
-returns-2 : tie.Need-returns-2
-returns-2 c =
-    let s = c.before.before in
-    let a = s.before.before.before.args in
-    let right = right-count s.before in
-    let R = c.refused2.ensures in
-    let first = sym s.too_large.ensures in
-    let large = bad-large a.d (value a.a) (value a.b) c.refused2.result right R in
-    let order = bad-order a.d (value a.a) (value a.b) c.refused2.result right R in
-    ⊎_elim
-    (λ w. large (ap (λ (t : Bool). t || address_bad a.d (value a.b)) (first ∙ w.taken)))
-    (⊎_elim
-    (λ w. large (ap₂ ◌||◌ (first ∙ w.0.left) (sym w.1.ensures ∙ w.2.taken)))
-    (λ w. order (ap₂ ◌||◌ (first ∙ w.0.left) (sym w.1.ensures ∙ w.2.left)) (sym w.3.ensures ∙ w.4.taken)))
-    c.before.if2.branch
+pub returns-then-too_large : goal.returns-then-too_large
+returns-then-too_large c =
+    let a = c.args in
+    let right = right-count c.before.before.before in
+    let R = c.refused-then-too_large.ensures in
+    let first = sym c.too_large.ensures in
+    let large = bad-large a.d (value a.a) (value a.b) c.refused-then-too_large.result right R in
+    let order = bad-order a.d (value a.a) (value a.b) c.refused-then-too_large.result right R in
+    elim c.then-too_large.branch [
+      then-too_large-via-then-too_large w ↦ large (ap (λ (t : Bool). t || address_bad a.d (value a.b)) (first ∙ w.if-too_large.true))
+    | then-too_large-via-else-too_large+then-too_large-2 w ↦
+        large (ap₂ ◌||◌ (first ∙ w.if-too_large.false) (sym w.too_large-else-too_large.ensures ∙ w.if-too_large-2.true))
+    | then-too_large-via-else-too_large+else-too_large-2+then-below w ↦
+        order (ap₂ ◌||◌ (first ∙ w.if-too_large.false) (sym w.too_large-else-too_large.ensures ∙ w.if-too_large-2.false)) (sym w.below.ensures ∙ w.if-below.true)
+    ]
 
-unkept-requires : tie.Need-unkept-requires
-unkept-requires c κs =
+pub unkept-u-requires : goal.unkept-u-requires
+unkept-u-requires c =
     let s = c.before.before.before.before in
-    let a = s.before.before.before.before.args in
+    let a = s.args in
     let right = count-right a.d (right-count s.before.before) in
     let below = address-right a.d (value a.a) (first_good s) in
     let also = address-right a.d (value a.b) (second-good c.before.before) in
     (omega arith, right.1, below, also)
 
-right-at : (c : tie.After-unkept) → c.before.before.before.before.before.before.before.before.before.args.d ≤ row_costs
-right-at c = (count-right c.before.before.before.before.before.before.before.before.before.args.d (right-count c.before.before.before.before.before.before.before)).1
+pub separated-costs-requires : goal.separated-costs-requires
+separated-costs-requires c = right-at c
 
-separated-requires : tie.Need-separated-requires
-separated-requires c κs = right-at c
+pub near-requires : goal.near-requires
+near-requires c = (right-at c.before, c.unkept-u.ensures.1)
 
-near-requires : tie.Need-near-requires
-near-requires c κs = (right-at c.before, c.before.unkept.ensures.1)
+pub far-requires : goal.far-requires
+far-requires c = (right-at c.before.before, c.unkept-u.ensures.1)
 
-far-requires : tie.Need-far-requires
-far-requires c κs = (right-at c.before.before, c.before.before.unkept.ensures.1)
-
-returns-3 : tie.Need-returns-3
-returns-3 c =
+pub returns : goal.returns
+returns c =
     let u = c.before.before.before in
     let e = u.before.before.before in
-    let a = e.before.before.before.before.before.before.args in
+    let a = e.args in
     accepted
     a.d
     (value a.a)
     (value a.b)
-    u.unkept.result
-    c.before.before.separated.result
-    u.unkept.ensures.0
-    c.before.before.separated.ensures
-    c.before.near.result
+    u.unkept-u.result
+    c.separated-costs.result
+    u.unkept-u.ensures.0
+    c.separated-costs.ensures
+    c.near.result
     c.far.result
-    (1 * 2 ^ u.unkept.result % 2 ^ 32)
-    c.before.near.ensures
+    (1 * 2 ^ u.unkept-u.result % 2 ^ 32)
+    c.near.ensures
     c.far.ensures
-    (omega (arith, pow_mono u.unkept.ensures.1))
+    (omega (arith, pow_mono u.unkept-u.ensures.1))
     (passed
     a.d
     (value a.a)
     (value a.b)
     (right-count e.before.before.before.before)
     (ap₂ ◌||◌ (first_good e.before.before) (second-good e))
-    (sym u.before.before.below.ensures ∙ u.before.if4.false))
-
-pub region-spec : {M : Type 1} → statement M
-region-spec =
-    tie.close
-    (tie.spec
-    (λ c κs. search rules)
-    (λ c κs. search rules)
-    returns
-    too-large-requires
-    too-large-requires-2
-    (λ c κs. search rules)
-    (λ c κs. search rules)
-    returns-2
-    unkept-requires
-    separated-requires
-    near-requires
-    far-requires
-    (λ c. search rules)
-    (λ c. search rules)
-    returns-3)
+    (sym u.below.ensures ∙ u.if-below.false))

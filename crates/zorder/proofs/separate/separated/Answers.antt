@@ -1,5 +1,3 @@
--- `separate::separated` meets its contract. The loop's invariant: the row holds the first d - e costs of the address.
--- Assumes nothing.
 use Prim.Native.Nat.{ℕ, zero, suc, ◌+◌, ◌-◌, ◌≤◌, ◌<◌}
 use mathlib.Core.List.{List}
 use mathlib.Core.Path.{◌≡◌, sym, ap, ap₂, ◌∙◌}
@@ -10,8 +8,7 @@ use Rattle.zorder.specs.Address.{row_costs, cost_from_bits, costs_from, costs_of
 use Rattle.zorder.specs.Laws.Inverse.{costs_of-costs}
 use Rattle.zorder.specs.Words.{value}
 use Rattle.zorder.proofs.Fill.{filled, filled_none, filled_more, filled-all}
-use Rattle.zorder.proofs.separate.separated.Statement.{statement}
-use Rattle.zorder.proofs.separate.separated.Tie as tie
+use Rattle.zorder.proofs.separate.separated.Goals as goal
 
 cost-at : (d n i a : ℕ) → i < n → get_or (costs_from d n a) i 0 ≡ cost_from_bits d (n - 1 - i) 16 a
 unfolding costs_from
@@ -32,49 +29,26 @@ cost-more d a e some most room =
     ∙ filled_more t (d - e) 0 (omega arith) (omega arith)
     ∙ ap (filled t) next
 
-abbrev invariant-loop : tie.invariant-loop
-invariant-loop d a costs₀ e₀ costs e = (e ≤ d) × (costs ≡ filled (costs_of d (value a)) (d - e))
-
-abbrev decreases-loop : tie.decreases-loop
-decreases-loop d a costs₀ e₀ costs e = e
-
-loop-holds : tie.Need-loop-init invariant-loop decreases-loop
-loop-holds c =
+pub loop-e-init : goal.loop-e-init
+loop-e-init c =
     let none : 0 ≡ c.args.d - c.args.d = omega arith in
     let t : List ℕ = costs_of c.args.d (value c.args.a) in
     (omega arith, filled_none t ∙ ap (filled t) none)
 
-loop-again : tie.Need-loop-preserved invariant-loop decreases-loop
-loop-again c =
-    let a = c.before.before.before.args in
-    let own = c.before.before.loop in
+pub loop-e-preserved : goal.loop-e-preserved
+loop-e-preserved c =
+    let a = c.args in
+    let own = c.loop-e in
     let at : ℕ = a.d - 1 - (own.e - 1) in (
       omega arith,
-      ap₂ (λ (row : List ℕ) (v : ℕ). set row at v) own.invariant.1 c.cost-in.ensures
+      ap₂ (λ (row : List ℕ) (v : ℕ). set row at v) own.invariant.1 c.cost_in.ensures
           ∙ cost-more a.d (value a.a) own.e (omega arith) (omega arith) (omega arith),
     )
 
-returns : tie.Need-returns invariant-loop decreases-loop
+pub returns : goal.returns
 returns c =
-    let a = c.before.before.args in
-    let own = c.before.loop in
+    let a = c.args in
+    let own = c.loop-e in
     let t : List ℕ = costs_of a.d (value a.a) in
     let all : a.d - own.e ≡ a.d = omega arith in
     own.invariant.1 ∙ ap (filled t) all ∙ filled-all t a.d (costs_of-costs a.d (value a.a)).count
-
-pub separated-spec : {M : Type 1} → statement M
-separated-spec =
-    tie.close
-    (tie.spec
-    invariant-loop
-    decreases-loop
-    loop-holds
-    (λ c. omega arith)
-    (λ c κs. omega arith)
-    (λ c. omega arith)
-    (λ c. omega arith)
-    (λ c. omega arith)
-    (λ c. omega arith)
-    (λ c. omega arith)
-    loop-again
-    returns)

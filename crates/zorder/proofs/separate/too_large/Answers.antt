@@ -8,15 +8,11 @@ use Rattle.zorder.specs.Refusal.{address_bad}
 use Rattle.zorder.specs.Words.{value}
 use Rattle.zorder.specs.Laws.Words.{value-lt}
 use Rattle.zorder.proofs.Bits.{leading-large}
-use Rattle.zorder.proofs.separate.too_large.Statement.{statement}
-use Rattle.zorder.proofs.separate.too_large.Tie as tie
+use Rattle.zorder.proofs.separate.too_large.Goals as goal
 
-returns : tie.Need-returns
+pub returns : goal.returns
 unfolding address_bad
 returns c =
-    let a = c.before.args in
+    let a = c.args in
     ap (λ (n : ℕ). ltb n (128 - 16 * a.d)) c.leading_zeros.ensures
     ∙ leading-large 128 (16 * a.d) (value a.a) (value-lt a.a (omega arith) (omega arith)) (omega arith)
-
-pub too-large-spec : {M : Type 1} → statement M
-too-large-spec = tie.close (tie.spec (λ c κs. search rules) (λ c. search rules) (λ c. search rules) returns)

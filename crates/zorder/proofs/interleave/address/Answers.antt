@@ -16,8 +16,8 @@ use Rattle.zorder.specs.declared.Verdict.TheVariants.{Accepted, BadCostCount, Ba
 use Rattle.zorder.specs.Laws.Refusal.{count-right}
 use Rattle.zorder.specs.Laws.Words.{words-value}
 use Rattle.zorder.proofs.Checks.{two-checks, no-detail}
-use Rattle.zorder.proofs.interleave.address.Statement.{statement}
-use Rattle.zorder.proofs.interleave.address.Tie as tie
+use Rattle.zorder.proofs.interleave.address.Goals.{Else-cost_count_bad}
+use Rattle.zorder.proofs.interleave.address.Goals as goal
 
 module _ (d : ℕ) (costs : List ℕ) where
   promised : (v : Verdict) (a : AddressWords) → number_of v ≡ address_refusal d costs → a ≡ words_of (or_zero (number_of v) (definition.address d costs))
@@ -42,47 +42,36 @@ module _ (d : ℕ) (costs : List ℕ) where
     unfolding number_of or_zero address_refusal refusal cost_past_bad
     accepted good a told = promised Accepted a (two-checks false false right (ap not good)) told
 
-returns : tie.Need-returns
-returns c =
-    let a = c.before.before.args in
-    bad-count a.d a.costs (sym c.before.cost-count-bad.ensures ∙ c.if1.true)
+right-count : (c : Else-cost_count_bad) → cost_count_bad c.args.d ≡ false
+right-count c = sym c.cost_count_bad.ensures ∙ c.if-cost_count_bad.false
 
-right-count : (c : tie.Else1) → cost_count_bad c.before.before.args.d ≡ false
-right-count c = sym c.before.cost-count-bad.ensures ∙ c.if1.false
+pub returns-then-cost_count_bad : goal.returns-then-cost_count_bad
+returns-then-cost_count_bad c =
+    let a = c.args in
+    bad-count a.d a.costs (sym c.cost_count_bad.ensures ∙ c.if-cost_count_bad.true)
 
-zero-past-requires : tie.Need-zero-past-requires
-zero-past-requires c κs = (count-right c.before.before.args.d (right-count c)).1
+pub zero_past-requires : goal.zero_past-requires
+zero_past-requires c = (count-right c.args.d (right-count c)).1
 
-interleaved-requires : tie.Need-interleaved-requires
-interleaved-requires c κs =
-    let right = count-right c.before.before.before.before.args.d (right-count c.before.before) in
+pub interleaved-requires : goal.interleaved-requires
+interleaved-requires c =
+    let right = count-right c.args.d (right-count c.before.before) in
     (omega arith, right.1)
 
-returns-2 : tie.Need-returns-2
-returns-2 c =
+pub returns-then-zero_past : goal.returns-then-zero_past
+returns-then-zero_past c =
     let s = c.before.before.before in
-    let a = s.before.before.args in
+    let a = s.args in
     accepted
     a.d
     a.costs
     (right-count s)
-    (sym c.before.before.zero-past.ensures ∙ c.before.if2.true)
+    (sym c.zero_past.ensures ∙ c.if-zero_past.true)
     c.interleaved.result
     (sym (words-value c.interleaved.result (omega arith)) ∙ ap words_of c.interleaved.ensures)
 
-returns-3 : tie.Need-returns-3
-returns-3 c =
+pub returns : goal.returns
+returns c =
     let s = c.before.before in
-    let a = s.before.before.args in
-    bad-past a.d a.costs (right-count s) (sym c.before.zero-past.ensures ∙ c.if2.false)
-
-pub address_spec : {M : Type 1} → statement M
-address_spec =
-    tie.close
-    (tie.spec
-    (λ c κs. search rules)
-    returns
-    zero-past-requires
-    interleaved-requires
-    returns-2
-    returns-3)
+    let a = s.args in
+    bad-past a.d a.costs (right-count s) (sym c.zero_past.ensures ∙ c.if-zero_past.false)

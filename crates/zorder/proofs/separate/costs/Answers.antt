@@ -13,8 +13,8 @@ use Rattle.zorder.specs.declared.Verdict.TheVariants.{Accepted, BadCostCount, Ba
 use Rattle.zorder.specs.Laws.Refusal.{count-right}
 use Rattle.zorder.specs.Words.{value}
 use Rattle.zorder.proofs.Checks.{two-checks, no-detail}
-use Rattle.zorder.proofs.separate.costs.Statement.{statement}
-use Rattle.zorder.proofs.separate.costs.Tie as tie
+use Rattle.zorder.proofs.separate.costs.Goals.{Else-cost_count_bad}
+use Rattle.zorder.proofs.separate.costs.Goals as goal
 
 module _ (d a : ℕ) where
   promised : (v : Verdict) (cs : List ℕ) → number_of v ≡ costs_refusal d a → cs ≡ or_zeros (number_of v) (padded d (costs_of d a))
@@ -39,39 +39,34 @@ module _ (d a : ℕ) where
     unfolding number_of or_zeros costs_refusal refusal
     accepted good cs told = promised Accepted cs (two-checks false false right good) told
 
-returns : tie.Need-returns
-returns c =
-    let a = c.before.before.args in
-    bad-count a.d (value a.address) (sym c.before.cost-count-bad.ensures ∙ c.if1.true)
+right-count : (c : Else-cost_count_bad) → cost_count_bad c.args.d ≡ false
+right-count c = sym c.cost_count_bad.ensures ∙ c.if-cost_count_bad.false
 
-right-count : (c : tie.Else1) → cost_count_bad c.before.before.args.d ≡ false
-right-count c = sym c.before.cost-count-bad.ensures ∙ c.if1.false
+pub returns-then-cost_count_bad : goal.returns-then-cost_count_bad
+returns-then-cost_count_bad c =
+    let a = c.args in
+    bad-count a.d (value a.address) (sym c.cost_count_bad.ensures ∙ c.if-cost_count_bad.true)
 
-too-large-requires : tie.Need-too-large-requires
-too-large-requires c κs = (count-right c.before.before.args.d (right-count c)).1
+pub too_large-requires : goal.too_large-requires
+too_large-requires c = (count-right c.args.d (right-count c)).1
 
-returns-2 : tie.Need-returns-2
-returns-2 c =
+pub returns-then-too_large : goal.returns-then-too_large
+returns-then-too_large c =
     let s = c.before.before in
-    let a = s.before.before.args in
-    bad-address a.d (value a.address) (right-count s) (sym c.before.too_large.ensures ∙ c.if2.true)
+    let a = s.args in
+    bad-address a.d (value a.address) (right-count s) (sym c.too_large.ensures ∙ c.if-too_large.true)
 
-separated-requires : tie.Need-separated-requires
-separated-requires c κs = (count-right c.before.before.before.before.args.d (right-count c.before.before)).1
+pub separated-requires : goal.separated-requires
+separated-requires c = (count-right c.args.d (right-count c.before.before)).1
 
-returns-3 : tie.Need-returns-3
-returns-3 c =
+pub returns : goal.returns
+returns c =
     let s = c.before.before.before in
-    let a = s.before.before.args in
+    let a = s.args in
     accepted
     a.d
     (value a.address)
     (right-count s)
-    (sym c.before.before.too_large.ensures ∙ c.before.if2.false)
+    (sym c.too_large.ensures ∙ c.if-too_large.false)
     c.separated.result
     c.separated.ensures
-
-pub costs-spec : {M : Type 1} → statement M
-costs-spec =
-    tie.close
-    (tie.spec (λ c κs. search rules) returns too-large-requires returns-2 separated-requires returns-3)

@@ -1,0 +1,16 @@
+-- `corners::near` meets its contract. The loop's invariant: the row holds the first i costs of the corner. Assumes nothing.
+use Prim.Native.Nat.{ℕ, ◌≤◌, ◌-◌}
+use mathlib.Core.List.{List, map}
+use mathlib.Core.Path.{◌≡◌, ap, ap₂, ◌∙◌}
+use native.Mathlib.Omega.{arith}
+use lib.ListN.{set, take}
+use Rattle.zorder.specs.Region.{zeros_below}
+use Rattle.zorder.proofs.Fill.{filled, filled_none, mapped-more, mapped-all}
+use Rattle.zorder.proofs.corners.near.Given as goal
+
+abbrev pub invariant-loop-i : goal.invariant-loop-i
+invariant-loop-i l =
+    (l.i ≤ l.d) × (l.corner ≡ filled (map (zeros_below 1 l.u) (take l.d l.costs)) l.i)
+
+abbrev pub decreases-loop-i : goal.decreases-loop-i
+decreases-loop-i l = l.d - l.i
