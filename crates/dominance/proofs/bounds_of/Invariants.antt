@@ -1,0 +1,17 @@
+-- `bounds_of` meets its contract. The loop's invariant: the places before i are filled. Assumes nothing.
+use Prim.Native.Nat.{ℕ, ◌-◌, ◌≤◌}
+use mathlib.Core.Bool.{Bool, cond}
+use mathlib.Core.Path.{ap, ◌∙◌}
+use native.Mathlib.Omega.{arith}
+use lib.Dec.{eqb}
+use lib.ListN.{get_or}
+use Rattle.zorder.specs.Address.{row_costs}
+use Rattle.dominance.specs.Lanes.{bound, is_first}
+use Rattle.dominance.specs.Laws.Lanes.{FilledTo, filled_none, filled_more, filled-all, factor-test}
+use Rattle.dominance.proofs.bounds_of.Given as goal
+
+abbrev pub invariant-loop-i : goal.invariant-loop-i
+invariant-loop-i l = (l.i ≤ row_costs) × FilledTo (bound (is_first l.d) l.q) l.i l.bounds
+
+abbrev pub decreases-loop-i : goal.decreases-loop-i
+decreases-loop-i l = row_costs - l.i
