@@ -15,9 +15,8 @@ use lib.ListN.{length, get_or, set}
 use lib.Pow.{shl_exact}
 use lib.Seq.{get_or-set_same, get_or-set_other}
 use Rattle.numbers.proofs.Bits.{set-bit-same, set-bit-other}
-use Rattle.numbers.proofs.add.Statement.{statement}
-use Rattle.numbers.proofs.add.Tie as tie
 use Rattle.numbers.specs.Set.{in_set, With}
+use Rattle.numbers.proofs.add.Goals as goal
 
 -- The word of n, with its bit set, in place of the old one.
 module _ (ws : List ℕ) (n : ℕ) (fits : n / 64 < length ws) where
@@ -54,23 +53,10 @@ module _ (ws : List ℕ) (n : ℕ) (fits : n / 64 < length ws) where
       by_number (no d) =
           ap (λ (b : ℕ). eqb b 1) (bit-other k d) ∙ ap (λ (b : Bool). b || in_set ws k) (sym (ne_eqb k n d))
 
-returns : tie.Need-returns
+pub returns : goal.returns
 returns c =
-    let a = c.before.before.args in
+    let a = c.args in
     let place : a.n % 64 < 64 = omega arith in
     subst (λ (v : ℕ). With a.set.now a.n (set a.set.now (a.n / 64) (bit_or (get_or a.set.now (a.n / 64) 0) v)))
     (sym (shl_exact {a = 1} 1 (a.n % 64) 64 (omega arith) (omega arith) ∙ one-mul (2 ^ (a.n % 64))))
     (set-with a.set.now a.n (omega arith))
-
-pub add_spec : {M : Type 1} → statement M
-add_spec =
-    tie.close
-    (tie.spec
-    (λ c. search rules)
-    (λ c. search rules)
-    (λ c. search rules)
-    (λ c. search rules)
-    (λ c. search rules)
-    (λ c. search rules)
-    (λ c. search rules)
-    returns)
