@@ -7,15 +7,11 @@ use borrow.Author.Tests.{lt-ltb, le-ltb}
 use lib.Dec.{ltb}
 use Rattle.model.specs.Calls.{block_bad}
 use Rattle.model.specs.Laws.Blocks.{block-low, block-high}
-use Rattle.promises.proofs.ranges.block_bad.Statement.{statement}
-use Rattle.promises.proofs.ranges.block_bad.Tie as tie
+use Rattle.promises.proofs.ranges.block_bad.Goals as goal
 
 most : (n : ℕ) → Dec (63 < n) → ltb 63 n ≡ block_bad n
 most n (yes h) = lt-ltb 63 n h ∙ sym (block-high n h)
 most n (no h) = le-ltb 63 n (omega arith) ∙ sym (block-low n (omega arith))
 
-returns : tie.Need-returns
+pub returns : goal.returns
 returns c = let n : ℕ = c.args.block in most n (dec_lt 63 n)
-
-pub block-bad-spec : {M : Type 1} → statement M
-block-bad-spec = tie.close (tie.spec returns)
