@@ -45,7 +45,7 @@ returns-in-16 c =
 
 pub returns-in_default : goal.returns-in_default
 unfolding kind_of
-returns-in_default c = simp (ne_eqb _ _ c.in_default.in_default-own.rest.0.1, other c.args.code c.in_default.rest.1)
+returns-in_default c = simp (ne_eqb _ _ c.in_default.in_default-own.rest.0.1, other c.args.code c.in_default.in_default-own.rest.1)
 
 pub returns-then-d-eq0 : goal.returns-then-d-eq0
 returns-then-d-eq0 c =

@@ -5,16 +5,12 @@ use borrow.Author.Rules.{rules}
 use lib.Bits.{and_mask}
 use lib.Dec.{eqb}
 use Rattle.search.specs.Search.{in_blocks}
-use Rattle.search.proofs.search.in_blocks.Statement.{statement}
-use Rattle.search.proofs.search.in_blocks.Tie as tie
+use Rattle.search.proofs.search.in_blocks.Goals as goal
 
-returns : tie.Need-returns
+pub returns : goal.returns
 unfolding in_blocks
 returns c =
-    let a = c.before.before.args in
-    let block = c.Block-of in
+    let a = c.args in
+    let block = c.block_of in
     ap (λ (b : ℕ). eqb b 1) (and_mask (a.blocks / 2 ^ (block.result % 64)) 1)
     ∙ ap (λ (k : ℕ). eqb (a.blocks / 2 ^ (k % 64) % 2) 1) block.ensures
-
-pub in-blocks-spec : {M : Type 1} → statement M
-in-blocks-spec = tie.close (tie.spec (λ c κs. search rules) (λ c. search rules) (λ c. search rules) returns)
