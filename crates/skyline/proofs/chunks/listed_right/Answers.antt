@@ -46,10 +46,7 @@ put_highs-requires c =
 pub later_unhidden-requires : goal.later_unhidden-requires
 later_unhidden-requires c =
     let next = c.next_chunk-chunk in
-    let unhidden = not-false next.result.unhidden c.if-not-chunk.false in (
-      (c.requires.0, next.ensures.end),
-      ((next.ensures.gathered, next.ensures.some unhidden), highs-there c.before.before),
-    )
+    let unhidden = not-false next.result.unhidden c.if-not-chunk.false in record { readable = (c.requires.0, next.ensures.end); gathered_chunk = (next.ensures.gathered, next.ensures.some unhidden); highs = highs-there c.before.before }
 
 pub returns-then-not-later_unhidden : goal.returns-then-not-later_unhidden
 unfolding Bytes
