@@ -1,9 +1,8 @@
 -- `load` meets its contract: its checks are those of the definition, in their order. Assumes nothing.
 use Prim.Native.Nat.{ℕ, ◌≤◌}
-use Prim.Native.Nat.{◌≤◌}
 use mathlib.Core.List.{map}
 use mathlib.Core.Logic.{⊎_elim}
-use mathlib.Core.Path.{refl, sym, ◌∙◌}
+use mathlib.Core.Path.{◌≡◌, refl, sym, ◌∙◌}
 use native.Mathlib.Omega.{arith}
 use borrow.Author.Rules.{rules}
 use lib.ListN.{length}
