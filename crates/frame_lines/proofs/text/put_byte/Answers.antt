@@ -1,0 +1,17 @@
+-- `text::put_byte` meets its contract. Assumes nothing.
+use borrow.Author.Rules.{rules}
+use native.Mathlib.Omega.{arith}
+use lib.ListN.{length-set}
+use Rattle.frame_lines.specs.Laws.Put.{put_two, put_as}
+use Rattle.frame_lines.specs.Laws.Texts.{byte_text-digits}
+use Rattle.frame_lines.proofs.text.put_byte.Goals as goal
+
+pub bounds-out-at-2 : goal.bounds-out-at-2
+bounds-out-at-2 c = simp length-set (omega arith)
+
+pub returns : goal.returns
+returns c =
+    let a = c.args in
+    put_as
+    (byte_text-digits a.n _ _ c.digit.ensures c.digit-2.ensures)
+    (put_two _ _ _ _ (omega arith))

@@ -1,0 +1,20 @@
+-- `stores::set_costs` meets its contract. The loop's invariant: storing what is left gives the whole. Assumes nothing.
+use Rattle.zorder.specs.Address.{row_costs}
+use Prim.Native.Nat.{ℕ, ◌+◌, ◌-◌, ◌*◌, ◌≤◌, ◌<◌}
+use mathlib.Core.List.{List}
+use mathlib.Core.Path.{◌≡◌, refl, sym, ap, ◌∙◌}
+use native.Mathlib.Numerals.{add-one}
+use native.Mathlib.Omega.{arith}
+use lib.ListN.{length, get_or, drop, drop_of_length-le}
+use lib.Seq.{drop-cons}
+use Rattle.promises.specs.Layout.{set_word, cost_place}
+use Rattle.memory.specs.Stores.{set_costs_from, set_costs}
+use Rattle.memory.specs.Laws.Frames.{word-length}
+use Rattle.memory.proofs.stores.set_costs.Given as goal
+
+abbrev pub invariant-loop-j : goal.invariant-loop-j
+invariant-loop-j l =
+    (l.j ≤ row_costs) × (length l.m ≡ length l.initial.m) × (set_costs_from l.c l.number l.j (drop l.j l.costs) l.m ≡ set_costs l.c l.number l.costs l.initial.m)
+
+abbrev pub decreases-loop-j : goal.decreases-loop-j
+decreases-loop-j l = row_costs - l.j

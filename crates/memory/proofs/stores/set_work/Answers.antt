@@ -1,0 +1,13 @@
+-- `stores::set_work` meets its contract. Assumes nothing.
+use Prim.Native.Nat.{ℕ}
+use mathlib.Core.Path.{ap, ◌∙◌}
+use borrow.Author.Rules.{rules}
+use Rattle.promises.specs.Layout.{set_word}
+use Rattle.memory.specs.Stores.{set_work}
+use Rattle.memory.proofs.stores.set_work.Goals as goal
+
+pub returns : goal.returns
+unfolding set_work
+returns c =
+    let a = c.args in
+    c.set_word.ensures ∙ ap (λ (o : ℕ). set_word o a.number a.m.now) c.work_place.ensures

@@ -1,0 +1,13 @@
+-- `search::corners_of` meets its contract. The loop's invariant: the corners are those of the places passed. Assumes nothing.
+use Prim.Native.Nat.{ℕ, ◌-◌, ◌≤◌}
+use mathlib.Core.Path.{◌≡◌, refl, subst}
+use native.Mathlib.Omega.{arith}
+use Rattle.search.specs.Search.{Corners}
+use Rattle.search.specs.Laws.Search.{corners-none, corners-more}
+use Rattle.search.proofs.search.corners_of.Given as goal
+
+abbrev pub invariant-loop-i : goal.invariant-loop-i
+invariant-loop-i l = (l.i ≤ l.n) × Corners l.among l.h.size l.m l.i l.corners
+
+abbrev pub decreases-loop-i : goal.decreases-loop-i
+decreases-loop-i l = l.n - l.i

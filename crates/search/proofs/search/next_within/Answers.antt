@@ -1,0 +1,62 @@
+use Prim.Native.Nat.{◌-◌, ◌≤◌}
+use mathlib.Core.Path.{sym, ◌∙◌}
+use native.Mathlib.Omega.{arith}
+use borrow.Author.Tests.{not-false}
+use Rattle.search.specs.Search.{fits, None}
+use Rattle.search.specs.Laws.Search.{none-empty, none-join, run-passed}
+use Rattle.search.proofs.search.next_within.Goals as goal
+
+pub loop-f-init : goal.loop-f-init
+loop-f-init c = (omega arith, omega arith, none-empty _ _)
+
+pub run_end-e-requires : goal.run_end-e-requires
+run_end-e-requires c = let asked = c.requires.readable.0 in omega (arith, asked.rows, asked.room)
+
+pub within-j-requires : goal.within-j-requires
+within-j-requires c = (c.requires.readable.0, omega arith, omega arith)
+
+pub returns-then-j-e : goal.returns-then-j-e
+returns-then-j-e c =
+    let a = c.args in
+    let own = c.loop-f in
+    let w = c.within-j in
+    record {
+      from = omega arith;
+      to = omega arith;
+      passed = none-join (fits a.among a.h.size a.m.now a.q) a.i own.f w.result own.invariant.2 w.ensures.passed;
+      found = λ l. w.ensures.found c.if-j-e.true;
+    }
+
+-- The run was looked through.
+pub loop-f-preserved-else-j-e : goal.loop-f-preserved-else-j-e
+loop-f-preserved-else-j-e c =
+    let a = c.args in
+    let own = c.loop-f in
+    let e = c.run_end-e.result in (
+      omega arith,
+      omega arith,
+      none-join (fits a.among a.h.size a.m.now a.q) a.i own.f e own.invariant.2 (λ k l g. c.within-j.ensures.passed k l (omega arith)),
+    )
+
+-- Its corner says that it need not be.
+pub loop-f-preserved : goal.loop-f-preserved
+loop-f-preserved c =
+    let s = c.before.before.before.before.before.before.before in
+    let a = s.args in
+    let own = c.loop-f in
+    let e = c.run_end-e.result in (
+      omega arith,
+      omega arith,
+      none-join (fits a.among a.h.size a.m.now a.q) a.i own.f e own.invariant.2
+          (run-passed a.among a.h.size a.m.now a.q a.to own.f e a.corners.now s.requires.corners (omega arith) (omega arith) (omega arith)
+          (sym c.exceeds.ensures ∙ c.if-not-exceeds.false)),
+    )
+
+pub returns : goal.returns
+returns c = record { from = omega arith; to = omega arith; passed = c.loop-f.invariant.2; found = λ l. absurd (omega arith) }
+
+pub offset_bounds-corners-f : goal.offset_bounds-corners-f
+offset_bounds-corners-f c = let asked = c.requires.readable.0 in omega (arith, asked.rows, asked.room)
+
+pub bounds-corners-f : goal.bounds-corners-f
+bounds-corners-f c = let asked = c.requires.readable.0 in omega (arith, asked.rows, asked.room)

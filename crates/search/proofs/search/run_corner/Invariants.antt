@@ -1,0 +1,13 @@
+-- `search::run_corner` meets its contract. The loop's invariant: the corner is that with the places passed. Assumes nothing.
+use Prim.Native.Nat.{ℕ, ◌+◌, ◌-◌, ◌≤◌}
+use mathlib.Core.Path.{◌≡◌, subst}
+use native.Mathlib.Omega.{arith}
+use Rattle.search.specs.Search.{CornerWith}
+use Rattle.search.specs.Laws.Search.{corner-none, corner-join}
+use Rattle.search.proofs.search.run_corner.Given as goal
+
+abbrev pub invariant-loop-j : goal.invariant-loop-j
+invariant-loop-j l = (l.i ≤ l.j) × (l.j ≤ l.to) × CornerWith l.among l.h.size l.m l.i l.j l.initial.corner l.corner
+
+abbrev pub decreases-loop-j : goal.decreases-loop-j
+decreases-loop-j l = l.to - l.j
