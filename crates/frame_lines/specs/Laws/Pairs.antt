@@ -6,7 +6,7 @@ use Rattle.std.specs.Prelude.{ℕ, zero, suc, ◌+◌, ◌-◌, ◌*◌, ◌<◌
 use Rattle.std.proofs.Common.{sym, ap, ap₂, ◌∙◌, ltb-true, ltb-false, arith, length-append, get_or-append-add, ext_get_or}
 use Rattle.std.proofs.lemmas.List.{length-replicate, get_or-replicate}
 use Rattle.std.proofs.Math.ListN.{get_or-append}
-use Rattle.model.specs.Laws.Bool.{test_cases}
+use Rattle.model.proofs.Laws.Bool.{test_cases}
 use Rattle.frame_lines.specs.Digits.{joined}
 
 pub joined_length : (base : ℕ) (ns : List ℕ) (n : ℕ) → length ns ≡ 2 * n → length (joined base ns) ≡ n

@@ -8,11 +8,11 @@ use Rattle.model.specs.Basics.{Each, any, has, distinct}
 use Rattle.model.specs.Moves.{InputRow, move_of}
 use Rattle.model.specs.Calls.{block_bad, row_refusal, rows_refusal, accepted}
 use Rattle.model.specs.Sound.{Fit}
-use Rattle.model.specs.Laws.Bool.{or-false-left, or-false-right}
-use Rattle.model.specs.Laws.Basics.{each-mono, each_both, each_map}
-use Rattle.model.specs.Laws.Order.{eqb-sym, distinct_cons}
-use Rattle.model.specs.Laws.Numbers.{distinct-length}
-use Rattle.model.specs.Laws.Blocks.{rows_pass, block-most}
+use Rattle.model.proofs.Laws.Bool.{or-false-left, or-false-right}
+use Rattle.model.proofs.Laws.Basics.{each-mono, each_both, each_map}
+use Rattle.model.proofs.Laws.Order.{eqb-sym, distinct_cons}
+use Rattle.model.proofs.Laws.Numbers.{distinct-length}
+use Rattle.model.proofs.Laws.Blocks.{rows_pass, block-most}
 use Rattle.loading.specs.Blocks.{Storable}
 use Rattle.loading.specs.File.{Acceptable}
 

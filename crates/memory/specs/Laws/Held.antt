@@ -14,10 +14,10 @@ use Rattle.model.specs.Lists.{hidden, skyline}
 use Rattle.model.specs.Calls.{memory_need}
 use Rattle.model.specs.Sound.{Fit}
 use Rattle.model.specs.Tree.{Tree, moves_of}
-use Rattle.model.specs.Laws.Loading.{size-most}
-use Rattle.model.specs.Laws.Bool.{and_left, and_right, not_back}
-use Rattle.model.specs.Laws.Hiding.{dominates-hides, move-hiding}
-use Rattle.model.specs.Laws.Basics.{mem-at, select-same, each-mem, any_false, any-select}
+use Rattle.model.proofs.Laws.Loading.{size-most}
+use Rattle.model.proofs.Laws.Bool.{and_left, and_right, not_back}
+use Rattle.model.proofs.Laws.Hiding.{dominates-hides, move-hiding}
+use Rattle.model.proofs.Laws.Basics.{mem-at, select-same, each-mem, any_false, any-select}
 use Rattle.line.specs.Line.{Placed, line_of, moves_in}
 use Rattle.line.specs.Laws.Line.{moves-line}
 use Rattle.promises.specs.Layout.{size_in, dimension_in, count_in, number_in, flag_in, move_in, placed_in, tab, line_from, line_in, board_in, kept_from, kept_in}

@@ -6,7 +6,7 @@ use Rattle.model.specs.Basics.{Each, any}
 use Rattle.model.specs.Moves.{Move}
 use Rattle.model.specs.Withdrawing.{costs_on}
 use Rattle.model.specs.Calls.{on_board}
-use Rattle.model.specs.Laws.Bool.{both_ways}
+use Rattle.model.proofs.Laws.Bool.{both_ways}
 use Rattle.line.specs.Line.{moves_in}
 use Rattle.promises.specs.Layout.{costs_in, move_in, line_from}
 use Rattle.promises.specs.Laws.Tab.{each-tab}

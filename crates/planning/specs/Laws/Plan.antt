@@ -14,8 +14,8 @@ use Rattle.model.specs.Calls.{accepted, refused_with, rows_answer, change_refusa
 use Rattle.model.specs.Withdrawing.{costs_on, unchanged}
 use Rattle.model.specs.Tree.{Tree}
 use Rattle.model.specs.Opening.{withdraw_opens, change_opens}
-use Rattle.model.specs.Laws.Bool.{both_ways, and_left, and_right}
-use Rattle.model.specs.Laws.Basics.{equal-refl}
+use Rattle.model.proofs.Laws.Bool.{both_ways, and_left, and_right}
+use Rattle.model.proofs.Laws.Basics.{equal-refl}
 use Rattle.promises.specs.Layout.{size_in, dimension_in, number_in, costs_in, board_in}
 use Rattle.promises.specs.Sound.{Stands, Sound}
 use Rattle.promises.specs.Answers.{answer_of, number_of, counted, refused_by, outcome_number}

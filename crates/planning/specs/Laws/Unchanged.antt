@@ -16,9 +16,9 @@ use Rattle.model.specs.Calls as calls
 use Rattle.model.specs.Calls.{on_board, list_of, change_notice, changed}
 use Rattle.model.specs.Changing.{change_tree}
 use Rattle.model.specs.Sound.{Fit}
-use Rattle.model.specs.Laws.Order.{move-order}
-use Rattle.model.specs.Laws.Notice.{notice-none}
-use Rattle.model.specs.Laws.Recosting.{recost-moves}
+use Rattle.model.proofs.Laws.Order.{move-order}
+use Rattle.model.proofs.Laws.Notice.{notice-none}
+use Rattle.model.proofs.Laws.Recosting.{recost-moves}
 use Rattle.promises.specs.Layout.{size_in, dimension_in, costs_in, board_in}
 use Rattle.promises.specs.Sound.{Stands}
 use Rattle.promises.specs.Run.{Bytes}

@@ -6,7 +6,7 @@ use Rattle.zorder.specs.Refusal.{cost_past_bad}
 use Rattle.model.specs.Moves.{Row}
 use Rattle.model.specs.Calls as calls
 use Rattle.model.specs.Calls.{accepted, Change, enter, block_bad, on_board, change_notice, change_answer}
-use Rattle.model.specs.Laws.Changes.{changes-accepted, never-eight, enter-passes}
+use Rattle.model.proofs.Laws.Changes.{changes-accepted, never-eight, enter-passes}
 use Rattle.promises.specs.Layout.{size_in, dimension_in, board_in}
 use Rattle.promises.specs.Sound.{Sound}
 use Rattle.promises.specs.Answers.{number_of}

@@ -11,7 +11,7 @@ use Rattle.model.specs.Nodes.{Node, nodes_of}
 use Rattle.model.specs.Calls.{on_board, withdraw, change_notice}
 use Rattle.model.specs.Opening.{opens_for}
 use Rattle.model.specs.Holder.{is_accepted}
-use Rattle.model.specs.Laws.Opening.{brought-up-opened}
+use Rattle.model.proofs.Laws.Opening.{brought-up-opened}
 use Rattle.promises.specs.Layout.{dimension_in, board_in}
 use Rattle.promises.specs.Sound.{Sound}
 use Rattle.promises.specs.Answers.{answer_of}

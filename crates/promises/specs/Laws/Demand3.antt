@@ -17,7 +17,7 @@ use Rattle.model.specs.Changing.{change_tree}
 use Rattle.model.specs.Opening.{query_opens, change_opens}
 use Rattle.model.specs.Sound.{SoundBoard}
 use Rattle.model.specs.Holder.{change, is_accepted, ChangeAnswered, plain_next, Answered, followed, held_after, Demand3}
-use Rattle.model.specs.Laws.Holder.{SameShape, change-shape, lists-held, Reads, Keeps, EachKeeps, keeps-demand3}
+use Rattle.model.proofs.Laws.Holder.{SameShape, change-shape, lists-held, Reads, Keeps, EachKeeps, keeps-demand3}
 use Rattle.promises.specs.Layout.{size_in, dimension_in}
 use Rattle.promises.specs.Written.{change_writes, load_writes}
 use Rattle.promises.specs.Sound.{Holding}

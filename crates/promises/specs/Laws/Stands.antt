@@ -11,11 +11,11 @@ use Rattle.model.specs.Moves.{Move, move_before, ordered}
 use Rattle.model.specs.Tree.{Tree, moves_of}
 use Rattle.model.specs.Calls.{Board}
 use Rattle.model.specs.Sound.{Fit, SoundBoard, BlocksFit}
-use Rattle.model.specs.Laws.Basics.{each-mem, each-mono, each_both, each_map}
-use Rattle.model.specs.Laws.Sorting.{rising-once}
-use Rattle.model.specs.Laws.Order.{move-path, move-order, dimension-most}
-use Rattle.model.specs.Laws.Numbers.{once-distinct}
-use Rattle.model.specs.Laws.Tree.{ruled-ordered}
+use Rattle.model.proofs.Laws.Basics.{each-mem, each-mono, each_both, each_map}
+use Rattle.model.proofs.Laws.Sorting.{rising-once}
+use Rattle.model.proofs.Laws.Order.{move-path, move-order, dimension-most}
+use Rattle.model.proofs.Laws.Numbers.{once-distinct}
+use Rattle.model.proofs.Laws.Tree.{ruled-ordered}
 use Rattle.line.specs.Line.{moves_in}
 use Rattle.line.specs.Laws.Line.{moves-line}
 use Rattle.promises.specs.Layout.{word_at, size_in, dimension_in, count_in, cost_in, costs_in, number_in, move_in, placed_in, tab, line_from, line_in, board_in}

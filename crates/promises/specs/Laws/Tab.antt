@@ -10,7 +10,7 @@ use native.Mathlib.Omega.{arith}
 use Rattle.std.proofs.Math.ListN.{get_or, length-append, get_or-append, get_or-eq_default}
 use Rattle.std.proofs.Math.Seq.{get_or-append_seam}
 use Rattle.model.specs.Basics.{Each}
-use Rattle.model.specs.Laws.Basics.{each_append}
+use Rattle.model.proofs.Laws.Basics.{each_append}
 use Rattle.promises.specs.Layout.{tab}
 
 module _ {A : Type 0} (f : ℕ → A) where

@@ -13,8 +13,8 @@ use Rattle.model.specs.Loading.{load_tree}
 use Rattle.model.specs.Changing.{change_tree}
 use Rattle.model.specs.Calls as calls
 use Rattle.model.specs.Calls.{Board, memory_need, loaded, Change, enter, withdraw, recost, changed}
-use Rattle.model.specs.Laws.Bool.{and_right, and_both, and-false-right, or-false-both, or_left, or_right}
-use Rattle.model.specs.Laws.Changes.{change_number, change-number, accepted-passes}
+use Rattle.model.proofs.Laws.Bool.{and_right, and_both, and-false-right, or-false-both, or_left, or_right}
+use Rattle.model.proofs.Laws.Changes.{change_number, change-number, accepted-passes}
 use Rattle.promises.specs.Layout.{count_place, number_place, block_place, cost_place, work_place, size_in, dimension_in, board_in}
 use Rattle.promises.specs.Sound.{Sound}
 use Rattle.promises.specs.Written.{in_area, moves_write, block_writes, change_writes, load_writes}

@@ -11,10 +11,10 @@ use Rattle.model.specs.Lists.{skyline}
 use Rattle.model.specs.Tree.{Tree, moves_of}
 use Rattle.model.specs.Calls.{memory_need}
 use Rattle.model.specs.Sound.{Fit}
-use Rattle.model.specs.Laws.Bool.{both_ways}
-use Rattle.model.specs.Laws.Order.{dimension-most}
-use Rattle.model.specs.Laws.Loading.{size-most}
-use Rattle.model.specs.Laws.Tree.{ruled-filled, both-ruled}
+use Rattle.model.proofs.Laws.Bool.{both_ways}
+use Rattle.model.proofs.Laws.Order.{dimension-most}
+use Rattle.model.proofs.Laws.Loading.{size-most}
+use Rattle.model.proofs.Laws.Tree.{ruled-filled, both-ruled}
 use Rattle.line.specs.Line.{Placed, line_of, moves_in, heights_in}
 use Rattle.line.specs.Heights.{heights_right}
 use Rattle.line.specs.Laws.Line.{moves-line}

@@ -10,7 +10,7 @@ use Rattle.std.proofs.Math.Dec.{ltb}
 use Rattle.std.proofs.Math.Seq.{drop-length}
 use Rattle.std.proofs.lemmas.Bool.{lt-leb}
 use Rattle.model.specs.Basics.{within}
-use Rattle.model.specs.Laws.Bool.{and_both, and-false-right}
+use Rattle.model.proofs.Laws.Bool.{and_both, and-false-right}
 use Rattle.line.specs.Heights.{first_highest, counts_from, counts_at, root_count, levels_right, heights_right}
 use Rattle.promises.specs.Layout.{height_in, tab, heights_from}
 use Rattle.memory.specs.Tests.{all_to}

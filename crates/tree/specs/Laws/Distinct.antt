@@ -15,13 +15,13 @@ use Rattle.model.specs.Tree.{Tree, moves_of}
 use Rattle.model.specs.Calls.{on_board}
 use Rattle.model.specs.Sound.{Fit}
 use Rattle.model.specs.Withdrawing.{without, withdraw_tree}
-use Rattle.model.specs.Laws.Bool.{by_cases}
-use Rattle.model.specs.Laws.Basics.{each-mem, mem-each, any-mem, any-witness, count-append, count-pos}
-use Rattle.model.specs.Laws.Sorting.{rising-once}
-use Rattle.model.specs.Laws.Order.{move-path, move-order}
-use Rattle.model.specs.Laws.Numbers.{once-distinct}
-use Rattle.model.specs.Laws.Tree.{ruled-ordered}
-use Rattle.model.specs.Laws.Withdrawing.{withdraw-moves}
+use Rattle.model.proofs.Laws.Bool.{by_cases}
+use Rattle.model.proofs.Laws.Basics.{each-mem, mem-each, any-mem, any-witness, count-append, count-pos}
+use Rattle.model.proofs.Laws.Sorting.{rising-once}
+use Rattle.model.proofs.Laws.Order.{move-path, move-order}
+use Rattle.model.proofs.Laws.Numbers.{once-distinct}
+use Rattle.model.proofs.Laws.Tree.{ruled-ordered}
+use Rattle.model.proofs.Laws.Withdrawing.{withdraw-moves}
 use Rattle.line.specs.Line.{moves_in}
 use Rattle.line.specs.Withdraw as line
 use Rattle.line.specs.Laws.Line.{moves-line}

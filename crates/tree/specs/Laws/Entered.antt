@@ -8,11 +8,11 @@ use Rattle.model.specs.Moves.{Move, no_move, move_before, ordered, insert}
 use Rattle.model.specs.Tree.{Tree, moves_of}
 use Rattle.model.specs.Entering.{enter_tree}
 use Rattle.model.specs.Sound.{Fit}
-use Rattle.model.specs.Laws.Basics.{each_at}
-use Rattle.model.specs.Laws.Sorting.{StrictOrder, each-insert}
-use Rattle.model.specs.Laws.Order.{move-order, off-board}
-use Rattle.model.specs.Laws.Tree.{ruled-filled, ruled-ordered}
-use Rattle.model.specs.Laws.Entering.{enter-moves, enter-ruled}
+use Rattle.model.proofs.Laws.Basics.{each_at}
+use Rattle.model.proofs.Laws.Sorting.{StrictOrder, each-insert}
+use Rattle.model.proofs.Laws.Order.{move-order, off-board}
+use Rattle.model.proofs.Laws.Tree.{ruled-filled, ruled-ordered}
+use Rattle.model.proofs.Laws.Entering.{enter-moves, enter-ruled}
 use Rattle.line.specs.Line.{Placed, none, line_of, moves_in}
 use Rattle.line.specs.Places.{height_at, insert_at}
 use Rattle.line.specs.Enter.{place_for, placed, cascade, flat_enter}

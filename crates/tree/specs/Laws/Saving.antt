@@ -7,7 +7,7 @@ use Rattle.std.proofs.Math.Path.{sym, ap, ap₂}
 use Rattle.std.proofs.Common.{◌∙◌, eq-eqb, ne_eqb}
 use native.Mathlib.Omega.{arith}
 use Rattle.model.specs.Basics.{cons_if, select}
-use Rattle.model.specs.Laws.Basics.{select-append}
+use Rattle.model.proofs.Laws.Basics.{select-append}
 use Rattle.line.specs.Line.{Placed}
 use Rattle.line.specs.Places.{move_at}
 use Rattle.line.specs.Withdraw as line

@@ -6,7 +6,7 @@ use Rattle.std.proofs.Math.ListN.{length}
 use Rattle.std.proofs.lemmas.List.{length-map}
 use Rattle.model.specs.Basics.{Each, cons_if, select, count, numbers_from, has}
 use Rattle.model.specs.Moves.{Move}
-use Rattle.model.specs.Laws.Basics.{select-ext, select-map}
+use Rattle.model.proofs.Laws.Basics.{select-ext, select-map}
 use Rattle.line.specs.Line.{moves_in}
 use Rattle.promises.specs.Layout.{number_in, move_in, line_from, line_in, board_in}
 use Rattle.promises.specs.Laws.Tab.{each-tab}

@@ -19,9 +19,9 @@ use Rattle.model.specs.Lists.{hidden, skyline, dominators, band, rank_before, ra
 use Rattle.model.specs.Hours.{block_open, open_moves}
 use Rattle.model.specs.Notice.{missing, notice_of}
 use Rattle.model.specs.Calls.{Board, list_of, changed, changed_moves, query_rows, Change, change_notice}
-use Rattle.model.specs.Laws.Basics.{each_append, each-select}
-use Rattle.model.specs.Laws.Sorting.{each-sort}
-use Rattle.model.specs.Laws.Tree.{each_take}
+use Rattle.model.proofs.Laws.Basics.{each_append, each-select}
+use Rattle.model.proofs.Laws.Sorting.{each-sort}
+use Rattle.model.proofs.Laws.Tree.{each_take}
 use Rattle.width.specs.Width.{Covered, list, band_query, rank_query, on_k_query, chosen_query, hours_query, query_of, narrow, widened, row_with, board_with, change_with}
 use Rattle.width.specs.Laws.Width.{KeepsFirst, query-rows-with}
 use Rattle.width.specs.Laws.WidthChanges.{FitCosts, FitChange, fit-rows, fit-skyline, fit-changed, change-notice-with}

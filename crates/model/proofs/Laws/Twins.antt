@@ -11,11 +11,11 @@ use Rattle.model.specs.Moves.{Move, ordered}
 use Rattle.model.specs.Dominance.{dominates, equal_costs, lower_twin, hides}
 use Rattle.model.specs.Lists.{hidden, skyline, band}
 use Rattle.model.specs.Sound.{Fit}
-use Rattle.model.specs.Laws.Bool.{by_cases, test_cases, not_back, both_ways}
-use Rattle.model.specs.Laws.Basics.{each-mem, mem-each, select-mem, select-ext, select-select, any-mem, any-ext, any-or, any-select}
-use Rattle.model.specs.Laws.Hiding.{equal-self, equal-sym, equal-trans, equal-dominated, dominates-hides, lower-twin, twin-costs, twin-number, twin-hides, hides-cases}
-use Rattle.model.specs.Laws.Skyline.{skyline-mem, mem-skyline, skyline-hider}
-use Rattle.model.specs.Laws.Queries.{undominated, band-zero}
+use Rattle.model.proofs.Laws.Bool.{by_cases, test_cases, not_back, both_ways}
+use Rattle.model.proofs.Laws.Basics.{each-mem, mem-each, select-mem, select-ext, select-select, any-mem, any-ext, any-or, any-select}
+use Rattle.model.proofs.Laws.Hiding.{equal-self, equal-sym, equal-trans, equal-dominated, dominates-hides, lower-twin, twin-costs, twin-number, twin-hides, hides-cases}
+use Rattle.model.proofs.Laws.Skyline.{skyline-mem, mem-skyline, skyline-hider}
+use Rattle.model.proofs.Laws.Queries.{undominated, band-zero}
 
 -- ---- the list and the undominated moves
 

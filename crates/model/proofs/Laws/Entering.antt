@@ -12,11 +12,11 @@ use Rattle.model.specs.Basics.{Each, insert_by, first_or, last_or}
 use Rattle.model.specs.Moves.{Move, no_move, move_before, insert, ordered}
 use Rattle.model.specs.Tree.{Entry, Tree, empty, rooted, moves_under, moves_of, first_move, last_move, root_least, filled_tree, ruled}
 use Rattle.model.specs.Entering.{earlier_in_gap, goes_into, child_place, sides_at, least_by, left_part, split, replace_at, enter_node, root_of, enter_tree}
-use Rattle.model.specs.Laws.Bool.{cond_cases}
-use Rattle.model.specs.Laws.Basics.{each-mem, last_mem, each_append, each_left, each_right}
-use Rattle.model.specs.Laws.Sorting.{StrictOrder, asym, length-insert, insert-append-left, insert-append-first, insert-append-right, rising-insert}
-use Rattle.model.specs.Laws.Permuted.{Sorted, NotBefore, not-before-trans, sorted-left, sorted-right, sorted-behind, sorted-last, rising-sorted}
-use Rattle.model.specs.Laws.Tree.{flat_map-append, flat_map-two, each_take, each-drop, Filled, full-filled, filled-full, full-tree, tree-full, root_least-range, leaf-moves, leaf-filled, filled-some, ruled-filled, ruled-ordered, both-ruled}
+use Rattle.model.proofs.Laws.Bool.{cond_cases}
+use Rattle.model.proofs.Laws.Basics.{each-mem, last_mem, each_append, each_left, each_right}
+use Rattle.model.proofs.Laws.Sorting.{StrictOrder, asym, length-insert, insert-append-left, insert-append-first, insert-append-right, rising-insert}
+use Rattle.model.proofs.Laws.Permuted.{Sorted, NotBefore, not-before-trans, sorted-left, sorted-right, sorted-behind, sorted-last, rising-sorted}
+use Rattle.model.proofs.Laws.Tree.{flat_map-append, flat_map-two, each_take, each-drop, Filled, full-filled, filled-full, full-tree, tree-full, root_least-range, leaf-moves, leaf-filled, filled-some, ruled-filled, ruled-ordered, both-ruled}
 
 -- ---- a node of nine
 

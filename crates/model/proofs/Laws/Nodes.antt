@@ -15,14 +15,14 @@ use Rattle.model.specs.Tree.{Entry, Tree, empty, rooted, moves_under, moves_of}
 use Rattle.model.specs.Nodes.{Node, node_of, nodes_from, nodes_of, near_corner_of, far_corner_of, opens}
 use Rattle.model.specs.Runs.{RunOf, NodeIn}
 use Rattle.model.specs.Sound.{Fit}
-use Rattle.model.specs.Laws.Bool.{by_cases, not-flip, or-false-left, same_test, both_ways}
-use Rattle.model.specs.Laws.Basics.{each-mem, each-mono, each_append, each_left, each_right, last_mem, any-mem, any-witness, mem-pos}
-use Rattle.model.specs.Laws.Sorting.{rising-left, rising-right, first-least, last-greatest}
-use Rattle.model.specs.Laws.Order.{move-order}
-use Rattle.model.specs.Laws.Dominance.{dominates-below, below-dominates, row-lengths}
-use Rattle.model.specs.Laws.Hiding.{dominates-hides, hides-nowhere-greater}
-use Rattle.model.specs.Laws.Skyline.{skyline-mem, mem-skyline, skyline-hider}
-use Rattle.model.specs.Laws.Tree.{Filled, filled-full, filled-some}
+use Rattle.model.proofs.Laws.Bool.{by_cases, not-flip, or-false-left, same_test, both_ways}
+use Rattle.model.proofs.Laws.Basics.{each-mem, each-mono, each_append, each_left, each_right, last_mem, any-mem, any-witness, mem-pos}
+use Rattle.model.proofs.Laws.Sorting.{rising-left, rising-right, first-least, last-greatest}
+use Rattle.model.proofs.Laws.Order.{move-order}
+use Rattle.model.proofs.Laws.Dominance.{dominates-below, below-dominates, row-lengths}
+use Rattle.model.proofs.Laws.Hiding.{dominates-hides, hides-nowhere-greater}
+use Rattle.model.proofs.Laws.Skyline.{skyline-mem, mem-skyline, skyline-hider}
+use Rattle.model.proofs.Laws.Tree.{Filled, filled-full, filled-some}
 
 -- ---- runs of a list
 

@@ -7,8 +7,8 @@ use Rattle.std.proofs.lemmas.Bool.{lt-leb}
 use Rattle.model.specs.Basics.{Each, all, within}
 use Rattle.model.specs.Moves.{Move, ordered}
 use Rattle.model.specs.Tree.{Entry, Tree, rooted, moves_under, moves_of, filled, root_least, filled_tree, ruled}
-use Rattle.model.specs.Laws.Bool.{and_left, and_right, and_both, and-false-right}
-use Rattle.model.specs.Laws.Basics.{all-each, each_all, each_left, each_right}
+use Rattle.model.proofs.Laws.Bool.{and_left, and_right, and_both, and-false-right}
+use Rattle.model.proofs.Laws.Basics.{all-each, each_all, each_left, each_right}
 
 -- ---- lists put end to end
 

@@ -13,10 +13,10 @@ use Rattle.model.specs.Basics.{Each, cons_if, select, any, count, sort_by, inser
 use Rattle.model.specs.Moves.{Move, Row, row_of}
 use Rattle.model.specs.Dominance.{better, dominates, at, dominates_at, dominates_on}
 use Rattle.model.specs.Lists.{skyline, dominators, band, dominated, rank_before, rank, on_k, chosen}
-use Rattle.model.specs.Laws.Bool.{cond_cases}
-use Rattle.model.specs.Laws.Basics.{each-mem, mem-each, select-ext, any-ext, select-mem, mem-select, count-cons}
-use Rattle.model.specs.Laws.Range.{length-numbers}
-use Rattle.model.specs.Laws.Sorting.{length-sort}
+use Rattle.model.proofs.Laws.Bool.{cond_cases}
+use Rattle.model.proofs.Laws.Basics.{each-mem, mem-each, select-ext, any-ext, select-mem, mem-select, count-cons}
+use Rattle.model.proofs.Laws.Range.{length-numbers}
+use Rattle.model.proofs.Laws.Sorting.{length-sort}
 
 -- The moves that no move dominates.
 unfoldable pub undominated : ℕ → List Move → List Move

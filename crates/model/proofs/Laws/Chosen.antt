@@ -5,8 +5,8 @@ use Rattle.std.proofs.Math.Nat.{div-eq_of_lt}
 use Rattle.std.proofs.Math.Pow.{field, mod-mod-pow, ones_lt, ones_split, high, low}
 use Rattle.model.specs.Basics.{Each, select, numbers_from}
 use Rattle.model.specs.Lists.{chosen_costs}
-use Rattle.model.specs.Laws.Basics.{each-select, select-append, select-ext, select-all, select-none}
-use Rattle.model.specs.Laws.Range.{each-numbers, each-place, numbers-append}
+use Rattle.model.proofs.Laws.Basics.{each-select, select-append, select-ext, select-all, select-none}
+use Rattle.model.proofs.Laws.Range.{each-numbers, each-place, numbers-append}
 
 -- ---- bit i of a number
 

@@ -18,9 +18,9 @@ use Rattle.model.specs.Basics.{equal}
 use Rattle.model.specs.Moves.{Move, move_before, z_before}
 use Rattle.model.specs.Dominance.{less, nowhere_greater, somewhere_less, better, dominates, equal_costs, lower_twin, hides}
 use Rattle.model.specs.Sound.{Fit}
-use Rattle.model.specs.Laws.Bool.{by_cases, both_ways, and_left, and_right, and_both, and-given, not_back, or_cases, or_left, or_right, or-false-left, or-false-right, or-false-both, and-false-right}
-use Rattle.model.specs.Laws.Basics.{equal-refl, equal-true}
-use Rattle.model.specs.Laws.Dominance.{places-nowhere-greater, dominates-places, dominates-irrefl, dominates-trans, row-lengths, dominates-before, take-same-length}
+use Rattle.model.proofs.Laws.Bool.{by_cases, both_ways, and_left, and_right, and_both, and-given, not_back, or_cases, or_left, or_right, or-false-left, or-false-right, or-false-both, and-false-right}
+use Rattle.model.proofs.Laws.Basics.{equal-refl, equal-true}
+use Rattle.model.proofs.Laws.Dominance.{places-nowhere-greater, dominates-places, dominates-irrefl, dominates-trans, row-lengths, dominates-before, take-same-length}
 
 -- ---- equal costs
 

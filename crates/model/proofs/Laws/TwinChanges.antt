@@ -13,16 +13,16 @@ use Rattle.model.specs.Lists.{hidden, skyline}
 use Rattle.model.specs.Withdrawing.{without}
 use Rattle.model.specs.Calls.{Board, Change, enter, withdraw, change_refusal, changed, changed_moves, list_of, change_notice}
 use Rattle.model.specs.Sound.{SoundBoard}
-use Rattle.model.specs.Laws.Bool.{by_cases, and_left, and_right, and-drop-left, or_cases, both_ways}
-use Rattle.model.specs.Laws.Basics.{Once, any-mem, any-witness}
-use Rattle.model.specs.Laws.Sorting.{insert-mem, mem-insert-new, mem-insert-old}
-use Rattle.model.specs.Laws.Order.{distinct-once, mem-number, off-board}
-use Rattle.model.specs.Laws.Hiding.{equal-sym, equal-trans, equal-dominates, dominates-hides, lower-twin, twin-costs, twin-number, hides-cases, hides-irrefl}
-use Rattle.model.specs.Laws.Skyline.{skyline-mem, mem-skyline, skyline-once}
-use Rattle.model.specs.Laws.Twins.{listed-unhidden, higher-twin-unlisted, listed-once, twin-hider}
-use Rattle.model.specs.Laws.Notice.{OnlyIn, two-rows, notice-left}
-use Rattle.model.specs.Laws.Withdrawing.{without_gone}
-use Rattle.model.specs.Laws.Changes.{without-number, mem-without, distinct_without, enter-off, changed-distinct}
+use Rattle.model.proofs.Laws.Bool.{by_cases, and_left, and_right, and-drop-left, or_cases, both_ways}
+use Rattle.model.proofs.Laws.Basics.{Once, any-mem, any-witness}
+use Rattle.model.proofs.Laws.Sorting.{insert-mem, mem-insert-new, mem-insert-old}
+use Rattle.model.proofs.Laws.Order.{distinct-once, mem-number, off-board}
+use Rattle.model.proofs.Laws.Hiding.{equal-sym, equal-trans, equal-dominates, dominates-hides, lower-twin, twin-costs, twin-number, hides-cases, hides-irrefl}
+use Rattle.model.proofs.Laws.Skyline.{skyline-mem, mem-skyline, skyline-once}
+use Rattle.model.proofs.Laws.Twins.{listed-unhidden, higher-twin-unlisted, listed-once, twin-hider}
+use Rattle.model.proofs.Laws.Notice.{OnlyIn, two-rows, notice-left}
+use Rattle.model.proofs.Laws.Withdrawing.{without_gone}
+use Rattle.model.proofs.Laws.Changes.{without-number, mem-without, distinct_without, enter-off, changed-distinct}
 
 -- ---- the next twin
 

@@ -9,7 +9,7 @@ use Rattle.std.proofs.Math.Path.{refl, sym, ap, ap₂}
 use native.Mathlib.Omega.{arith}
 use Rattle.std.proofs.Math.ListN.{length, length-append, length-map}
 use Rattle.model.specs.Basics.{Each, cons_if, select, any, all, count, parts, last_or, equal}
-use Rattle.model.specs.Laws.Bool.{and_left, and_right, and_both, or_cases, or_left, or_right, or-false-left, or-false-right, or-false-both, same_test, both_ways}
+use Rattle.model.proofs.Laws.Bool.{and_left, and_right, and_both, or_cases, or_left, or_right, or-false-left, or-false-right, or-false-both, same_test, both_ways}
 
 module _ {A : Type 0} where
   -- ---- every entry

@@ -15,12 +15,12 @@ use Rattle.model.specs.Tree.{Entry, Tree, empty, rooted, moves_under, moves_of, 
 use Rattle.model.specs.Entering.{enter_tree}
 use Rattle.model.specs.Withdrawing.{without, Remainder, keep_child, keep_children, withdraw_node, settled, enter_all, withdraw_tree}
 use Rattle.model.specs.Calls.{on_board}
-use Rattle.model.specs.Laws.Bool.{cond_cases, both_ways, not-flip, not_back}
-use Rattle.model.specs.Laws.Basics.{select-append, select-all, select-mem, any_false, each-mono, each_left, each_right}
-use Rattle.model.specs.Laws.Sorting.{StrictOrder, each-insert, each-sort, rising-select}
-use Rattle.model.specs.Laws.Permuted.{Sorted, sorted-sublist, sorted_insert, rising-sorted, each-sublist, select-sublist, sublist-length, each-perm, perm-equal, perm-four, perm-append, perm-insert, perm-sort, sorted_ext}
-use Rattle.model.specs.Laws.Tree.{Filled, full-filled, filled-full, full-tree, tree-full, leaf-moves, leaf-filled, ruled-filled, ruled-ordered, both-ruled}
-use Rattle.model.specs.Laws.Entering.{enter-filled, enter-moves-sorted}
+use Rattle.model.proofs.Laws.Bool.{cond_cases, both_ways, not-flip, not_back}
+use Rattle.model.proofs.Laws.Basics.{select-append, select-all, select-mem, any_false, each-mono, each_left, each_right}
+use Rattle.model.proofs.Laws.Sorting.{StrictOrder, each-insert, each-sort, rising-select}
+use Rattle.model.proofs.Laws.Permuted.{Sorted, sorted-sublist, sorted_insert, rising-sorted, each-sublist, select-sublist, sublist-length, each-perm, perm-equal, perm-four, perm-append, perm-insert, perm-sort, sorted_ext}
+use Rattle.model.proofs.Laws.Tree.{Filled, full-filled, filled-full, full-tree, tree-full, leaf-moves, leaf-filled, ruled-filled, ruled-ordered, both-ruled}
+use Rattle.model.proofs.Laws.Entering.{enter-filled, enter-moves-sorted}
 
 -- ---- what is left of a node
 

@@ -13,12 +13,12 @@ use Rattle.model.specs.Notice.{notice_of}
 use Rattle.model.specs.Withdrawing.{without, unchanged}
 use Rattle.model.specs.Calls.{Answer, accepted, refused_with, or_else, rows_answer, Board, Change, enter, withdraw, recost, block_bad, on_board, change_refusal, changed_moves, changed, keeps_moves, changes_nothing, list_of, change_notice, change_answer}
 use Rattle.model.specs.Sound.{Fit, SoundBoard}
-use Rattle.model.specs.Laws.Bool.{by_cases, cond_cases, not-flip, and_left, or-false-left}
-use Rattle.model.specs.Laws.Basics.{each-mem, mem-each, each-mono, select-mem, mem-select, any_none}
-use Rattle.model.specs.Laws.Sorting.{insert-mem}
-use Rattle.model.specs.Laws.Order.{has-numbers, distinct-insert, distinct-select, mem-number}
-use Rattle.model.specs.Laws.Numbers.{distinct-length, two-lists}
-use Rattle.model.specs.Laws.Notice.{among, gone, gone_mem, notice-length}
+use Rattle.model.proofs.Laws.Bool.{by_cases, cond_cases, not-flip, and_left, or-false-left}
+use Rattle.model.proofs.Laws.Basics.{each-mem, mem-each, each-mono, select-mem, mem-select, any_none}
+use Rattle.model.proofs.Laws.Sorting.{insert-mem}
+use Rattle.model.proofs.Laws.Order.{has-numbers, distinct-insert, distinct-select, mem-number}
+use Rattle.model.proofs.Laws.Numbers.{distinct-length, two-lists}
+use Rattle.model.proofs.Laws.Notice.{among, gone, gone_mem, notice-length}
 
 unfoldable pub change_number : Change → ℕ
 change_number (enter n block costs) = n

@@ -8,14 +8,14 @@ use Rattle.model.specs.Tree.{Tree, moves_of, ruled}
 use Rattle.model.specs.Entering.{enter_tree}
 use Rattle.model.specs.Withdrawing.{without, withdraw_tree, costs_on, unchanged, recost_tree}
 use Rattle.model.specs.Calls.{on_board}
-use Rattle.model.specs.Laws.Bool.{cond_cases, both_ways, not_back, and_left, and_right}
-use Rattle.model.specs.Laws.Basics.{equal-true}
-use Rattle.model.specs.Laws.Sorting.{StrictOrder, each-insert}
-use Rattle.model.specs.Laws.Order.{move-path, has-numbers}
-use Rattle.model.specs.Laws.Permuted.{perm-equal, perm-insert, sorted_ext, sorted_insert, sorted-sublist, rising-sorted, each-sublist}
-use Rattle.model.specs.Laws.Tree.{ruled-ordered}
-use Rattle.model.specs.Laws.Entering.{enter-moves, enter-ruled}
-use Rattle.model.specs.Laws.Withdrawing.{without-off, without_gone, without-sublist, withdraw-moves, withdraw-ruled}
+use Rattle.model.proofs.Laws.Bool.{cond_cases, both_ways, not_back, and_left, and_right}
+use Rattle.model.proofs.Laws.Basics.{equal-true}
+use Rattle.model.proofs.Laws.Sorting.{StrictOrder, each-insert}
+use Rattle.model.proofs.Laws.Order.{move-path, has-numbers}
+use Rattle.model.proofs.Laws.Permuted.{perm-equal, perm-insert, sorted_ext, sorted_insert, sorted-sublist, rising-sorted, each-sublist}
+use Rattle.model.proofs.Laws.Tree.{ruled-ordered}
+use Rattle.model.proofs.Laws.Entering.{enter-moves, enter-ruled}
+use Rattle.model.proofs.Laws.Withdrawing.{without-off, without_gone, without-sublist, withdraw-moves, withdraw-ruled}
 
 -- ---- equal costs
 

@@ -11,14 +11,14 @@ use Rattle.model.specs.Notice.{notice_of}
 use Rattle.model.specs.Withdrawing.{without, unchanged}
 use Rattle.model.specs.Calls.{Answer, accepted, Board, block_bad, row_refusal, rows_refusal, give_block, blocks_on, row_blocks, loaded, Change, enter, withdraw, recost, on_board, change_refusal, changed_moves, changed_blocks, changed, list_of, change_notice}
 use Rattle.model.specs.Sound.{Fit, BlocksFit, SoundBoard}
-use Rattle.model.specs.Laws.Bool.{test_cases, cond_cases, and_right, and_both, not-flip, or-false-left, or-false-right, same_test, both_ways}
-use Rattle.model.specs.Laws.Basics.{mem-each, each-mono, each-select, any-map, any-ext, any-select}
-use Rattle.model.specs.Laws.Sorting.{each-insert, any-insert, any-sort}
-use Rattle.model.specs.Laws.Order.{eqb-sym, dimension-most, move-order}
-use Rattle.model.specs.Laws.Recosting.{recost-same}
-use Rattle.model.specs.Laws.Notice.{notice-none}
-use Rattle.model.specs.Laws.Tree.{within-range, within-true, within-false}
-use Rattle.model.specs.Laws.Changes.{change_number, off-without}
+use Rattle.model.proofs.Laws.Bool.{test_cases, cond_cases, and_right, and_both, not-flip, or-false-left, or-false-right, same_test, both_ways}
+use Rattle.model.proofs.Laws.Basics.{mem-each, each-mono, each-select, any-map, any-ext, any-select}
+use Rattle.model.proofs.Laws.Sorting.{each-insert, any-insert, any-sort}
+use Rattle.model.proofs.Laws.Order.{eqb-sym, dimension-most, move-order}
+use Rattle.model.proofs.Laws.Recosting.{recost-same}
+use Rattle.model.proofs.Laws.Notice.{notice-none}
+use Rattle.model.proofs.Laws.Tree.{within-range, within-true, within-false}
+use Rattle.model.proofs.Laws.Changes.{change_number, off-without}
 
 -- ---- the numbers on the board
 

@@ -16,9 +16,9 @@ use Rattle.model.specs.Moves.{Move, Row, row_of, z_before, move_before, row_befo
 use Rattle.model.specs.Withdrawing.{costs_on}
 use Rattle.model.specs.Calls.{on_board}
 use Rattle.model.specs.Sound.{Fit}
-use Rattle.model.specs.Laws.Bool.{and_left, and_right, and_both, not-flip, not_back, or_cases, or_left, or_right, or-false-left, or-false-right, or-false-both, same_test, both_ways, cond_cases, and-false-right, and-drop-left}
-use Rattle.model.specs.Laws.Basics.{Once, each-mem, mem-each, each_left, each-select, any-mem, any_false, any_none, any-map, any-ext}
-use Rattle.model.specs.Laws.Sorting.{StrictOrder, each-insert, each-sort}
+use Rattle.model.proofs.Laws.Bool.{and_left, and_right, and_both, not-flip, not_back, or_cases, or_left, or_right, or-false-left, or-false-right, or-false-both, same_test, both_ways, cond_cases, and-false-right, and-drop-left}
+use Rattle.model.proofs.Laws.Basics.{Once, each-mem, mem-each, each_left, each-select, any-mem, any_false, any_none, any-map, any-ext}
+use Rattle.model.proofs.Laws.Sorting.{StrictOrder, each-insert, each-sort}
 
 -- ---- Z-order
 

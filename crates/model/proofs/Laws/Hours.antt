@@ -15,13 +15,13 @@ use Rattle.model.specs.Lists.{hidden, skyline, listed_rows}
 use Rattle.model.specs.Hours.{Window, Hours, block_count, windows_of, minute_bad, window_bad, open_in, no_hours, block_open, open_moves}
 use Rattle.model.specs.Calls.{refused_with, or_else, Board, list_of, list, hours_query, hours_refusal, query_refusal, query_rows}
 use Rattle.model.specs.Sound.{Fit, BlocksFit, SoundBoard}
-use Rattle.model.specs.Laws.Bool.{by_cases, cond_cases, and_left, and_right, and_both, or_cases, or_left, or_right, or-false-left, or-false-right, same_test}
-use Rattle.model.specs.Laws.Basics.{each-mem, each-select, select-all, select-ext, select-mem, mem-select, any_false}
-use Rattle.model.specs.Laws.Sorting.{rising-select}
-use Rattle.model.specs.Laws.Order.{dimension-most, move-order}
-use Rattle.model.specs.Laws.Skyline.{HiderIn, skyline-mem, mem-skyline, skyline-hider}
-use Rattle.model.specs.Laws.Tree.{within-range}
-use Rattle.model.specs.Laws.Blocks.{fit-each}
+use Rattle.model.proofs.Laws.Bool.{by_cases, cond_cases, and_left, and_right, and_both, or_cases, or_left, or_right, or-false-left, or-false-right, same_test}
+use Rattle.model.proofs.Laws.Basics.{each-mem, each-select, select-all, select-ext, select-mem, mem-select, any_false}
+use Rattle.model.proofs.Laws.Sorting.{rising-select}
+use Rattle.model.proofs.Laws.Order.{dimension-most, move-order}
+use Rattle.model.proofs.Laws.Skyline.{HiderIn, skyline-mem, mem-skyline, skyline-hider}
+use Rattle.model.proofs.Laws.Tree.{within-range}
+use Rattle.model.proofs.Laws.Blocks.{fit-each}
 
 -- ---- windows
 

@@ -14,11 +14,11 @@ use Rattle.model.specs.Moves.{Move, move_before, in_z_order, ordered}
 use Rattle.model.specs.Calls.{size_bad}
 use Rattle.model.specs.Tree.{Entry, Tree, rooted, moves_under, moves_of, root_least, filled_tree, ruled}
 use Rattle.model.specs.Loading.{eights, evened, mended, cut, levels, built, load_tree}
-use Rattle.model.specs.Laws.Bool.{cond_cases}
-use Rattle.model.specs.Laws.Basics.{each_left, each_right}
-use Rattle.model.specs.Laws.Sorting.{StrictOrder, rising-sort}
-use Rattle.model.specs.Laws.Order.{distinct-once}
-use Rattle.model.specs.Laws.Tree.{within-range, flat_map-flatten, Filled, leaf-moves, leaf-filled, full-filled, full-tree, both-ruled}
+use Rattle.model.proofs.Laws.Bool.{cond_cases}
+use Rattle.model.proofs.Laws.Basics.{each_left, each_right}
+use Rattle.model.proofs.Laws.Sorting.{StrictOrder, rising-sort}
+use Rattle.model.proofs.Laws.Order.{distinct-once}
+use Rattle.model.proofs.Laws.Tree.{within-range, flat_map-flatten, Filled, leaf-moves, leaf-filled, full-filled, full-tree, both-ruled}
 
 module _ {A : Type 0} where
   -- ---- cutting loses nothing

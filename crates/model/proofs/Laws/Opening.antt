@@ -21,17 +21,17 @@ use Rattle.model.specs.Notice.{notice_of}
 use Rattle.model.specs.Calls.{Board, on_board, withdraw, changed_moves, changed, list_of, change_notice}
 use Rattle.model.specs.Opening.{opens_for}
 use Rattle.model.specs.Sound.{Fit, SoundBoard}
-use Rattle.model.specs.Laws.Bool.{by_cases, both_ways, and_both, and_left, and_right, and-given, or_right, not-flip, not_back}
-use Rattle.model.specs.Laws.Basics.{each-mem, mem-each, each-mono, each-select, any-mem, any-mono, any_none}
-use Rattle.model.specs.Laws.Order.{dimension-most, distinct-select, costs-on-fit, costs-on-own}
-use Rattle.model.specs.Laws.Dominance.{places-nowhere-greater, take-le, take-same-length, nowhere-below, dominates-below, row-lengths}
-use Rattle.model.specs.Laws.Hiding.{better-or-equal, hides-nowhere-greater}
-use Rattle.model.specs.Laws.Skyline.{HiderIn, skyline-mem, mem-skyline, skyline-hider}
-use Rattle.model.specs.Laws.Changes.{without-number, mem-without}
-use Rattle.model.specs.Laws.Notice.{notice-entered}
-use Rattle.model.specs.Laws.Tree.{Filled}
+use Rattle.model.proofs.Laws.Bool.{by_cases, both_ways, and_both, and_left, and_right, and-given, or_right, not-flip, not_back}
+use Rattle.model.proofs.Laws.Basics.{each-mem, mem-each, each-mono, each-select, any-mem, any-mono, any_none}
+use Rattle.model.proofs.Laws.Order.{dimension-most, distinct-select, costs-on-fit, costs-on-own}
+use Rattle.model.proofs.Laws.Dominance.{places-nowhere-greater, take-le, take-same-length, nowhere-below, dominates-below, row-lengths}
+use Rattle.model.proofs.Laws.Hiding.{better-or-equal, hides-nowhere-greater}
+use Rattle.model.proofs.Laws.Skyline.{HiderIn, skyline-mem, mem-skyline, skyline-hider}
+use Rattle.model.proofs.Laws.Changes.{without-number, mem-without}
+use Rattle.model.proofs.Laws.Notice.{notice-entered}
+use Rattle.model.proofs.Laws.Tree.{Filled}
 use Rattle.model.specs.Runs.{RunOf, NodeIn}
-use Rattle.model.specs.Laws.Nodes.{nodes-in, Some, nodes-some, child-run, near-run, far-run, corner-row, unhidden-opened, tree-near, tree-far}
+use Rattle.model.proofs.Laws.Nodes.{nodes-in, Some, nodes-some, child-run, near-run, far-run, corner-row, unhidden-opened, tree-near, tree-far}
 
 -- What fails for the node of some moves fails for that of each run of them, so for all nodes below.
 abbrev pub Downward : ℕ → ℕ → (Node → Bool) → Type 0

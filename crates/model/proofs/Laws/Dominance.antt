@@ -10,8 +10,8 @@ use Rattle.zorder.specs.Between.{RowCosts, row_costs, before}
 use Rattle.zorder.specs.Laws.Between.{earlier}
 use Rattle.model.specs.Basics.{parts, numbers_from}
 use Rattle.model.specs.Dominance.{less, nowhere_greater, somewhere_less, better, dominates, at, dominates_at, dominates_on}
-use Rattle.model.specs.Laws.Bool.{by_cases, and_left, and_right, and_both, not-flip, not_back, or_cases, or_left, or_right}
-use Rattle.model.specs.Laws.Basics.{mem-each, any_none}
+use Rattle.model.proofs.Laws.Bool.{by_cases, and_left, and_right, and_both, not-flip, not_back, or_cases, or_left, or_right}
+use Rattle.model.proofs.Laws.Basics.{mem-each, any_none}
 
 -- ---- two lists of costs, place by place
 

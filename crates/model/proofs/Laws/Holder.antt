@@ -14,11 +14,11 @@ use Rattle.model.specs.Notice.{missing, notice_of}
 use Rattle.model.specs.Calls.{Board, Change, changed, list_of}
 use Rattle.model.specs.Sound.{Fit, SoundBoard}
 use Rattle.model.specs.Holder.{Call, change, preview, list_call, other, Event, is_accepted, plain_next, Answered, marked, put_in, take_out, followed, held_after, HoldsList, Starts, Demand3}
-use Rattle.model.specs.Laws.Bool.{cond_map}
-use Rattle.model.specs.Laws.Basics.{Once, mem-each, each-select, each_map, select-append, select-all, select-none}
-use Rattle.model.specs.Laws.Sorting.{insert-mem, mem-insert-new, mem-insert-old, each-insert, rising-insert, rising-select, rising-once, rising-ext}
-use Rattle.model.specs.Laws.Order.{move-order, dimension-most}
-use Rattle.model.specs.Laws.Notice.{gone, among, mem-or-not, gone_mem, mem-gone, missing-rows, notice-rows}
+use Rattle.model.proofs.Laws.Bool.{cond_map}
+use Rattle.model.proofs.Laws.Basics.{Once, mem-each, each-select, each_map, select-append, select-all, select-none}
+use Rattle.model.proofs.Laws.Sorting.{insert-mem, mem-insert-new, mem-insert-old, each-insert, rising-insert, rising-select, rising-once, rising-ext}
+use Rattle.model.proofs.Laws.Order.{move-order, dimension-most}
+use Rattle.model.proofs.Laws.Notice.{gone, among, mem-or-not, gone_mem, mem-gone, missing-rows, notice-rows}
 
 -- ---- the rows of a mark
 

@@ -12,11 +12,11 @@ use Rattle.model.specs.Moves.{Move, move_before, insert, ordered}
 use Rattle.model.specs.Dominance.{hides}
 use Rattle.model.specs.Lists.{hidden, skyline}
 use Rattle.model.specs.Sound.{Fit}
-use Rattle.model.specs.Laws.Bool.{by_cases, not-flip, not_back, same_test, both_ways}
-use Rattle.model.specs.Laws.Basics.{Once, each-mem, mem-each, each_left, each_right, select-append, select-mem, mem-select, select-ext, once-select, any_append, any-mem, any-witness, any_none}
-use Rattle.model.specs.Laws.Sorting.{StrictOrder, BeforeEach, asym, any-insert, rising-left, rising-right, rising-head, rising-across, rising-select}
-use Rattle.model.specs.Laws.Order.{move-order}
-use Rattle.model.specs.Laws.Hiding.{Hiding, move-hiding}
+use Rattle.model.proofs.Laws.Bool.{by_cases, not-flip, not_back, same_test, both_ways}
+use Rattle.model.proofs.Laws.Basics.{Once, each-mem, mem-each, each_left, each_right, select-append, select-mem, mem-select, select-ext, once-select, any_append, any-mem, any-witness, any_none}
+use Rattle.model.proofs.Laws.Sorting.{StrictOrder, BeforeEach, asym, any-insert, rising-left, rising-right, rising-head, rising-across, rising-select}
+use Rattle.model.proofs.Laws.Order.{move-order}
+use Rattle.model.proofs.Laws.Hiding.{Hiding, move-hiding}
 
 module _ {A : Type 0} (hides : A → A → Bool) where
   -- The list over any relation that hides.

@@ -8,9 +8,9 @@ use Rattle.std.proofs.lemmas.List.{length-map}
 use Rattle.model.specs.Basics.{select, any, equal}
 use Rattle.model.specs.Moves.{Move, Row, row_of, same_row, left, entered}
 use Rattle.model.specs.Notice.{missing, notice_of}
-use Rattle.model.specs.Laws.Bool.{by_cases, and_left, and_right, and_both, not-flip, not_back, both_ways}
-use Rattle.model.specs.Laws.Basics.{Once, once-select, select-none, equal-refl, equal-true, mem-each, select-mem, mem-select, select-ext, select-map, any-mem, any-witness, any-map}
-use Rattle.model.specs.Laws.Order.{move-path}
+use Rattle.model.proofs.Laws.Bool.{by_cases, and_left, and_right, and_both, not-flip, not_back, both_ways}
+use Rattle.model.proofs.Laws.Basics.{Once, once-select, select-none, equal-refl, equal-true, mem-each, select-mem, mem-select, select-ext, select-map, any-mem, any-witness, any-map}
+use Rattle.model.proofs.Laws.Order.{move-path}
 
 -- "Rows are compared by number and costs": so are the moves in them, whatever the marks.
 unfoldable pub same_move : Move → Move → Bool

@@ -6,9 +6,9 @@ use Rattle.std.proofs.Common.{◌∙◌, subst, arith}
 use mathlib.Core.List.Permᴰ
 use mathlib.Core.List.{List, [], ◌∷◌, ◌++◌, Permᴰ, Sublistᴰ}
 use Rattle.model.specs.Basics.{Each, cons_if, select, insert_by, sort_by, rising, first_or, last_or}
-use Rattle.model.specs.Laws.Bool.{by_cases, cond_cases, both_ways}
-use Rattle.model.specs.Laws.Basics.{each_left, each_right, each-mem, last_mem}
-use Rattle.model.specs.Laws.Sorting.{StrictOrder, asym, each-insert, each-sort, insert-here, insert-later, rising-next, rising-tail}
+use Rattle.model.proofs.Laws.Bool.{by_cases, cond_cases, both_ways}
+use Rattle.model.proofs.Laws.Basics.{each_left, each_right, each-mem, last_mem}
+use Rattle.model.proofs.Laws.Sorting.{StrictOrder, asym, each-insert, each-sort, insert-here, insert-later, rising-next, rising-tail}
 
 -- ---- parts of a list
 
