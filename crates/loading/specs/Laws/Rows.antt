@@ -2,7 +2,7 @@
 use Rattle.std.specs.Prelude.{ℕ, suc, ◌≤◌, ◌<◌, true, false, List, [], ◌∷◌, map, ◌≡◌, refl, leb, eqb, length}
 use Rattle.std.proofs.Common.{ap, ◌∙◌, arith, leb-false}
 use Rattle.zorder.specs.Refusal.{cost_past_bad}
-use Rattle.zorder.specs.Laws.Refusal.{first_passes, rest-passes}
+use Rattle.zorder.proofs.Laws.Refusal.{first_passes, rest-passes}
 use Rattle.zorder.specs.Between.{RowCosts}
 use Rattle.model.specs.Basics.{Each, any, has, distinct}
 use Rattle.model.specs.Moves.{InputRow, move_of}

@@ -10,7 +10,7 @@ use Rattle.std.proofs.Math.ListN.{length-set}
 use Rattle.std.proofs.Math.Seq.{get_or-set_same, get_or-take}
 use Rattle.zorder.specs.Address.{row_costs, padded}
 use Rattle.zorder.specs.Between.{RowCosts}
-use Rattle.zorder.specs.Laws.Between.{row-padded}
+use Rattle.zorder.proofs.Laws.Between.{row-padded}
 use Rattle.promises.specs.Layout.{set_word, format_number, number_place, height_place, flag_place, cost_place, work_place, size_in, dimension_in, format_in, count_in, number_in, height_in, flag_in, cost_in, work_in, costs_in}
 use Rattle.memory.specs.Room.{Room}
 use Rattle.memory.specs.Stores.{set_head, set_count, set_number, set_height, set_listed, set_costs_from, set_costs, set_work}

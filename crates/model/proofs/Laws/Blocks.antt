@@ -4,7 +4,7 @@ use Rattle.std.specs.Prelude.{ℕ, suc, ◌≤◌, ◌<◌, Bool, true, false, c
 use Rattle.std.proofs.Common.{inr, sym, ◌∙◌, arith, eqb-true, eq-eqb, ne_eqb}
 use Rattle.std.proofs.Math.Path.{ap, fun_ext}
 use Rattle.std.proofs.lemmas.Bool.{not-false}
-use Rattle.zorder.specs.Laws.Refusal.{first_passes, rest-passes}
+use Rattle.zorder.proofs.Laws.Refusal.{first_passes, rest-passes}
 use Rattle.model.specs.Basics.{Each, any, within}
 use Rattle.model.specs.Moves.{Move, InputRow, move_of, move_before, insert, in_z_order}
 use Rattle.model.specs.Notice.{notice_of}

@@ -5,7 +5,7 @@ use mathlib.Core.List.{List, [], ◌∷◌, map, Memᴰ}
 use Rattle.std.proofs.Common.{⊎_elim, ap, ◌∙◌, arith, leb-false, le-ltb, eqb-true}
 use Rattle.std.proofs.lemmas.Bool.{lt-leb, eqb-false, not-true}
 use Rattle.zorder.specs.Refusal.{Check, refusal, cost_past_bad}
-use Rattle.zorder.specs.Laws.Refusal.{first_passes, rest-passes}
+use Rattle.zorder.proofs.Laws.Refusal.{first_passes, rest-passes}
 use Rattle.model.specs.Basics.{Each, any, has, distinct}
 use Rattle.model.specs.Moves.{Move, move_before, insert}
 use Rattle.model.specs.Lists.{hidden, skyline}

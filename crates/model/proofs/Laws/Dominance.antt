@@ -7,7 +7,7 @@ use Rattle.std.proofs.Math.Nat.{suc_inj}
 use Rattle.std.proofs.Math.ListN.{get_or-eq_default}
 use Rattle.std.proofs.Math.Seq.{get_or-take}
 use Rattle.zorder.specs.Between.{RowCosts, row_costs, before}
-use Rattle.zorder.specs.Laws.Between.{earlier}
+use Rattle.zorder.proofs.Laws.Between.{earlier}
 use Rattle.model.specs.Basics.{parts, numbers_from}
 use Rattle.model.specs.Dominance.{less, nowhere_greater, somewhere_less, better, dominates, at, dominates_at, dominates_on}
 use Rattle.model.proofs.Laws.Bool.{by_cases, and_left, and_right, and_both, not-flip, not_back, or_cases, or_left, or_right}

@@ -12,8 +12,8 @@ use Rattle.std.proofs.Math.ListN.{take}
 use borrow.Author.Tests.{ltb-true, ltb-false, lt-ltb, le-ltb, eq-eqb}
 use Rattle.zorder.specs.Address.{address, padded}
 use Rattle.zorder.specs.Between.{RowCosts, row_costs, before, same_place}
-use Rattle.zorder.specs.Laws.Between.{row-padded, before-irrefl}
-use Rattle.zorder.specs.Laws.FirstCosts.{before-alike}
+use Rattle.zorder.proofs.Laws.Between.{row-padded, before-irrefl}
+use Rattle.zorder.proofs.Laws.FirstCosts.{before-alike}
 use Rattle.model.specs.Basics.{equal}
 use Rattle.model.specs.Moves.{Move, move_before, z_before}
 use Rattle.model.specs.Dominance.{less, nowhere_greater, somewhere_less, better, dominates, equal_costs, lower_twin, hides}

@@ -6,7 +6,7 @@ use mathlib.Core.List.{List, [], ◌∷◌, ◌++◌, flat_map, append_assoc, ap
 use Rattle.std.proofs.Math.Path.{sym, ap}
 use Rattle.std.proofs.Common.{◌∙◌, subst, arith, length-append}
 use Rattle.zorder.specs.Between.{row_costs, RowCosts, before, near_of, far_of}
-use Rattle.zorder.specs.Laws.Between.{near-row, near_le, far-ge, near-part, far-part}
+use Rattle.zorder.proofs.Laws.Between.{near-row, near_le, far-ge, near-part, far-part}
 use Rattle.model.specs.Basics.{Each, any, first_or, last_or}
 use Rattle.model.specs.Moves.{Move, z_before, move_before, ordered}
 use Rattle.model.specs.Dominance.{dominates, hides}

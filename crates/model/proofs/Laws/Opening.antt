@@ -9,7 +9,7 @@ use Rattle.std.proofs.Common.{◌∙◌, subst, eqb-true}
 use Rattle.std.proofs.Math.Nat.{le_trans}
 use Rattle.std.proofs.Math.Dec.{eqb}
 use Rattle.zorder.specs.Between.{row_costs, RowCosts}
-use Rattle.zorder.specs.Laws.Between.{far-row}
+use Rattle.zorder.proofs.Laws.Between.{far-row}
 use Rattle.model.specs.Basics.{Each, any, distinct, equal}
 use Rattle.model.specs.Moves.{Move, row_of, entered, move_before, ordered}
 use Rattle.model.specs.Dominance.{nowhere_greater, somewhere_less, better, dominates, equal_costs, hides}

@@ -10,7 +10,7 @@ use Rattle.std.proofs.Math.Dec.{ltb, eqb}
 use borrow.Author.Tests.{ltb-true, ltb-false, lt-ltb, le-ltb, eqb-true, eq-eqb}
 use Rattle.zorder.specs.Between.{row_costs, RowCosts, before, same_place}
 use Rattle.zorder.specs.Refusal.{cost_count_bad}
-use Rattle.zorder.specs.Laws.Between as Between
+use Rattle.zorder.proofs.Laws.Between as Between
 use Rattle.model.specs.Basics.{Each, cons_if, select, any, has, distinct, insert_by, sort_by}
 use Rattle.model.specs.Moves.{Move, Row, row_of, z_before, move_before, row_before}
 use Rattle.model.specs.Withdrawing.{costs_on}

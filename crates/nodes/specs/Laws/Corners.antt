@@ -7,7 +7,7 @@ use Rattle.std.proofs.Common.{◌∙◌, arith, le-leb}
 use Rattle.std.proofs.lemmas.Bool.{not-false, lt-leb}
 use Rattle.std.proofs.Math.ListN.{take}
 use Rattle.zorder.specs.Between.{row_costs, RowCosts, before, near_of, far_of}
-use Rattle.zorder.specs.Laws.Between.{near-row, near_le, before-irrefl}
+use Rattle.zorder.proofs.Laws.Between.{near-row, near_le, before-irrefl}
 use Rattle.model.specs.Moves.{Move, move_before, z_before}
 use Rattle.model.specs.Dominance.{nowhere_greater, somewhere_less, better, dominates}
 use Rattle.model.specs.Sound.{Fit}

@@ -7,7 +7,7 @@ use native.Mathlib.Omega.{arith}
 use borrow.Author.Tests.{ltb-true, lt-ltb, le-ltb}
 use Rattle.std.proofs.Math.ListN.{length}
 use Rattle.zorder.specs.Address.{row_costs}
-use Rattle.zorder.specs.Laws.Address.{Costs}
+use Rattle.zorder.proofs.Laws.Address.{Costs}
 use Rattle.model.specs.Basics.{equal}
 use Rattle.model.specs.Calls as calls
 use Rattle.model.specs.Calls.{accepted, refused_with, rows_answer, change_refusal, change_notice, keeps_moves, on_board}

@@ -5,7 +5,7 @@ use Rattle.std.proofs.Common.{◌∙◌, subst, arith}
 use Rattle.std.proofs.Math.Decide.{dec_lt}
 use Rattle.std.proofs.Math.ListN.{get_or}
 use Rattle.zorder.specs.Between.{row_costs, cost_bits, RowCosts}
-use Rattle.zorder.specs.Laws.Between.{padded-row}
+use Rattle.zorder.proofs.Laws.Between.{padded-row}
 use Rattle.model.specs.Basics.{Each, distinct}
 use Rattle.model.specs.Moves.{Move, move_before, ordered}
 use Rattle.model.specs.Tree.{Tree, moves_of}

@@ -11,7 +11,7 @@ use Rattle.std.proofs.Math.Dec.{leb}
 use Rattle.zorder.specs.Address.{row_costs, padded}
 use Rattle.zorder.specs.Between.{RowCosts}
 use Rattle.zorder.specs.Refusal.{all_zero, cost_past_bad}
-use Rattle.zorder.specs.Laws.Between.{row-padded}
+use Rattle.zorder.proofs.Laws.Between.{row-padded}
 use Rattle.model.specs.Basics.{Each, select, any, sort_by}
 use Rattle.model.specs.Moves.{Move, Row, row_of, same_row, listed, left, entered}
 use Rattle.model.specs.Dominance.{dominates_at, dominates_on}

@@ -9,7 +9,7 @@ use Rattle.std.proofs.Math.Dec.{ltb, leb}
 use Rattle.std.proofs.Math.ListN.{length, take, length-map}
 use Rattle.zorder.specs.Between.{before, same_place}
 use Rattle.zorder.specs.Refusal.{cost_past_bad}
-use Rattle.zorder.specs.Laws.FirstCosts.{before-alike, same-place-alike}
+use Rattle.zorder.proofs.Laws.FirstCosts.{before-alike, same-place-alike}
 use Rattle.model.specs.Basics.{Each, select, any, count, sort_by, parts, numbers_from, equal}
 use Rattle.model.specs.Moves.{Move, Row, row_of, listed, z_before, move_before, row_before}
 use Rattle.model.specs.Dominance.{better, dominates, at, dominates_at, dominates_on, equal_costs, lower_twin, hides}

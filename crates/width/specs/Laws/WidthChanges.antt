@@ -11,8 +11,8 @@ use Rattle.std.proofs.Math.ListN.{length, length-map}
 use Rattle.zorder.specs.Address.{row_costs, padded}
 use Rattle.zorder.specs.Between.{RowCosts}
 use Rattle.zorder.specs.Refusal.{refusal, cost_past_bad}
-use Rattle.zorder.specs.Laws.Between.{row-padded}
-use Rattle.zorder.specs.Laws.Refusal.{first_passes, rest-passes}
+use Rattle.zorder.proofs.Laws.Between.{row-padded}
+use Rattle.zorder.proofs.Laws.Refusal.{first_passes, rest-passes}
 use Rattle.model.specs.Basics.{Each, any, has, equal}
 use Rattle.model.specs.Moves.{Move, InputRow, Row, move_of, row_of, same_row, left, entered, move_before, insert, in_z_order}
 use Rattle.model.specs.Lists.{skyline}

@@ -10,7 +10,7 @@ use Rattle.std.proofs.Math.Dec.{leb, eqb}
 use Rattle.std.proofs.Math.ListN.{length, take, drop}
 use Rattle.std.proofs.lemmas.List.{length-map}
 use Rattle.zorder.specs.Between.{side_of, near_of, far_of}
-use Rattle.zorder.specs.Laws.FirstCosts.{side-alike, near-alike, far-alike}
+use Rattle.zorder.proofs.Laws.FirstCosts.{side-alike, near-alike, far-alike}
 use Rattle.model.specs.Basics.{any, all, count, first_or, last_or, within, equal}
 use Rattle.model.specs.Moves.{Move, no_move, move_before, insert, in_z_order, ordered}
 use Rattle.model.specs.Dominance.{better, dominates, equal_costs}

@@ -13,7 +13,7 @@ use Rattle.zorder.specs.Refusal.{or_zero, address_bad, address_refusal}
 use Rattle.zorder.specs.Words.{word_bits, value, words_of}
 use Rattle.zorder.specs.declared.AddressResult.{AddressResult}
 use Rattle.zorder.specs.declared.AddressWords.{AddressWords}
-use Rattle.zorder.specs.Laws.Address.{address-lt'}
+use Rattle.zorder.proofs.Laws.Address.{address-lt'}
 
 pub value-lt : (a : AddressWords) → a.upper < 2 ^ word_bits → a.lower < 2 ^ word_bits → value a < 2 ^ (2 * word_bits)
 unfolding value

@@ -13,11 +13,11 @@ use Rattle.zorder.specs.declared.Verdict.{Verdict}
 use Rattle.zorder.specs.declared.Verdict.TheVariants.{Accepted, BadCostCount, BadArgument}
 use Rattle.zorder.specs.declared.AddressResult.{AddressResult}
 use Rattle.zorder.specs.declared.CostsResult.{CostsResult}
-use Rattle.zorder.specs.Laws.Address.{address-lt'}
-use Rattle.zorder.specs.Laws.Between.{padded-row, row-costs, row-padded}
-use Rattle.zorder.specs.Laws.Inverse.{costs_of-costs, address-costs, costs-address}
-use Rattle.zorder.specs.Laws.Words.{value-words, words-value}
-use Rattle.zorder.specs.Laws.Refusal.{count-right, address-right, first_passes, rest-passes}
+use Rattle.zorder.proofs.Laws.Address.{address-lt'}
+use Rattle.zorder.proofs.Laws.Between.{padded-row, row-costs, row-padded}
+use Rattle.zorder.proofs.Laws.Inverse.{costs_of-costs, address-costs, costs-address}
+use Rattle.zorder.proofs.Laws.Words.{value-words, words-value}
+use Rattle.zorder.proofs.Laws.Refusal.{count-right, address-right, first_passes, rest-passes}
 
 -- ---- rows and addresses
 

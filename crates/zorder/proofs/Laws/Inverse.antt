@@ -6,7 +6,7 @@ use Rattle.std.proofs.Math.Arith.{digits_lt, digits_div, digits_mod}
 use Rattle.std.proofs.lemmas.Nat.{mod-pow-add}
 use Rattle.std.proofs.Math.Pow.{mod-mod-pow, field, high, low}
 use Rattle.zorder.specs.Address.{cost_bits, bit, group, groups, cost_from_bits, costs_from, costs_of}
-use Rattle.zorder.specs.Laws.Address.{Costs, shifted, length-shifted, get_or-shifted, bit-lt, bit-shr, group-lt, groups-lt, groups-shr, groups-costs-lt}
+use Rattle.zorder.proofs.Laws.Address.{Costs, shifted, length-shifted, get_or-shifted, bit-lt, bit-shr, group-lt, groups-lt, groups-shr, groups-costs-lt}
 
 -- ---- equal addresses, equal costs
 
