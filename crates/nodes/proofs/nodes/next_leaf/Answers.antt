@@ -1,0 +1,86 @@
+use Prim.Native.Nat.{◌+◌, ◌*◌, ◌-◌}
+use native.Mathlib.Omega.{arith}
+use borrow.Author.Tests.{not-true, not-false}
+use Rattle.promises.specs.Run.{Bytes}
+use Rattle.memory.specs.Laws.Held.{held-readable}
+use Rattle.search.specs.Laws.Search.{corners-fewer}
+use Rattle.nodes.specs.Laws.Search.{Searchable, sound-searchable, Searching, search-start, search-few, search-on, search-down, search-leaf, search-end}
+use Rattle.nodes.proofs.nodes.next_leaf.Goals as goal
+
+pub level_at-l-requires : goal.level_at-l-requires
+level_at-l-requires c = let asked = held-readable c.requires.sound_at.0 in (asked.room, asked.rows)
+
+pub loop-i-init : goal.loop-i-init
+unfolding Bytes
+loop-i-init c =
+    let start = c.before.before in
+    let a = start.args in
+    let s = sound-searchable a.h.size a.h.dimension a.h.count a.m.now start.requires.sound_at.0 (λ j. omega (arith, c.shared_slice_known-1.given j)) in
+    (s, search-start s a.goes a.from start.requires.nodes_from c.level_at-l.result c.level_at-l.ensures)
+
+pub node_end-e-requires : goal.node_end-e-requires
+node_end-e-requires c = let s = c.loop-i.invariant.0 in (s.readable.room, s.readable.rows, omega arith)
+
+pub opens-requires : goal.opens-requires
+opens-requires c =
+    let f = c.node_end-e.ensures in
+    let start = c.before.before.before.before.before in
+    record { readable = (c.loop-i.invariant.0.readable, f.after, f.within); listed_corners = corners-fewer (omega arith) start.requires.sound_at.1 }
+
+pub level_at-l-requires-then-not-opens : goal.level_at-l-requires-then-not-opens
+level_at-l-requires-then-not-opens c = let s = c.loop-i.invariant.0 in (s.readable.room, s.readable.rows)
+
+pub loop-i-preserved-then-not-opens : goal.loop-i-preserved-then-not-opens
+loop-i-preserved-then-not-opens c =
+    let a = c.args in
+    let own = c.loop-i in
+    let end = c.node_end-e in
+    let test = c.opens in (
+      own.invariant.0,
+      search-on own.invariant.0 a.goes a.from own.opened own.i own.l end.result own.invariant.1 (omega arith) end.ensures test.result test.ensures
+          (c.if-not-opens.true) c.level_at-l-then-not-opens.result c.level_at-l-then-not-opens.ensures,
+    )
+
+pub overflow_add-result : goal.overflow_add-result
+overflow_add-result c =
+    let a = c.args in
+    let own = c.loop-i in
+    omega (arith, search-few own.invariant.0 a.goes a.from own.opened own.i own.l own.invariant.1, own.invariant.0.readable.rows, own.invariant.0.readable.room.1)
+
+pub returns-then-l-eq1 : goal.returns-then-l-eq1
+returns-then-l-eq1 c =
+    let a = c.args in
+    let own = c.loop-i in
+    let end = c.node_end-e in
+    let test = c.opens in
+    search-leaf own.invariant.0 a.goes a.from own.opened own.i own.l end.result own.invariant.1 (omega arith) end.ensures test.result test.ensures
+    (c.if-not-opens.false) c.if-l-eq1.true
+
+pub overflow_add-opened : goal.overflow_add-opened
+overflow_add-opened c =
+    let a = c.args in
+    let own = c.loop-i in
+    omega (arith, search-few own.invariant.0 a.goes a.from own.opened own.i own.l own.invariant.1, own.invariant.0.readable.rows, own.invariant.0.readable.room.1)
+
+pub overflow_sub-l : goal.overflow_sub-l
+overflow_sub-l c = let own = c.loop-i in omega (arith, own.invariant.1.level (omega arith))
+
+pub loop-i-smaller : goal.loop-i-smaller
+loop-i-smaller c = let own = c.loop-i in omega (arith, own.invariant.1.level (omega arith))
+
+pub loop-i-preserved : goal.loop-i-preserved
+loop-i-preserved c =
+    let a = c.args in
+    let own = c.loop-i in
+    let end = c.node_end-e in
+    let test = c.opens in (
+      own.invariant.0,
+      search-down own.invariant.0 a.goes a.from own.opened own.i own.l end.result own.invariant.1 (omega arith) end.ensures test.result test.ensures
+          (c.if-not-opens.false) c.if-l-eq1.false,
+    )
+
+pub returns : goal.returns
+returns c =
+    let a = c.args in
+    let own = c.loop-i in
+    search-end own.invariant.0 a.goes a.from own.opened own.i own.l own.invariant.1 (omega arith)

@@ -1,0 +1,23 @@
+-- `places::entries` meets its contract. The loop's invariant: those counted and those from the present place on are all.
+-- Assumes nothing.
+use Prim.Native.Nat.{ℕ, ◌+◌, ◌-◌, ◌≤◌}
+use mathlib.Core.Logic.{⊎_elim}
+use mathlib.Core.Path.{◌≡◌}
+use native.Mathlib.Nat.{zero-add}
+use native.Mathlib.Omega.{arith}
+use borrow.Author.Rules.{rules}
+use Rattle.line.specs.Places.{entries_among}
+use Rattle.promises.specs.Layout.{heights_from}
+use Rattle.memory.specs.Laws.Lines.{length-heights_from, get_or-heights_from}
+use Rattle.nodes.specs.Laws.Steps.{entry_here, entry-none, entries-end}
+use Rattle.nodes.proofs.places.entries.Given as goal
+
+abbrev pub invariant-loop-i : goal.invariant-loop-i
+invariant-loop-i l =
+    (l.s ≤ l.i)
+    × (l.i ≤ l.e)
+    × (l.k ≤ l.i - l.s)
+    × ((n : ℕ) → l.e ≤ n → l.k + entries_among l.l l.i l.e (heights_from l.c n l.m) ≡ entries_among l.l l.s l.e (heights_from l.c n l.m))
+
+abbrev pub decreases-loop-i : goal.decreases-loop-i
+decreases-loop-i l = l.e - l.i

@@ -1,0 +1,14 @@
+-- `places::entry_at` meets its contract. The loop's invariant: q is where entry k starts. Assumes nothing.
+use Prim.Native.Nat.{ℕ, ◌-◌, ◌≤◌}
+use mathlib.Core.Path.{◌≡◌, refl, ap, ◌∙◌}
+use native.Mathlib.Omega.{arith}
+use Rattle.line.specs.Places.{entry_among}
+use Rattle.promises.specs.Layout.{heights_from}
+use Rattle.nodes.specs.Laws.Steps.{entry-turn}
+use Rattle.nodes.proofs.places.entry_at.Given as goal
+
+abbrev pub invariant-loop-k : goal.invariant-loop-k
+invariant-loop-k l = (l.k ≤ l.j) × (l.q ≡ entry_among l.l l.s l.k (heights_from l.c l.n l.m))
+
+abbrev pub decreases-loop-k : goal.decreases-loop-k
+decreases-loop-k l = l.j - l.k

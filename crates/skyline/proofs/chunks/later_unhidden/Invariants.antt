@@ -1,0 +1,17 @@
+-- `chunks::later_unhidden` meets its contract. The loop's invariant: no move of the chunk hides a place passed. Assumes nothing.
+use Prim.Native.Nat.{ℕ, ◌-◌, ◌≤◌}
+use mathlib.Core.Path.{◌≡◌, refl, sym, ◌∙◌, subst}
+use native.Mathlib.Omega.{arith}
+use borrow.Author.Tests.{not-true, not-false}
+use Rattle.model.proofs.Laws.Bool.{both_ways}
+use Rattle.skyline.specs.Chunks.{Unhidden}
+use Rattle.skyline.specs.Laws.Unhidden.{unhidden-none, unhidden-join}
+use Rattle.skyline.specs.Laws.Highs.{high-unhidden}
+use Rattle.skyline.proofs.chunks.later_unhidden.Given as goal
+
+abbrev pub invariant-loop-f : goal.invariant-loop-f
+invariant-loop-f l =
+    (l.chunk.to ≤ l.f) × (l.f ≤ l.n) × Unhidden l.h.size l.h.dimension l.m l.chunk.from l.chunk.to l.chunk.to l.f
+
+abbrev pub decreases-loop-f : goal.decreases-loop-f
+decreases-loop-f l = l.n - l.f

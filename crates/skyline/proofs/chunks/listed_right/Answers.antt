@@ -1,0 +1,119 @@
+use Prim.Native.Nat.{ℕ, ◌-◌, ◌≤◌, ◌<◌}
+use mathlib.Core.List.{List}
+use mathlib.Core.Logic.{⊎_elim}
+use mathlib.Core.Path.{◌≡◌, sym, subst}
+use native.Mathlib.Omega.{arith}
+use borrow.Author.Tests.{not-true, not-false}
+use lib.ListN.{length}
+use Rattle.promises.specs.Run.{Bytes}
+use Rattle.skyline.specs.Chunks.{Unhidden, Highs}
+use Rattle.skyline.specs.Laws.Unhidden.{unhidden-none, unhidden-chunk, unhidden-right, hidden-wrong}
+use Rattle.skyline.proofs.chunks.listed_right.Goals.{Joined-from-eq0}
+use Rattle.skyline.proofs.chunks.listed_right.Goals.{else-from-eq0, then-from-eq0}
+use Rattle.skyline.proofs.chunks.listed_right.Goals as goal
+
+-- The greatest bounds were made for the first chunk, or are there.
+highs-there : (c : Joined-from-eq0)
+    → Highs c.args.h.size c.args.h.dimension
+    c.args.m.now c.args.h.count c.if-from-eq0.highs
+highs-there c =
+    let a = c.args in
+    let own = c.loop-from in
+    let There : List (List ℕ) → Type 0 = Highs a.h.size a.h.dimension a.m.now a.h.count in
+    elim c.if-from-eq0.branch [ then-from-eq0 w ↦ subst There (sym w.highs-is) w.put_highs.ensures | else-from-eq0 w ↦ subst There (sym w.highs-is) (own.invariant.3 (omega (arith, w.if-from-eq0.false)) (omega (arith, c.loop-from-test.true))) ]
+
+pub loop-from-init : goal.loop-from-init
+loop-from-init c = (omega arith, λ j l g t k z s. absurd (omega arith), c.requires.2, λ l. absurd (omega arith))
+
+pub next_chunk-chunk-requires : goal.next_chunk-chunk-requires
+next_chunk-chunk-requires c = (c.requires.0, omega arith)
+
+pub returns-then-not-chunk : goal.returns-then-not-chunk
+unfolding Bytes
+returns-then-not-chunk c =
+    let s = c.before.before.before.before.before.before.before in
+    let a = s.args in
+    let bytes : Bytes a.m.now = λ i. omega (arith, c.shared_slice_known-1.given i) in
+    let next = c.next_chunk-chunk in
+    sym
+    (hidden-wrong a.h.size a.h.dimension a.h.count a.m.now s.requires.0.dimension bytes s.requires.1
+    (next.ensures.said.false-says (not-true next.result.unhidden c.if-not-chunk.true)))
+
+pub put_highs-requires : goal.put_highs-requires
+put_highs-requires c =
+    (c.requires.0, c.loop-from.invariant.2)
+
+pub later_unhidden-requires : goal.later_unhidden-requires
+later_unhidden-requires c =
+    let next = c.next_chunk-chunk in
+    let unhidden = not-false next.result.unhidden c.if-not-chunk.false in (
+      (c.requires.0, next.ensures.end),
+      ((next.ensures.gathered, next.ensures.some unhidden), highs-there c.before.before),
+    )
+
+pub returns-then-not-later_unhidden : goal.returns-then-not-later_unhidden
+unfolding Bytes
+returns-then-not-later_unhidden c =
+    let s = c.before.before.before.before.before.before.before.before.before.before.before.before.before.before in
+    let a = s.args in
+    let bytes : Bytes a.m.now = λ i. omega (arith, c.shared_slice_known-1.given i) in
+    let later = c.later_unhidden in
+    sym
+    (hidden-wrong a.h.size a.h.dimension a.h.count a.m.now s.requires.0.dimension bytes s.requires.1
+    (later.ensures.false-says (c.if-not-later_unhidden.true)))
+
+pub loop-from-smaller-else-not-later_unhidden : goal.loop-from-smaller-else-not-later_unhidden
+loop-from-smaller-else-not-later_unhidden c =
+    let next = c.next_chunk-chunk in
+    omega (arith, next.ensures.more (not-false next.result.unhidden c.if-not-chunk.false), next.ensures.end)
+
+pub loop-from-preserved-else-not-later_unhidden : goal.loop-from-preserved-else-not-later_unhidden
+loop-from-preserved-else-not-later_unhidden c =
+    let a = c.args in
+    let own = c.loop-from in
+    let next = c.next_chunk-chunk in
+    let there = highs-there c.before.before.before.before in
+    let n = a.h.count in
+    let to = next.result.to in
+    let later = c.later_unhidden in (
+      next.ensures.end,
+      unhidden-chunk a.h.size a.h.dimension a.m.now n own.from to own.invariant.1
+          (next.ensures.said.true-says (not-false next.result.unhidden c.if-not-chunk.false))
+          (subst (λ (z : ℕ). Unhidden a.h.size a.h.dimension a.m.now z to to n) next.ensures.starts (later.ensures.true-says (c.if-not-later_unhidden.false))),
+      there.runs,
+      λ _ _. there,
+    )
+
+-- The chunk goes to the last place.
+pub loop-from-smaller : goal.loop-from-smaller
+loop-from-smaller c =
+    let next = c.next_chunk-chunk in
+    omega (arith, next.ensures.more (not-false next.result.unhidden c.if-not-chunk.false), next.ensures.end)
+
+pub loop-from-preserved : goal.loop-from-preserved
+loop-from-preserved c =
+    let a = c.args in
+    let own = c.loop-from in
+    let next = c.next_chunk-chunk in
+    let n = a.h.count in
+    let to = next.result.to in
+    let all : n ≡ to = omega (arith, next.ensures.end, c.if-chunk-n.false) in (
+      next.ensures.end,
+      unhidden-chunk a.h.size a.h.dimension a.m.now n own.from to own.invariant.1
+          (next.ensures.said.true-says (not-false next.result.unhidden c.if-not-chunk.false))
+          (subst (Unhidden a.h.size a.h.dimension a.m.now own.from to to) (sym all) (unhidden-none a.h.size a.h.dimension a.m.now own.from to to)),
+      own.invariant.2,
+      λ _ l. absurd (omega (arith, c.if-chunk-n.false)),
+    )
+
+pub returns : goal.returns
+unfolding Bytes
+returns c =
+    let s = c.before.before.before in
+    let a = s.args in
+    let own = c.loop-from in
+    let bytes : Bytes a.m.now = λ i. omega (arith, c.shared_slice_known-1.given i) in
+    let all : own.from ≡ a.h.count = omega arith in
+    sym
+    (unhidden-right a.h.size a.h.dimension a.h.count a.m.now s.requires.0.dimension bytes s.requires.1
+    (subst (λ (z : ℕ). Unhidden a.h.size a.h.dimension a.m.now 0 z 0 a.h.count) all own.invariant.1))

@@ -1,0 +1,23 @@
+-- `chunks::listed_right` meets its contract. The loop's invariant: no move at a place passed hides a listed one, and once a chunk is
+-- passed the runs have their greatest bounds. Assumes nothing.
+use Prim.Native.Nat.{ℕ, ◌-◌, ◌≤◌, ◌<◌}
+use mathlib.Core.List.{List}
+use mathlib.Core.Logic.{⊎_elim}
+use mathlib.Core.Path.{◌≡◌, sym, subst}
+use native.Mathlib.Omega.{arith}
+use borrow.Author.Tests.{not-true, not-false}
+use lib.ListN.{length}
+use Rattle.promises.specs.Run.{Bytes}
+use Rattle.skyline.specs.Chunks.{Unhidden, Highs}
+use Rattle.skyline.specs.Laws.Unhidden.{unhidden-none, unhidden-chunk, unhidden-right, hidden-wrong}
+use Rattle.skyline.proofs.chunks.listed_right.Given as goal
+
+abbrev pub invariant-loop-from : goal.invariant-loop-from
+invariant-loop-from l =
+    (l.from ≤ l.n)
+    × Unhidden l.h.size l.h.dimension l.m 0 l.from 0 l.n
+    × (length l.highs ≡ 64)
+    × (0 < l.from → l.from < l.n → Highs l.h.size l.h.dimension l.m l.n l.highs)
+
+abbrev pub decreases-loop-from : goal.decreases-loop-from
+decreases-loop-from l = l.n - l.from

@@ -1,0 +1,151 @@
+use Prim.Native.Nat.{ℕ, ◌+◌, ◌-◌, ◌≤◌, ◌<◌}
+use mathlib.Core.Bool.{Bool, true, not, ◌&&◌}
+use mathlib.Core.List.{List}
+use mathlib.Core.Logic.{inl, inr, ⊎_elim}
+use mathlib.Core.Path.{◌≡◌, refl, sym, ap, ◌∙◌, subst}
+use native.Mathlib.Omega.{arith}
+use borrow.Author.Tests.{ltb-true, ltb-false, not-false}
+use lib.Dec.{ltb}
+use Rattle.model.proofs.Laws.Bool.{by_cases, both_ways, and_left, and_right}
+use Rattle.dominance.specs.Lanes.{Lanes, lesser}
+use Rattle.promises.specs.Run.{Bytes}
+use Rattle.search.specs.Search.{seen_at, bounds_at}
+use Rattle.search.specs.Columns.{count_to, Bounds, Put, Filled}
+use Rattle.skyline.specs.Chunks.{listed, Gathered, Unhidden}
+use Rattle.skyline.specs.Laws.Chunks.{bounds-past, gathered_none, gathered-same, gathered-more, same_count, more-count, none-fits-before, chunk-grows, chunk-some}
+use Rattle.skyline.specs.Laws.Unhidden.{exceeds-none, columns-none, columns-some, unhidden-none, unhidden-within}
+use Rattle.search.specs.declared.search.Among.TheVariants.{Listed}
+use Rattle.skyline.proofs.chunks.next_chunk.Goals.{else-looks_at, then-looks_at}
+use Rattle.skyline.proofs.chunks.next_chunk.Goals as goal
+
+-- The two halves of the loop's test.
+inside : (i n : ℕ) (b : Bool) → (ltb i n && b) ≡ true → i < n
+inside i n b taken = ltb-true i n (and_left (ltb i n) b taken)
+
+room : (a : Bool) (count : ℕ) → (a && ltb count 64) ≡ true → count < 64
+room a count taken = ltb-true count 64 (and_right a (ltb count 64) taken)
+
+pub loop-i-init : goal.loop-i-init
+loop-i-init c =
+    let a = c.args in (
+      omega arith,
+      omega arith,
+      omega arith,
+      omega arith,
+      omega arith,
+      gathered_none a.h.size a.m.now a.from _ _,
+      unhidden-none a.h.size a.h.dimension a.m.now a.from a.from a.from,
+    )
+
+pub looks_at-requires : goal.looks_at-requires
+looks_at-requires c =
+    let s = c.before.before.before in
+    (s.requires.0, inside c.loop-i.i s.args.h.count _ c.loop-i-test.true)
+
+pub bounds_at-q-requires : goal.bounds_at-q-requires
+bounds_at-q-requires c =
+    let s = c.before.before.before.before.before in
+    let own = c.loop-i in
+    (s.requires.0, inside own.i s.args.h.count _ c.loop-i-test.true)
+
+pub some_fits-requires : goal.some_fits-requires
+some_fits-requires c =
+    let a = c.args in
+    let own = c.loop-i in
+    subst (Bounds a.h.dimension) (sym c.bounds_at-q.ensures) (bounds-past a.h.size a.h.dimension a.m.now own.i)
+
+pub returns-then-some_fits : goal.returns-then-some_fits
+unfolding Bytes
+returns-then-some_fits c =
+    let s = c.before.before.before.before.before.before.before.before.before.before.before in
+    let a = s.args in
+    let own = c.loop-i in
+    let bounds = c.bounds_at-q in
+    let bytes : Bytes a.m.now = λ k. omega (arith, c.shared_slice_known-1.given k) in
+    let some = ltb-true 0 own.count (and_left (ltb 0 own.count) (not c.exceeds.result) c.if-count-exceeds.true) in
+    record {
+      starts = refl;
+      more = λ e. both_ways e refl;
+      end = own.invariant.1;
+      gathered = own.invariant.5;
+      some = λ e. both_ways e refl;
+      said = record {
+        true-says = λ e. both_ways e refl;
+        false-says = λ _.
+            columns-some a.h.size a.h.dimension a.m.now own.i bounds.result bounds.ensures a.from own.i own.columns own.low own.invariant.5 bytes
+            (omega (arith, own.invariant.4, some)) (omega arith) a.h.count
+            (inside own.i a.h.count _ c.loop-i-test.true)
+            (sym c.looks_at.ensures ∙ c.if-looks_at.true)
+            (c.some_fits.ensures.true-says c.if-some_fits.true);
+      };
+    }
+
+pub seen_at-costs-requires : goal.seen_at-costs-requires
+seen_at-costs-requires c =
+    let s = c.before.before.before.before.before.before.before.before in
+    let own = c.loop-i in
+    (s.requires.0, inside own.i s.args.h.count _ c.loop-i-test.true)
+
+pub put-requires : goal.put-requires
+put-requires c =
+    let own = c.loop-i in
+    room (ltb own.i c.args.h.count) own.count
+    c.loop-i-test.true
+
+pub loop-i-smaller : goal.loop-i-smaller
+loop-i-smaller c =
+    let own = c.loop-i in
+    omega (arith, inside own.i c.args.h.count _ c.loop-i-test.true)
+
+pub loop-i-preserved : goal.loop-i-preserved
+loop-i-preserved c =
+    let a = c.args in
+    let own = c.loop-i in
+    let taken = c.loop-i-test.true in
+    let free = room (ltb own.i a.h.count) own.count taken in
+    let size = a.h.size in
+    let d = a.h.dimension in
+    let m = a.m.now in
+    let i = own.i in
+    let inv = own.invariant in
+    let shown = sym c.looks_at.ensures in (
+      omega arith,
+      omega (arith, inside own.i a.h.count _ taken),
+      elim c.if-looks_at.branch [ then-looks_at w ↦ omega (arith, w.count-is, free) | else-looks_at w ↦ omega (arith, w.count-is, free) ],
+      elim c.if-looks_at.branch [ then-looks_at w ↦ omega (arith, w.count-is, inv.3) | else-looks_at w ↦ omega (arith, w.count-is, inv.3) ],
+      elim c.if-looks_at.branch [ then-looks_at w ↦ omega (arith, w.count-is, more-count size m a.from i own.count own.columns own.low inv.0 inv.5 inv.4 (shown ∙ w.if-looks_at.true)) | else-looks_at w ↦ omega (arith, w.count-is, same_count size m a.from i own.count own.columns own.low inv.0 inv.5 inv.4 (shown ∙ w.if-looks_at.false)) ],
+      elim c.if-looks_at.branch [ then-looks_at w ↦ subst (λ (x : List ℕ). Gathered size m a.from (i + 1) x c.if-looks_at.low) (sym w.columns-is)
+          (subst (λ (x : List ℕ). Gathered size m a.from (i + 1) w.put.last.0 x) (sym w.low-is)
+          (gathered-more size m a.from i own.count own.columns own.low inv.0 inv.5 inv.4 (shown ∙ w.if-looks_at.true) free w.if-count-eq0.columns w.put.last.0 w.least-lower.result
+          (⊎_elim
+          (λ v. inl (v.0.taken, subst (Filled (seen_at Listed size m i)) (sym v.3) (subst (λ (x : List ℕ). Filled x v.2.last.0) w.seen_at-costs.ensures v.2.ensures)))
+          (λ v. inr (omega (arith, v.0.left), v.1))
+          w.if-count-eq0.came)
+          (subst (λ (x : List ℕ). Put w.if-count-eq0.columns own.count x w.put.last.0) w.seen_at-costs.ensures w.put.ensures)
+          (subst (λ (x : List ℕ). Lanes (lesser own.low x) w.least-lower.result) w.seen_at-costs.ensures w.least-lower.ensures))) | else-looks_at w ↦ subst (λ (x : List ℕ). Gathered size m a.from (i + 1) x c.if-looks_at.low) (sym w.columns-is)
+          (subst (λ (x : List ℕ). Gathered size m a.from (i + 1) own.columns x) (sym w.low-is)
+          (gathered-same size m a.from i own.count own.columns own.low inv.0 inv.5 inv.4 (shown ∙ w.if-looks_at.false))) ],
+      unhidden-within size d m a.from i inv.6
+          (λ t.
+          elim c.if-looks_at.branch [ then-looks_at w ↦ ⊎_elim
+          (λ u. columns-none size d m i w.bounds_at-q.result w.bounds_at-q.ensures a.from i own.columns own.low inv.5 (u.2.ensures.false-says u.3.left))
+          (λ u.
+          by_cases (ltb 0 own.count)
+          (λ some. exceeds-none size d m i w.bounds_at-q.result w.bounds_at-q.ensures a.from i own.columns own.low inv.5
+          (sym w.exceeds.ensures ∙ not-false w.exceeds.result (ap (λ (b : Bool). b && not w.exceeds.result) (sym some) ∙ u.left)))
+          (λ none. none-fits-before size m a.from i own.count own.columns own.low inv.0 inv.5 inv.4 (omega (arith, ltb-false 0 own.count none)) (bounds_at size d m i)))
+          w.if-count-exceeds.came | else-looks_at w ↦ both_ways t (shown ∙ w.if-looks_at.false) ]),
+    )
+
+pub returns : goal.returns
+returns c =
+    let own = c.loop-i in
+    let s = c.before.before.before in
+    record {
+      starts = refl;
+      more = λ _. chunk-grows s.args.from s.args.h.count own.i own.count s.requires.1 own.invariant.3 c.loop-i-test.false;
+      end = own.invariant.1;
+      gathered = own.invariant.5;
+      some = λ _ l. omega (arith, own.invariant.4, chunk-some s.args.h.count own.i own.count c.loop-i-test.false l);
+      said = record { true-says = λ _. own.invariant.6; false-says = λ e. both_ways refl e };
+    }

@@ -1,0 +1,77 @@
+use Prim.Native.Nat.{ℕ, ◌-◌, ◌≤◌}
+use mathlib.Core.Logic.{⊎_elim}
+use mathlib.Core.Path.{◌≡◌, refl, sym, ◌∙◌, subst}
+use native.Mathlib.Omega.{arith}
+use borrow.Author.Tests.{not-false}
+use Rattle.model.proofs.Laws.Bool.{both_ways}
+use Rattle.promises.specs.Run.{Bytes}
+use Rattle.search.specs.Columns.{Bounds}
+use Rattle.skyline.specs.Chunks.{Gathered, Unhidden}
+use Rattle.skyline.specs.Laws.Chunks.{bounds-past}
+use Rattle.skyline.specs.Laws.Unhidden.{exceeds-none, columns-none, columns-some, unhidden-none, unhidden-more}
+use Rattle.skyline.proofs.chunks.run_unhidden.Goals.{else-looks_at, then-looks_at+else-not-exceeds, then-looks_at+then-not-exceeds+else-some_fits}
+use Rattle.skyline.proofs.chunks.run_unhidden.Goals as goal
+
+pub loop-j-init : goal.loop-j-init
+loop-j-init c =
+    let x = c.args in
+    (omega arith, omega arith, λ a b g. unhidden-none x.h.size x.h.dimension x.m.now a b x.i)
+
+pub looks_at-requires : goal.looks_at-requires
+looks_at-requires c = (c.requires.readable.0, omega arith)
+
+pub bounds_at-q-requires : goal.bounds_at-q-requires
+bounds_at-q-requires c = (c.requires.readable.0, omega arith)
+
+pub some_fits-requires : goal.some_fits-requires
+some_fits-requires c =
+    let x = c.args in
+    let own = c.loop-j in
+    subst (Bounds x.h.dimension) (sym c.bounds_at-q.ensures) (bounds-past x.h.size x.h.dimension x.m.now own.j)
+
+pub returns-then-some_fits : goal.returns-then-some_fits
+unfolding Bytes
+returns-then-some_fits c =
+    let s = c.before.before.before.before.before.before.before.before.before.before.before in
+    let x = s.args in
+    let own = c.loop-j in
+    let bounds = c.bounds_at-q in
+    let bytes : Bytes x.m.now = λ i. omega (arith, c.shared_slice_known-1.given i) in
+    record {
+      true-says = λ e. both_ways e refl;
+      false-says = λ _.
+          columns-some x.h.size x.h.dimension x.m.now own.j bounds.result bounds.ensures x.chunk.from x.chunk.to x.columns.now x.chunk.low
+          s.requires.gathered_chunk.0 bytes s.requires.gathered_chunk.1 (omega (arith, s.requires.readable, own.invariant)) x.h.count
+          (omega (arith, s.requires.readable, c.loop-j-test.true))
+          (sym c.looks_at.ensures ∙ c.if-looks_at.true)
+          (c.some_fits.ensures.true-says c.if-some_fits.true);
+    }
+
+pub loop-j-preserved : goal.loop-j-preserved
+loop-j-preserved c =
+    let x = c.args in
+    let own = c.loop-j in
+    let size = x.h.size in
+    let d = x.h.dimension in
+    let m = x.m.now in
+    let columns = x.columns.now in
+    let low = x.chunk.low in (
+      omega arith,
+      omega (arith, c.loop-j-test.true),
+      λ a b g. unhidden-more size d m a b x.i own.j (own.invariant.2 a b g)
+          (λ shown.
+          elim c.if-looks_at.branch [ then-looks_at+then-not-exceeds+else-some_fits w ↦ columns-none size d m own.j w.bounds_at-q.result w.bounds_at-q.ensures a b columns low g (w.some_fits.ensures.false-says w.if-some_fits.false) | then-looks_at+else-not-exceeds w ↦ exceeds-none size d m own.j w.bounds_at-q.result w.bounds_at-q.ensures a b columns low g (sym w.exceeds.ensures ∙ not-false w.exceeds.result w.if-not-exceeds.false) | else-looks_at w ↦ both_ways shown (sym c.looks_at.ensures ∙ w.if-looks_at.false) ]),
+    )
+
+pub returns : goal.returns
+returns c =
+    let s = c.before.before.before.before in
+    let x = s.args in
+    let own = c.loop-j in
+    let all : own.j ≡ x.to = omega arith in
+    record {
+      true-says = λ _.
+          subst (Unhidden x.h.size x.h.dimension x.m.now x.chunk.from x.chunk.to x.i) all
+          (own.invariant.2 x.chunk.from x.chunk.to s.requires.gathered_chunk.0);
+      false-says = λ e. both_ways refl e;
+    }

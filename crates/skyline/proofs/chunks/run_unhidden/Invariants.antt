@@ -1,0 +1,20 @@
+-- `chunks::run_unhidden` meets its contract. The loop's invariant: no move of the columns hides a place passed. Assumes nothing.
+use Prim.Native.Nat.{ℕ, ◌-◌, ◌≤◌}
+use mathlib.Core.Logic.{⊎_elim}
+use mathlib.Core.Path.{◌≡◌, refl, sym, ◌∙◌, subst}
+use native.Mathlib.Omega.{arith}
+use borrow.Author.Tests.{not-false}
+use Rattle.model.proofs.Laws.Bool.{both_ways}
+use Rattle.promises.specs.Run.{Bytes}
+use Rattle.search.specs.Columns.{Bounds}
+use Rattle.skyline.specs.Chunks.{Gathered, Unhidden}
+use Rattle.skyline.specs.Laws.Chunks.{bounds-past}
+use Rattle.skyline.specs.Laws.Unhidden.{exceeds-none, columns-none, columns-some, unhidden-none, unhidden-more}
+use Rattle.skyline.proofs.chunks.run_unhidden.Given as goal
+
+abbrev pub invariant-loop-j : goal.invariant-loop-j
+invariant-loop-j l =
+    (l.i ≤ l.j) × (l.j ≤ l.to) × ((a b : ℕ) → Gathered l.h.size l.m a b l.columns l.low → Unhidden l.h.size l.h.dimension l.m a b l.i l.j)
+
+abbrev pub decreases-loop-j : goal.decreases-loop-j
+decreases-loop-j l = l.to - l.j

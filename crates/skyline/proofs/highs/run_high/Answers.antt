@@ -1,0 +1,36 @@
+use Prim.Native.Nat.{ℕ, ◌+◌, ◌-◌, ◌≤◌}
+use mathlib.Core.List.{List}
+use mathlib.Core.Logic.{⊎_elim}
+use mathlib.Core.Path.{◌≡◌, sym, ◌∙◌, subst}
+use native.Mathlib.Omega.{arith}
+use Rattle.dominance.specs.Lanes.{Lanes, greater}
+use Rattle.skyline.specs.Chunks.{HighWith}
+use Rattle.skyline.specs.Laws.Highs.{high-none, high_same, high-more}
+use Rattle.skyline.proofs.highs.run_high.Goals.{else-looks_at, then-looks_at}
+use Rattle.skyline.proofs.highs.run_high.Goals as goal
+
+pub loop-j-init : goal.loop-j-init
+loop-j-init c = (omega arith, omega arith, high-none _ _)
+
+pub looks_at-requires : goal.looks_at-requires
+looks_at-requires c = (c.requires.0, omega arith)
+
+pub bounds_at-requires : goal.bounds_at-requires
+bounds_at-requires c = (c.requires.0, omega arith)
+
+pub loop-j-preserved : goal.loop-j-preserved
+loop-j-preserved c =
+    let own = c.loop-j in
+    let a = c.args in
+    let With : List ℕ → Type 0 = λ r. HighWith a.h.size a.h.dimension a.m.now a.i (own.j + 1) a.high r in (
+      omega arith,
+      omega arith,
+      elim c.if-looks_at.branch [ then-looks_at w ↦ subst With (sym w.top-is) (high-more _ (subst (λ (x : List ℕ). Lanes (greater own.top x) w.greatest-higher.result) w.bounds_at.ensures w.greatest-higher.ensures) own.invariant.2) | else-looks_at w ↦ subst With (sym w.top-is) (high_same (sym c.looks_at.ensures ∙ w.if-looks_at.false) own.invariant.2) ],
+    )
+
+pub returns : goal.returns
+returns c =
+    let own = c.loop-j in
+    let a = c.args in
+    let all : own.j ≡ a.to = omega arith in
+    subst (λ (n : ℕ). HighWith a.h.size a.h.dimension a.m.now a.i n a.high own.top) all own.invariant.2

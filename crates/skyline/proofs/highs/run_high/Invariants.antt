@@ -1,0 +1,16 @@
+-- `highs::run_high` meets its contract. The loop's invariant: the row is that with the places passed. Assumes nothing.
+use Prim.Native.Nat.{ℕ, ◌+◌, ◌-◌, ◌≤◌}
+use mathlib.Core.List.{List}
+use mathlib.Core.Logic.{⊎_elim}
+use mathlib.Core.Path.{◌≡◌, sym, ◌∙◌, subst}
+use native.Mathlib.Omega.{arith}
+use Rattle.dominance.specs.Lanes.{Lanes, greater}
+use Rattle.skyline.specs.Chunks.{HighWith}
+use Rattle.skyline.specs.Laws.Highs.{high-none, high_same, high-more}
+use Rattle.skyline.proofs.highs.run_high.Given as goal
+
+abbrev pub invariant-loop-j : goal.invariant-loop-j
+invariant-loop-j l = (l.i ≤ l.j) × (l.j ≤ l.to) × HighWith l.h.size l.h.dimension l.m l.i l.j l.initial.top l.top
+
+abbrev pub decreases-loop-j : goal.decreases-loop-j
+decreases-loop-j l = l.to - l.j
