@@ -2,7 +2,5 @@
 pub mod Tab
 pub mod Answers
 pub mod Stands
-pub mod Demand3
-pub mod BroughtUp
 pub mod Accept
 pub mod Written

@@ -18,7 +18,7 @@ use Rattle.promises.specs.Answers.{answer_of}
 use Rattle.promises.specs.Promise.{ChangeSaid}
 use Rattle.promises.specs.Run.{Bytes}
 use Rattle.promises.specs.Laws.Stands.{stands-moves, sound-board}
-use Rattle.promises.specs.Laws.Demand3.{said-rows}
+use Rattle.promises.proofs.Demand3.{said-rows}
 use Rattle.promises.specs.declared.CallResult.{CallResult}
 
 -- A refused call tells no row.
