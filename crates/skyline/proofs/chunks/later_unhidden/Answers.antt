@@ -21,7 +21,7 @@ run_unhidden-requires c =
     let asked = c.requires in
     let own = c.loop-f in
     let e = c.run_end-e in
-    record { readable = (asked.readable.0, own.invariant.0, omega (arith, e.ensures), omega (arith, e.ensures)); gathered_chunk = (asked.gathered_chunk.0.0, asked.gathered_chunk.0.1 (omega (arith, own.invariant, e.ensures))) }
+    record { readable = (asked.readable.0, own.invariant.0, omega (arith, e.ensures), omega (arith, e.ensures)); gathered_chunk = (asked.gathered_chunk.0, asked.gathered_chunk.1 (omega (arith, own.invariant, e.ensures))) }
 
 pub returns-then-not-run_unhidden : goal.returns-then-not-run_unhidden
 returns-then-not-run_unhidden c = record { true-says = λ e. both_ways e refl; false-says = λ _. c.run_unhidden.ensures.false-says (c.if-not-run_unhidden.true) }
@@ -47,7 +47,7 @@ loop-f-preserved c =
       omega (arith, own.invariant, e.ensures),
       omega (arith, e.ensures),
       unhidden-join a.h.size a.h.dimension a.m.now a.chunk.from a.chunk.to a.chunk.to own.f e.result own.invariant.2
-          (high-unhidden a.chunk.from a.chunk.to a.h.count own.f e.result a.columns.now a.chunk.low a.highs.now s.requires.gathered_chunk.0.0 s.requires.gathered_chunk.1 e.ensures.2 e.ensures.1
+          (high-unhidden a.chunk.from a.chunk.to a.h.count own.f e.result a.columns.now a.chunk.low a.highs.now s.requires.gathered_chunk.0 s.requires.highs e.ensures.2 e.ensures.1
           (sym c.exceeds.ensures ∙ c.if-not-exceeds.false)),
     )
 

@@ -8,19 +8,8 @@ use lib.ListN.{length}
 use Rattle.promises.specs.Run.{Bytes}
 use Rattle.skyline.specs.Chunks.{Unhidden, Highs}
 use Rattle.skyline.specs.Laws.Unhidden.{unhidden-none, unhidden-chunk, unhidden-right, hidden-wrong}
-use Rattle.skyline.proofs.chunks.listed_right.Goals.{Joined-from-eq0}
 use Rattle.skyline.proofs.chunks.listed_right.Goals.{else-from-eq0, then-from-eq0}
 use Rattle.skyline.proofs.chunks.listed_right.Goals as goal
-
--- The greatest bounds were made for the first chunk, or are there.
-highs-there : (c : Joined-from-eq0)
-    → Highs c.args.h.size c.args.h.dimension
-    c.args.m.now c.args.h.count c.if-from-eq0.highs
-highs-there c =
-    let a = c.args in
-    let own = c.loop-from in
-    let There : List (List ℕ) → Type 0 = Highs a.h.size a.h.dimension a.m.now a.h.count in
-    elim c.if-from-eq0.branch [ then-from-eq0 w ↦ subst There (sym w.highs-is) w.put_highs.ensures | else-from-eq0 w ↦ subst There (sym w.highs-is) (own.invariant.3 (omega (arith, w.if-from-eq0.false)) (omega (arith, c.loop-from-test.true))) ]
 
 pub loop-from-init : goal.loop-from-init
 loop-from-init c = (omega arith, λ j l g t k z s. absurd (omega arith), c.requires.2, λ l. absurd (omega arith))
@@ -45,16 +34,18 @@ put_highs-requires c =
 
 pub later_unhidden-requires : goal.later_unhidden-requires
 later_unhidden-requires c =
+    let a = c.args in
+    let own = c.loop-from in
     let next = c.next_chunk-chunk in
-    let unhidden = not-false next.result.unhidden c.if-not-chunk.false in (
-      (c.requires.0, next.ensures.end),
-      ((next.ensures.gathered, next.ensures.some unhidden), highs-there c.before.before),
-    )
+    let unhidden = not-false next.result.unhidden c.if-not-chunk.false in
+    -- The greatest bounds were made for the first chunk, or are there.
+    let There : List (List ℕ) → Type 0 = Highs a.h.size a.h.dimension a.m.now a.h.count in
+    record { readable = (c.requires.0, next.ensures.end); gathered_chunk = (next.ensures.gathered, next.ensures.some unhidden); highs = elim c.if-from-eq0.branch [ then-from-eq0 w ↦ subst There (sym w.highs-is) w.put_highs.ensures | else-from-eq0 w ↦ subst There (sym w.highs-is) (own.invariant.3 (omega (arith, w.if-from-eq0.false)) (omega (arith, c.loop-from-test.true))) ] }
 
 pub returns-then-not-later_unhidden : goal.returns-then-not-later_unhidden
 unfolding Bytes
 returns-then-not-later_unhidden c =
-    let s = c.before.before.before.before.before.before.before.before.before.before.before.before.before.before in
+    let s = c in
     let a = s.args in
     let bytes : Bytes a.m.now = λ i. omega (arith, c.shared_slice_known-1.given i) in
     let later = c.later_unhidden in
@@ -72,7 +63,9 @@ loop-from-preserved-else-not-later_unhidden c =
     let a = c.args in
     let own = c.loop-from in
     let next = c.next_chunk-chunk in
-    let there = highs-there c.before.before.before.before in
+    let There : List (List ℕ) → Type 0 = Highs a.h.size a.h.dimension a.m.now a.h.count in
+    let there : Highs a.h.size a.h.dimension a.m.now a.h.count c.if-from-eq0.highs =
+        elim c.if-from-eq0.branch [ then-from-eq0 w ↦ subst There (sym w.highs-is) w.put_highs.ensures | else-from-eq0 w ↦ subst There (sym w.highs-is) (own.invariant.3 (omega (arith, w.if-from-eq0.false)) (omega (arith, c.loop-from-test.true))) ] in
     let n = a.h.count in
     let to = next.result.to in
     let later = c.later_unhidden in (

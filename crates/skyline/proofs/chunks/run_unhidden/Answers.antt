@@ -60,7 +60,7 @@ loop-j-preserved c =
       omega (arith, c.loop-j-test.true),
       λ a b g. unhidden-more size d m a b x.i own.j (own.invariant.2 a b g)
           (λ shown.
-          elim c.if-looks_at.branch [ then-looks_at+then-not-exceeds+else-some_fits w ↦ columns-none size d m own.j w.bounds_at-q.result w.bounds_at-q.ensures a b columns low g (w.some_fits.ensures.false-says w.if-some_fits.false) | then-looks_at+else-not-exceeds w ↦ exceeds-none size d m own.j w.bounds_at-q.result w.bounds_at-q.ensures a b columns low g (sym w.exceeds.ensures ∙ not-false w.exceeds.result w.if-not-exceeds.false) | else-looks_at w ↦ both_ways shown (sym c.looks_at.ensures ∙ w.if-looks_at.false) ]),
+          elim c.if-looks_at.branch [ then-looks_at+then-not-exceeds+else-some_fits w ↦ columns-none size d m own.j w.bounds_at-q.result w.bounds_at-q.ensures a b columns low g (w.some_fits.ensures.false-says w.if-some_fits.false) | then-looks_at+else-not-exceeds w ↦ exceeds-none size d m own.j w.bounds_at-q.result w.bounds_at-q.ensures a b columns low g (sym w.exceeds.ensures ∙ w.if-not-exceeds.false) | else-looks_at w ↦ both_ways shown (sym c.looks_at.ensures ∙ w.if-looks_at.false) ]),
     )
 
 pub returns : goal.returns

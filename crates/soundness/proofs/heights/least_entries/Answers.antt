@@ -5,8 +5,7 @@ use mathlib.Core.Path.{◌≡◌, refl, sym, ap, ◌∙◌}
 use native.Mathlib.Omega.{arith}
 use borrow.Author.Tests.{le-leb, lt-leb}
 use Rattle.line.specs.Heights.{root_count}
-use Rattle.soundness.proofs.heights.least_entries.Statement.{statement}
-use Rattle.soundness.proofs.heights.least_entries.Tie as tie
+use Rattle.soundness.proofs.heights.least_entries.Goals as goal
 
 root-leaf : (l : ℕ) → 0 < l → l < 2 → root_count l ≡ 1
 unfolding root_count
@@ -20,20 +19,17 @@ root-upper zero h = absurd (omega arith)
 root-upper (suc zero) h = absurd (omega arith)
 root-upper (suc (suc l)) h = refl
 
-returns : tie.Need-returns
-returns c =
-    let a = c.before.args in
+pub returns-then-l-top : goal.returns-then-l-top
+returns-then-l-top c =
+    let a = c.args in
     ap (λ (b : Bool). cond b (root_count a.l) 3) (sym (lt-leb a.top a.l (omega arith)))
 
-returns-2 : tie.Need-returns-2
-returns-2 c =
-    let a = c.before.before.args in
+pub returns-then-l-lt2 : goal.returns-then-l-lt2
+returns-then-l-lt2 c =
+    let a = c.args in
     sym (ap (λ (b : Bool). cond b (root_count a.l) 3) (le-leb a.top a.l (omega arith)) ∙ root-leaf a.l (omega arith) (omega arith))
 
-returns-3 : tie.Need-returns-3
-returns-3 c =
-    let a = c.before.before.args in
+pub returns-else-l-lt2 : goal.returns-else-l-lt2
+returns-else-l-lt2 c =
+    let a = c.args in
     sym (ap (λ (b : Bool). cond b (root_count a.l) 3) (le-leb a.top a.l (omega arith)) ∙ root-upper a.l (omega arith))
-
-pub least-entries-spec : {M : Type 1} → statement M
-least-entries-spec = tie.close (tie.spec returns returns-2 returns-3)

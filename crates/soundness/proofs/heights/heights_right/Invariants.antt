@@ -1,0 +1,17 @@
+-- `heights::heights_right` meets its contract. The loop's invariant: the levels that are left give the whole answer.
+-- Assumes nothing.
+use Prim.Native.Nat.{ℕ}
+use mathlib.Core.Bool.{true, false}
+use mathlib.Core.Path.{◌≡◌, sym, ap, ◌∙◌}
+use native.Mathlib.Omega.{arith}
+use borrow.Author.Tests.{eqb-true, eqb-false, not-true, not-false}
+use Rattle.line.specs.Heights.{first_highest, counts_at, levels_right, heights_right}
+use Rattle.promises.specs.Layout.{heights_from}
+use Rattle.soundness.specs.Laws.Levels.{heights-none, heights-by, level-right, level-wrong}
+use Rattle.soundness.proofs.heights.heights_right.Given as goal
+
+abbrev pub invariant-loop-l : goal.invariant-loop-l
+invariant-loop-l l = levels_right l.top l.l (heights_from l.c l.n l.m) ≡ heights_right (heights_from l.c l.n l.m)
+
+abbrev pub decreases-loop-l : goal.decreases-loop-l
+decreases-loop-l l = l.l
