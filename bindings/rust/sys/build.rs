@@ -1,22 +1,22 @@
-//! Links the archives that the file bindings/archives names. `DOLZHEV_LIBS` is their folder; without it, the repository's
-//! `target/staticlib`.
+//! Links the archives that the file bindings/archives names. `DOLZHEV_LIBS` is their folder; without it, each lies where
+//! `rt lib` puts it, in the folder `out` of its crate.
 use std::env;
 use std::path::PathBuf;
 
 const ARCHIVES: &str = include_str!("../../archives");
 
-fn folder() -> PathBuf {
+fn folder(name: &str) -> PathBuf {
     match env::var_os("DOLZHEV_LIBS") {
         Some(folder) => PathBuf::from(folder),
-        None => PathBuf::from(env!("CARGO_MANIFEST_DIR")).join("../../../target/staticlib"),
+        None => PathBuf::from(env!("CARGO_MANIFEST_DIR")).join(format!("../../../crates/{name}/out")),
     }
 }
 
 fn main() {
-    let folder = folder();
     println!("cargo::rerun-if-env-changed=DOLZHEV_LIBS");
-    println!("cargo::rustc-link-search=native={}", folder.display());
     for name in ARCHIVES.split_whitespace() {
+        let folder = folder(name);
+        println!("cargo::rustc-link-search=native={}", folder.display());
         let archive = folder.join(format!("lib{name}.a"));
         if !archive.is_file() {
             println!("cargo::error={} is missing: bindings/run builds it", archive.display());

@@ -21,7 +21,7 @@ fn archive_names() -> Vec<String> {
 
 /// The archive that the tests are linked to.
 fn archive(name: &str) -> PathBuf {
-    let built = bindings().join("../target/staticlib");
+    let built = bindings().join(format!("../crates/{name}/out"));
     let folder = std::env::var_os("DOLZHEV_LIBS").map_or(built, PathBuf::from);
     folder.join(format!("lib{name}.a"))
 }

@@ -157,8 +157,10 @@ fn calls_are_found() {
 /// The name is called as before, but means another function.
 #[test]
 fn imports_are_found() {
-    let found = edited("query", "use dominance::exceeds_in;", "dominance::", "crate::band::");
-    assert!(found.contains(&"query::dominates_at: which `exceeds_in` is meant?".to_string()), "{found:?}");
+    for other in ["};\nuse crate::band::exceeds_in;", ", bounds_in as exceeds_in};"] {
+        let found = edited("query", "use dominance::{count_greater", ", exceeds_in};", other);
+        assert!(found.contains(&"query::dominates_at: which `exceeds_in` is meant?".to_string()), "{found:?}");
+    }
 }
 
 /// Words of comments and contracts are no branches, shifts no signs.
@@ -168,7 +170,7 @@ fn comments_contracts_and_shifts_pass() {
         ("dominance::less", LESS, "// if a < b { 1 } else { 0 }\n    (65535 + wide(b) - wide(a)) / 65536"),
         ("dominance::exceeds", LOOP, "while i < COSTS { // && greater == 0"),
         ("dominance::exceeds_in", "(set >> i) % 2", "(set >> i << 1 >> 1) % 2"),
-        ("query::dominates_on", "requires { ⌜ (d ≤ rowCosts)", "requires { ⌜ match (d < rowCosts)"),
+        ("query::dominates_on", "d ≤ row_costs", "match d < row_costs"),
     ] {
         assert_eq!(faults_with(edit), [""; 0], "{edit:?}");
     }

@@ -152,13 +152,23 @@ fn faults_of(function: &Function, body: &[Word]) -> Vec<String> {
     faults
 }
 
+/// Whether a `use` item brings the name from the crate, alone or among others in braces, and under this name.
+fn is_imported(words: &[Word], krate: &str, name: &str) -> bool {
+    let start = ["use", krate, "::"];
+    let follows = |from: usize| words[from..].iter().map(|w| w.text).take(start.len()).eq(start);
+    (0..words.len()).filter(|&from| follows(from)).any(|from| {
+        let item = words[from + start.len()..].split(|w| w.text == ";").next().unwrap_or_default();
+        let names = match item {
+            [open, names @ .., close] if open.text == "{" && close.text == "}" => names,
+            names => names,
+        };
+        names.split(|w| w.text == ",").any(|words| is_text(words, name))
+    })
+}
+
 /// A name that a crate calls is its own, or comes from the crate that the table has it of.
 fn is_known(words: &[Word], callee: &str) -> bool {
-    let imports = |krate: &str| {
-        let import = ["use", krate, "::", callee, ";"];
-        words.windows(import.len()).any(|w| w.iter().map(|w| w.text).eq(import))
-    };
-    let imported = FUNCTIONS.iter().any(|f| f.name == callee && imports(f.krate));
+    let imported = FUNCTIONS.iter().any(|f| f.name == callee && is_imported(words, f.krate, callee));
     (bodies(words, callee).len() == 1) != imported
 }
 

@@ -1,0 +1,44 @@
+use Prim.Native.Nat.{◌-◌}
+use mathlib.Core.Path.{◌≡◌, refl, sym, ap, ◌∙◌}
+use native.Mathlib.Numerals.{add-one}
+use native.Mathlib.Omega.{arith}
+use Rattle.rows.specs.Telling.{positions, told_from}
+use Rattle.rows.specs.Laws.Telling.{from_told, from-other, from_end, next-told, next-none}
+use Rattle.rows.proofs.telling.told_next.Goals as goal
+
+pub overflow_add-end : goal.overflow_add-end
+overflow_add-end c = let asked = c.requires.readable in omega (arith, asked.rows, asked.room.1)
+
+pub loop-j-init : goal.loop-j-init
+loop-j-init c = (refl, refl)
+
+pub is_told-requires : goal.is_told-requires
+is_told-requires c = (c.requires, omega (arith, c.loop-j.invariant.0, c.loop-j-test.true))
+
+pub row_at-requires : goal.row_at-requires
+row_at-requires c = (c.requires, omega (arith, c.loop-j.invariant.0, c.loop-j-test.true))
+
+pub returns-then-is_told : goal.returns-then-is_told
+returns-then-is_told c =
+    let a = c.args in
+    let own = c.loop-j in
+    let here = sym own.invariant.1 ∙ from_told a.t a.numbers.now a.m.now own.j (omega (arith, own.invariant.0, c.loop-j-test.true)) (sym c.is_told.ensures ∙ c.if-is_told.true) in
+    let next = next-told a.t a.numbers.now a.m.now a.i here in
+    (c.row_at.ensures ∙ sym next.0, add-one own.j ∙ sym next.1)
+
+pub loop-j-preserved : goal.loop-j-preserved
+loop-j-preserved c =
+    let a = c.args in
+    let own = c.loop-j in (
+      own.invariant.0,
+      ap (told_from a.t a.numbers.now a.m.now) (add-one own.j)
+          ∙ sym (from-other a.t a.numbers.now a.m.now own.j (omega (arith, own.invariant.0, c.loop-j-test.true)) (sym c.is_told.ensures ∙ c.if-is_told.false))
+          ∙ own.invariant.1,
+    )
+
+pub returns : goal.returns
+returns c =
+    let a = c.args in
+    let own = c.loop-j in
+    let next = next-none a.t a.numbers.now a.m.now a.i (sym own.invariant.1 ∙ from_end a.t a.numbers.now a.m.now own.j (omega (arith, own.invariant.0, c.loop-j-test.false))) in
+    (sym next.0, own.invariant.0 ∙ sym next.1)
