@@ -19,7 +19,7 @@ mod week;
 mod word;
 
 use std::fs::File;
-use std::rt::Files;
+use std::rt::{Env, Files};
 use std::{env, io};
 
 // A file that can't be opened is named on standard error, and the next ones are read all the same.
@@ -32,9 +32,18 @@ fn named(rt: &(impl Files + Print + Eprint), name: &str) -> io::Result<()> {
     println!(rt; "{name} {} agree, {} passed by", r.agree, r.passed)
 }
 
+// The file that the argument at place i names.
+fn argument(rt: &(impl Env + Alloc + Files + Print + Eprint), i: usize) -> io::Result<()> {
+    if let Some(name) = env::args(rt)?.nth(i) {
+        named(rt, name.as_str())?;
+    }
+    Ok(())
+}
+
 fn main(rt: HostRuntime) -> io::Result<()> {
-    for name in env::args(&rt)?.skip(1) {
-        named(&rt, name.as_str())?;
+    let count = env::args(&rt)?.len();
+    for i in 1..count {
+        argument(&rt, i)?;
     }
     Ok(())
 }
