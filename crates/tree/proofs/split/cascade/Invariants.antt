@@ -1,0 +1,14 @@
+-- `split::cascade` meets its contract. The loop's invariant: what is left to do from the present line is what was left at
+-- first (`Cascade`). Assumes nothing.
+use Prim.Native.Nat.{suc, ◌+◌}
+use mathlib.Core.Path.{ap, ◌∙◌}
+use native.Mathlib.Numerals.{add-one}
+use native.Mathlib.Omega.{arith}
+use Rattle.tree.specs.Laws.Cascade.{Climbed, climb-first, climb-end, climb-few, climb-nine, climb-more}
+use Rattle.tree.proofs.split.cascade.Given as goal
+
+abbrev pub invariant-loop-left : goal.invariant-loop-left
+invariant-loop-left l = Climbed l.h.size l.h.dimension l.h.count l.p l.initial.m l.m l.left l.l
+
+abbrev pub decreases-loop-left : goal.decreases-loop-left
+decreases-loop-left l = l.left

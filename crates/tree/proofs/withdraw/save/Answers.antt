@@ -1,0 +1,38 @@
+use Prim.Native.Nat.{◌+◌, ◌-◌, ◌≤◌}
+use mathlib.Core.Logic.{⊎_elim}
+use mathlib.Core.Path.{◌≡◌, sym, ap, ◌∙◌, subst₂}
+use native.Mathlib.Omega.{arith}
+use Rattle.memory.specs.Stores.{set_work}
+use Rattle.tree.specs.Withdraw.{others}
+use Rattle.tree.specs.Laws.Saving.{Saving, saving-none, saving-less, saving-more}
+use Rattle.tree.proofs.withdraw.save.Goals.{else-other-number, then-other-number}
+use Rattle.tree.proofs.withdraw.save.Goals as goal
+
+pub loop-i-init : goal.loop-i-init
+loop-i-init c =
+    let a = c.args in
+    (omega arith, saving-none a.c a.from a.number a.m.now)
+
+pub loop-i-preserved : goal.loop-i-preserved
+loop-i-preserved c =
+    let a = c.args in
+    let own = c.loop-i in
+    let read = c.number_at-other.ensures in (
+      omega arith,
+      elim c.if-other-number.branch [ then-other-number w ↦ subst₂ (λ k m. Saving a.c a.from (own.i + 1) a.number k a.m.now m) (sym w.k-is)
+          (sym (w.m-is ∙ w.set_work.ensures ∙ ap (λ v. set_work a.c own.k v own.m) read))
+          (saving-more a.c a.from a.number a.m.now own.i own.k own.m own.invariant.1 (omega arith) (omega arith) (λ e. w.if-other-number.true (read ∙ e))) | else-other-number w ↦ subst₂ (λ k m. Saving a.c a.from (own.i + 1) a.number k a.m.now m) (sym w.k-is) (sym w.m-is)
+          (saving-less a.c a.from a.number a.m.now own.i own.k own.m own.invariant.1 (omega arith) (sym read ∙ w.if-other-number.false)) ],
+    )
+
+pub returns : goal.returns
+returns c =
+    let a = c.args in
+    let own = c.loop-i in
+    let end : own.i ≡ a.to = omega arith in
+    let s = own.invariant.1 in
+    record {
+      few = omega arith;
+      numbers = s.numbers ∙ ap (λ i. others a.c a.from i a.number a.m.now) end;
+      frame = s.frame;
+    }
