@@ -10,6 +10,7 @@ use crate::tally::{Tally, add, count};
 use crate::told::spoken;
 use crate::week::block_of;
 use loading::INPUT;
+use std::io;
 use zorder::COSTS;
 
 // The bytes that the largest board needs.
@@ -78,43 +79,52 @@ fn first(t: &mut Table, m: &mut [u8], i: usize, s: usize) -> Plain {
     loaded(none, t, m, s, rows(s / 65536, c))
 }
 
-fn counted(u: Tally, b: Plain) -> Tally {
+fn counted(rt: &impl Print, u: Tally, b: Plain) -> io::Result<Tally> {
     let boards = add(u, b'#', 1);
     let largest = add(boards, b'^', b.c / 4096);
-    count(largest, b'L', b)
+    count(rt, largest, b'L', b)
 }
 
-fn one(t: &mut Table, m: &mut [u8; MEMORY], u: Tally, i: usize, s: usize) -> Tally {
+fn one(
+    rt: &impl Print,
+    t: &mut Table,
+    m: &mut [u8; MEMORY],
+    u: Tally,
+    i: usize,
+    s: usize,
+) -> io::Result<Tally> {
     let b = first(t, m, i, s);
     run(
+        rt,
         b,
         t,
         m,
-        counted(u, b),
+        counted(rt, u, b)?,
         s / 2,
         if b.c == 4096 { 30 } else { 300 },
     )
 }
 
 // Memory a byte too short for the least board: no load, and no board.
-fn short(t: &mut Table) -> Tally {
+fn short(rt: &impl Print, t: &mut Table) -> io::Result<Tally> {
     let mut m = [0u8; 2047];
     let b = bare(0, 2, 0);
     let said = spoken(b, load(&mut m, 16, 2, &[], 0), 0, 0);
     let after = judged(answer(b, 1, 0, 0), said, t, b'L', 0);
-    run(after, t, &mut m, count([0u64; 128], b'L', after), 1, 300)
+    let counts = count(rt, [0u64; 128], b'L', after)?;
+    run(rt, after, t, &mut m, counts, 1, 300)
 }
 
 // Runs so many boards.
-pub fn all(t: &mut Table, m: &mut [u8; MEMORY], n: usize) -> Tally {
-    let mut counts = short(t);
+pub fn all(rt: &impl Print, t: &mut Table, m: &mut [u8; MEMORY], n: usize) -> io::Result<Tally> {
+    let mut counts = short(rt, t)?;
     let mut s = 88172645463325252;
     let mut i = 0;
     while i < n {
-        let more = one(t, m, counts, i, s);
+        let more = one(rt, t, m, counts, i, s)?;
         counts = more;
         s = dice::next(s ^ 12345);
         i += 1;
     }
-    counts
+    Ok(counts)
 }

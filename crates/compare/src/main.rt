@@ -6,6 +6,8 @@
 #![tactic(auto)]
 
 use rows::ROW;
+use std::io;
+use std::rt::Env;
 
 mod ask;
 mod boards;
@@ -23,18 +25,18 @@ mod told;
 mod week;
 
 // The number of boards that the word asks for.
-fn boards_asked() -> usize {
+fn boards_asked(rt: &impl Env) -> usize {
     let mut word = [0u8; 8];
-    if os::arg(1, &mut word) == 0 {
+    if rt.arg(1, &mut word).unwrap_or(0) == 0 {
         1200
     } else {
         40000
     }
 }
 
-fn main() {
+fn main(rt: HostRuntime) -> io::Result<()> {
     let mut t = [[0u16; ROW]; table::TABLE];
     let mut m = [0u8; boards::MEMORY];
-    let u = boards::all(&mut t, &mut m, boards_asked());
-    tally::put_all(&u);
+    let u = boards::all(&rt, &mut t, &mut m, boards_asked(&rt))?;
+    tally::put_all(&rt, &u)
 }

@@ -9,6 +9,7 @@ use crate::plain::Plain;
 use crate::table::Table;
 use crate::tally::{Tally, add, count, count_preview};
 use crate::{change, dice};
+use std::io;
 
 // A board in its run, and what was counted so far.
 #[derive(Clone, Copy)]
@@ -35,52 +36,73 @@ fn preview(b: Plain, t: &mut Table, m: &[u8], k: Call) -> Plain {
     judged(want, said, t, k.letter, nodes)
 }
 
-fn called(r: Progress, t: &mut Table, m: &mut [u8], k: Call) -> Progress {
+fn called(
+    rt: &impl Print,
+    r: Progress,
+    t: &mut Table,
+    m: &mut [u8],
+    k: Call,
+) -> io::Result<Progress> {
     let b = r.board;
     let u = r.counts;
     let board = call(b, t, m, k);
-    Progress {
+    Ok(Progress {
         board,
-        counts: count(u, k.letter, board),
-    }
+        counts: count(rt, u, k.letter, board)?,
+    })
 }
 
-fn looked(r: Progress, t: &mut Table, m: &[u8], k: Call) -> Progress {
+fn looked(rt: &impl Print, r: Progress, t: &mut Table, m: &[u8], k: Call) -> io::Result<Progress> {
     let b = r.board;
     let u = r.counts;
     let board = preview(b, t, m, k);
-    Progress {
+    Ok(Progress {
         board,
-        counts: count_preview(u, k.letter, board),
-    }
+        counts: count_preview(rt, u, k.letter, board)?,
+    })
 }
 
 // A preview of a change that is not made.
-fn passed(r: Progress, t: &mut Table, m: &[u8], k: Call) -> Progress {
-    let seen = looked(r, t, m, k);
+fn passed(rt: &impl Print, r: Progress, t: &mut Table, m: &[u8], k: Call) -> io::Result<Progress> {
+    let seen = looked(rt, r, t, m, k)?;
     let board = seen.board;
     let u = seen.counts;
-    Progress {
+    Ok(Progress {
         board,
         counts: add(u, b'a', if board.refusal == 0 { 1 } else { 0 }),
-    }
+    })
 }
 
-fn turn(r: Progress, t: &mut Table, m: &mut [u8], s: usize, i: usize) -> Progress {
+fn turn(
+    rt: &impl Print,
+    r: Progress,
+    t: &mut Table,
+    m: &mut [u8],
+    s: usize,
+    i: usize,
+) -> io::Result<Progress> {
     let b = r.board;
     let k = dice::drawn(b, t, s, i);
     let mut before = r;
     if dice::looks(s) {
-        before = passed(before, t, m, dice::looked_at(b, t, s, i));
+        before = passed(rt, before, t, m, dice::looked_at(b, t, s, i))?;
     }
     if b'Z' < k.letter {
-        before = looked(before, t, m, k);
+        before = looked(rt, before, t, m, k)?;
     }
-    called(before, t, m, k)
+    called(rt, before, t, m, k)
 }
 
 // Runs calls on one board and holds every answer against the plain one.
-pub fn run(b: Plain, t: &mut Table, m: &mut [u8], u: Tally, seed: usize, calls: usize) -> Tally {
+pub fn run(
+    rt: &impl Print,
+    b: Plain,
+    t: &mut Table,
+    m: &mut [u8],
+    u: Tally,
+    seed: usize,
+    calls: usize,
+) -> io::Result<Tally> {
     let mut r = Progress {
         board: b,
         counts: u,
@@ -88,10 +110,10 @@ pub fn run(b: Plain, t: &mut Table, m: &mut [u8], u: Tally, seed: usize, calls: 
     let mut s = seed;
     let mut i = 0;
     while i < calls {
-        let after = turn(r, t, m, s, i);
+        let after = turn(rt, r, t, m, s, i)?;
         r = after;
         s = dice::next(s);
         i += 1;
     }
-    r.counts
+    Ok(r.counts)
 }

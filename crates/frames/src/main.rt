@@ -3,9 +3,12 @@
 // `framing::feed`.
 #![tactic(auto)]
 
+ghost use Rattle.std.specs.Prelude.{IfOk};
 ghost use Rattle.framing.specs.Serving.{HoldsState, Lent};
 
 use framing::{BYTES, Point, TEXT, feed, finish, start};
+use std::io;
+use std::io::Read;
 
 // What one read leaves; `more` is false at the end of the input.
 #[derive(Clone, Copy)]
@@ -15,52 +18,62 @@ struct Turn {
 }
 
 // Feeds all of these bytes, and writes the answers to the lines that they end.
-fn answer_all(p: Point, bytes: &[u8], m: &mut [u8], out: &mut [u8]) -> Point
+fn answer_all(
+    rt: &impl Print,
+    p: Point,
+    bytes: &[u8],
+    m: &mut [u8],
+    out: &mut [u8],
+) -> io::Result<Point>
     requires holds_state { HoldsState p.dimension m.old }
     requires lent { Lent m.old out.old }
-    ensures { HoldsState result.dimension m.new }
+    ensures { IfOk result (λ q. HoldsState q.dimension m.new) }
 {
     let mut q = p;
     let mut i = 0;
     while i < bytes.len() {
         let fed = feed(q, &bytes[i..], m, out);
         let n = fed.answered;
-        io::write_all(libc::STDOUT_FILENO, &out[..n]);
+        rt.write_all(&out[..n])?;
         let next = fed.point;
         q = next;
         i += fed.taken;
     }
-    q
+    Ok(q)
 }
 
 // Answers the bytes of one read.
-fn answer_read(p: Point, m: &mut [u8], out: &mut [u8]) -> Turn
+fn answer_read(
+    rt: &impl Print,
+    input: &mut impl Read,
+    p: Point,
+    m: &mut [u8],
+    out: &mut [u8],
+) -> io::Result<Turn>
     requires holds_state { HoldsState p.dimension m.old }
     requires lent { Lent m.old out.old }
-    ensures { HoldsState result.point.dimension m.new }
+    ensures { IfOk result (λ t. HoldsState t.point.dimension m.new) }
 {
     let mut buffer = [0u8; 512];
-    let got = libc::read(libc::STDIN_FILENO, &mut buffer);
-    let n = io::count(got, &buffer);
-    let point = answer_all(p, &buffer[..n], m, out);
-    Turn { point, more: 0 < n }
+    let n = input.read(&mut buffer)?;
+    let point = answer_all(rt, p, &buffer[..n], m, out)?;
+    Ok(Turn { point, more: 0 < n })
 }
 
-// Nothing says that the input ends, so the loop counts down from a number that no run uses up.
-fn main() {
+// Nothing says that the input ends, so the loop counts up to a number that no run reaches.
+fn main(rt: HostRuntime) -> io::Result<()> {
+    let mut input = rt.reader();
     let mut m = [0u8; BYTES];
     let mut out = [0u8; TEXT];
     let mut p = start();
-    let mut turns = u64::MAX;
-    while 0 < turns {
-        let t = answer_read(p, &mut m, &mut out);
+    for _ in 0..u64::MAX {
+        let t = answer_read(&rt, &mut input, p, &mut m, &mut out)?;
         let next = t.point;
         p = next;
         if !t.more {
-            let n = finish(p, &mut m, &mut out);
-            io::write_all(libc::STDOUT_FILENO, &out[..n]);
-            return;
+            break;
         }
-        turns -= 1;
     }
+    let n = finish(p, &mut m, &mut out);
+    rt.write_all(&out[..n])
 }

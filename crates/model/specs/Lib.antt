@@ -1,5 +1,5 @@
--- The definitions of document 01's base and of the paper, in the document's order; then the worked cases and examples,
--- then the laws.
+-- The definitions of document 01's base and of the paper, in the document's order; then the worked cases and examples.
+-- The laws stand in proofs/, so that an edit of a definition reads and is refused by the laws that it breaks.
 pub mod Basics
 pub mod Moves
 pub mod Dominance
@@ -20,4 +20,3 @@ pub mod Sound
 pub mod Computing
 pub mod Cases
 pub mod Examples
-pub mod Laws

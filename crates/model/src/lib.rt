@@ -1,2 +1,2 @@
-// No code: the definitions of document 01 and of the paper, and their laws, stand in specs/.
+// No code: the definitions of document 01 and of the paper stand in specs/, their laws in proofs/.
 #![tactic(auto)]

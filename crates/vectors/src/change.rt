@@ -7,6 +7,7 @@ use crate::word::{
 };
 use board::carry_out;
 use planning::{Change, Kind, plan_change};
+use std::io;
 
 fn kind_of(word: u32) -> Kind {
     match call_of(word) {
@@ -34,15 +35,15 @@ fn lent(values: &[u64], s: Said) -> usize {
 }
 
 // Answers a line that changes the board.
-pub fn change(memory: &mut [u8], values: &[u64], s: Said) -> Said {
+pub fn change(rt: &impl Print, memory: &mut [u8], values: &[u64], s: Said) -> io::Result<Said> {
     let p = plan_change(memory, asked(values, s), lent(values, s));
-    let r = put_change(memory, p, s.word == WITHDRAW_OPENED, values, s);
+    let r = put_change(rt, memory, p, s.word == WITHDRAW_OPENED, values, s)?;
     carry_out(memory, p);
-    r
+    Ok(r)
 }
 
 // Answers a line that previews a change.
-pub fn preview(memory: &[u8], values: &[u64], s: Said) -> Said {
+pub fn preview(rt: &impl Print, memory: &[u8], values: &[u64], s: Said) -> io::Result<Said> {
     let p = plan_change(memory, asked(values, s), lent(values, s));
-    put_change(memory, p, true, values, s)
+    put_change(rt, memory, p, true, values, s)
 }

@@ -3,6 +3,8 @@ use crate::answer::agrees;
 use crate::parse::{Reading, next_line, step, store};
 use crate::values::{VALUES, at_most, value};
 use crate::word;
+use std::io;
+use std::io::Read;
 
 // More than the largest board needs.
 const MEMORY: usize = 263200;
@@ -22,48 +24,65 @@ fn lent(r: Reading, values: &[u64]) -> usize {
 }
 
 // After a load the memory is at least as long as the load's.
-fn answered(r: Reading, memory: &mut [u8], values: &[u64]) -> Reading {
+fn answered(rt: &impl Print, r: Reading, memory: &mut [u8], values: &[u64]) -> io::Result<Reading> {
     let mut next = next_line(r);
     if is_passed(r.word) {
         next.passed = r.passed % 1000000000 + 1;
-        return next;
+        return Ok(next);
     }
     let n = at_most(lent(r, values), memory.len());
     if r.bytes < n {
         next.bytes = n;
     }
-    if agrees(r, &mut memory[..n], values) {
+    if agrees(rt, r, &mut memory[..n], values)? {
         next.agree = r.agree % 1000000000 + 1;
     }
-    next
+    Ok(next)
 }
 
-fn take(r: Reading, b: u8, memory: &mut [u8], values: &mut [u64]) -> Reading {
+fn take(
+    rt: &impl Print,
+    r: Reading,
+    b: u8,
+    memory: &mut [u8],
+    values: &mut [u64],
+) -> io::Result<Reading> {
     store(values, r.count, r.open, b);
     let after = step(r, b);
     if b == b'\n' {
-        return answered(after, memory, values);
+        return answered(rt, after, memory, values);
     }
-    after
+    Ok(after)
 }
 
-fn taken(reading: Reading, bytes: &[u8], memory: &mut [u8], values: &mut [u64]) -> Reading {
+fn taken(
+    rt: &impl Print,
+    reading: Reading,
+    bytes: &[u8],
+    memory: &mut [u8],
+    values: &mut [u64],
+) -> io::Result<Reading> {
     let mut r = reading;
     r.more = 0 < bytes.len();
     let mut i = 0;
     while i < bytes.len() {
-        r = take(r, bytes[i], memory, values);
+        r = take(rt, r, bytes[i], memory, values)?;
         i += 1;
     }
-    r
+    Ok(r)
 }
 
 // One read, taken byte by byte.
-fn fed(r: Reading, fd: i32, memory: &mut [u8; MEMORY], values: &mut [u64; VALUES]) -> Reading {
-    let mut buffer = io::buffer();
-    let got = libc::read(fd, &mut buffer);
-    let n = io::count(got, &buffer);
-    taken(r, &buffer[..n], memory, values)
+fn fed(
+    rt: &impl Print,
+    r: Reading,
+    file: &mut impl Read,
+    memory: &mut [u8; MEMORY],
+    values: &mut [u64; VALUES],
+) -> io::Result<Reading> {
+    let mut buffer = [0u8; 4096];
+    let n = file.read(&mut buffer)?;
+    taken(rt, r, &buffer[..n], memory, values)
 }
 
 fn begun() -> Reading {
@@ -80,15 +99,16 @@ fn begun() -> Reading {
     }
 }
 
-// Nothing says that a file ends, so the loop counts down from a number that no run uses up.
-pub fn read(fd: i32) -> Reading {
+// Nothing says that a file ends, so the loop counts up to a number that no run reaches.
+pub fn read(rt: &impl Print, file: &mut impl Read) -> io::Result<Reading> {
     let mut memory = [0u8; MEMORY];
     let mut values = [0u64; VALUES];
-    let mut turns = u64::MAX;
     let mut r = begun();
-    while 0 < turns && r.more {
-        r = fed(r, fd, &mut memory, &mut values);
-        turns -= 1;
+    for _ in 0..u64::MAX {
+        r = fed(rt, r, file, &mut memory, &mut values)?;
+        if !r.more {
+            break;
+        }
     }
-    r
+    Ok(r)
 }

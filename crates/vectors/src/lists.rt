@@ -7,6 +7,7 @@ use crate::told::{put_answer, put_list, put_row};
 use crate::values::{ROWS, at_most, value};
 use crate::word::{BAND, LIST, ON_K};
 use rows::{Plan, ROW};
+use std::io;
 
 fn plan_of(word: u32, m: &[u8], values: &[u64]) -> Plan
     ensures { 0 < result.telling.count → TellingAsked result.telling.told m.now }
@@ -22,8 +23,9 @@ fn plan_of(word: u32, m: &[u8], values: &[u64]) -> Plan
 }
 
 // Answers a line that asks for a list.
-pub fn list(memory: &[u8], values: &[u64], s: Said) -> Said {
+pub fn list(rt: &impl Print, memory: &[u8], values: &[u64], s: Said) -> io::Result<Said> {
     put_list(
+        rt,
         memory,
         plan_of(s.word, memory, values),
         s.word == LIST,
@@ -32,25 +34,38 @@ pub fn list(memory: &[u8], values: &[u64], s: Said) -> Said {
     )
 }
 
-fn put_ranked(rows: &[[u16; ROW]], count: usize, values: &[u64], s: Said) -> Said {
+fn put_ranked(
+    rt: &impl Print,
+    rows: &[[u16; ROW]],
+    count: usize,
+    values: &[u64],
+    s: Said,
+) -> io::Result<Said> {
     let mut r = s;
     let mut i = 0;
     while i < count {
         if i < rows.len() {
-            r = put_row(values, r, rows[i]);
+            r = put_row(rt, values, r, rows[i])?;
         }
         i += 1;
     }
-    r
+    Ok(r)
 }
 
-fn rank_in(memory: &[u8], rows: &mut [[u16; ROW]], values: &[u64], s: Said) -> Said {
+fn rank_in(
+    rt: &impl Print,
+    memory: &[u8],
+    rows: &mut [[u16; ROW]],
+    values: &[u64],
+    s: Said,
+) -> io::Result<Said> {
     let n = at_most(value(values, 1) as usize, rows.len());
     let r = ranking::rank(memory, value(values, 0) as usize, &mut rows[..n]);
-    put_ranked(rows, r.count, values, put_answer(values, s, r, false))
+    let answered = put_answer(rt, values, s, r, false)?;
+    put_ranked(rt, rows, r.count, values, answered)
 }
 
 // Answers a line that asks for a rank.
-pub fn rank(memory: &[u8], values: &[u64], s: Said) -> Said {
-    rank_in(memory, &mut [[0u16; ROW]; ROWS], values, s)
+pub fn rank(rt: &impl Print, memory: &[u8], values: &[u64], s: Said) -> io::Result<Said> {
+    rank_in(rt, memory, &mut [[0u16; ROW]; ROWS], values, s)
 }

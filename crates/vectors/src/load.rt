@@ -6,6 +6,7 @@ use crate::told::put_verdict;
 use crate::values::{Given, ROWS, at_most, move_at, value};
 use crate::word::has_block;
 use loading::INPUT;
+use std::io;
 use zorder::COSTS;
 
 // The place of row i, below ROWS.
@@ -41,11 +42,18 @@ fn read_rows(values: &[u64], blocks: bool, input: &mut [[u16; INPUT]]) {
     }
 }
 
-fn load_rows(memory: &mut [u8], input: &[[u16; INPUT]], values: &[u64], s: Said) -> Said {
+fn load_rows(
+    rt: &impl Print,
+    memory: &mut [u8],
+    input: &[[u16; INPUT]],
+    values: &[u64],
+    s: Said,
+) -> io::Result<Said> {
     let k = at_most(value(values, 3) as usize, input.len());
     let size = value(values, 1) as usize;
     let dimension = value(values, 2) as usize;
     put_verdict(
+        rt,
         values,
         s,
         loading::load(memory, size, dimension, &input[..k]),
@@ -53,8 +61,8 @@ fn load_rows(memory: &mut [u8], input: &[[u16; INPUT]], values: &[u64], s: Said)
 }
 
 // Answers a line that loads a board.
-pub fn load(memory: &mut [u8], values: &[u64], s: Said) -> Said {
+pub fn load(rt: &impl Print, memory: &mut [u8], values: &[u64], s: Said) -> io::Result<Said> {
     let mut input = [[0u16; INPUT]; ROWS];
     read_rows(values, has_block(s.word), &mut input);
-    load_rows(memory, &input, values, s)
+    load_rows(rt, memory, &input, values, s)
 }

@@ -18,35 +18,32 @@ mod values;
 mod week;
 mod word;
 
-use libc::STDOUT_FILENO;
+use std::fs::File;
+use std::rt::{Env, Files};
+use std::{env, io};
 
-fn named(name: &[u8]) {
-    let fd = os::open_read(name);
-    if fd < 0 {
-        os::fail(name);
-        return;
-    }
-    let r = file::read(fd);
-    libc::close(fd);
-    io::write_all(STDOUT_FILENO, name);
-    said::write_number(r.agree);
-    io::write_all(STDOUT_FILENO, b" agree,");
-    said::write_number(r.passed);
-    io::write_all(STDOUT_FILENO, b" passed by\n");
+// A file that can't be opened is named on standard error, and the next ones are read all the same.
+fn named(rt: &(impl Files + Print + Eprint), name: &str) -> io::Result<()> {
+    let mut file = match File::open(rt, name) {
+        Ok(file) => file,
+        Err(e) => return eprintln!(rt; "{name}: {e}"),
+    };
+    let r = file::read(rt, &mut file)?;
+    println!(rt; "{name} {} agree, {} passed by", r.agree, r.passed)
 }
 
 // The file that the argument at place i names.
-fn argument(i: usize) {
-    let mut name = io::buffer();
-    let n = os::arg(i, &mut name);
-    named(&name[..n]);
+fn argument(rt: &(impl Env + Alloc + Files + Print + Eprint), i: usize) -> io::Result<()> {
+    if let Some(name) = env::args(rt)?.nth(i) {
+        named(rt, name.as_str())?;
+    }
+    Ok(())
 }
 
-fn main() {
-    let count = os::arg_count();
-    let mut i = 1;
-    while i < count {
-        argument(i);
-        i += 1;
+fn main(rt: HostRuntime) -> io::Result<()> {
+    let count = env::args(&rt)?.len();
+    for i in 1..count {
+        argument(&rt, i)?;
     }
+    Ok(())
 }

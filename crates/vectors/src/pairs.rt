@@ -7,6 +7,7 @@ use crate::said::{Said, put};
 use crate::values::{at_most, costs, narrow, value};
 use crate::word::{DOMINATES, LESS};
 use dominance::{dominates, less};
+use std::io;
 use zorder::COSTS;
 
 // Pairs in which the first cost is less, pairs in which the first row dominates, and answers that
@@ -105,20 +106,19 @@ fn drawn(n: u64) -> Tally {
     t
 }
 
-fn put_drawn(values: &[u64], s: Said, t: Tally) -> Said {
-    put(
-        values,
-        put(values, put(values, s, t.lesser), t.dominating),
-        t.wrong,
-    )
+fn put_drawn(rt: &impl Print, values: &[u64], s: Said, t: Tally) -> io::Result<Said> {
+    let lesser = put(rt, values, s, t.lesser)?;
+    let dominating = put(rt, values, lesser, t.dominating)?;
+    put(rt, values, dominating, t.wrong)
 }
 
 // Answers a line on two rows: the comparison and dominance.
-pub fn answer(values: &[u64], s: Said) -> Said {
+pub fn answer(rt: &impl Print, values: &[u64], s: Said) -> io::Result<Said> {
     let first = value(values, 0);
     let word = s.word;
     match word {
         LESS => put(
+            rt,
             values,
             s,
             less(narrow(first), narrow(value(values, 1))) as u64,
@@ -126,11 +126,12 @@ pub fn answer(values: &[u64], s: Said) -> Said {
         DOMINATES => {
             let d = at_most(first as usize, COSTS);
             put(
+                rt,
                 values,
                 s,
                 number(dominates(d, costs(values, 1), costs(values, 1 + COSTS))),
             )
         }
-        _ => put_drawn(values, s, drawn(first)),
+        _ => put_drawn(rt, values, s, drawn(first)),
     }
 }

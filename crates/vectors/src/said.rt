@@ -2,7 +2,7 @@
 // number that differs on the line is written, with what is answered.
 use crate::parse::Reading;
 use crate::values::{value, wide};
-use libc::STDOUT_FILENO;
+use std::io;
 
 // A line's word, how many of its numbers are asked and how many there are, the place of the next
 // one answered.
@@ -27,75 +27,76 @@ pub fn begun(l: Reading) -> Said {
 }
 
 // Writes a blank and a number.
-pub fn write_number(n: u64) {
-    io::write_all(STDOUT_FILENO, b" ");
-    io::print_decimal(STDOUT_FILENO, n);
+pub fn write_number(rt: &impl Print, n: u64) -> io::Result<()> {
+    print!(rt; " {n}")
 }
 
 // A byte of a word, which is 0 where the word is shorter.
-fn write_byte(b: u8) {
+fn write_byte(rt: &impl Print, b: u8) -> io::Result<()> {
     if 0 < b {
-        io::write_all(STDOUT_FILENO, &[b]);
+        rt.write_all(&[b])?;
     }
+    Ok(())
 }
 
-fn write_word(word: u32) {
-    write_byte((word / 65536 % 256) as u8);
-    write_byte((word / 256 % 256) as u8);
-    write_byte((word % 256) as u8);
+fn write_word(rt: &impl Print, word: u32) -> io::Result<()> {
+    write_byte(rt, (word / 65536 % 256) as u8)?;
+    write_byte(rt, (word / 256 % 256) as u8)?;
+    write_byte(rt, (word % 256) as u8)
 }
 
 // Writes numbers to standard output.
-pub fn write_numbers(values: &[u64], from: usize, to: usize) {
+pub fn write_numbers(rt: &impl Print, values: &[u64], from: usize, to: usize) -> io::Result<()> {
     let mut i = from;
     while i < to {
-        write_number(value(values, i));
+        write_number(rt, value(values, i))?;
         i += 1;
     }
+    Ok(())
 }
 
 // The line as far as the answer agrees.
-fn write_agreed(values: &[u64], s: Said) {
-    write_word(s.word);
-    write_numbers(values, 0, s.asked);
-    io::write_all(STDOUT_FILENO, b" =");
-    write_numbers(values, s.asked, s.at);
+fn write_agreed(rt: &impl Print, values: &[u64], s: Said) -> io::Result<()> {
+    write_word(rt, s.word)?;
+    write_numbers(rt, values, 0, s.asked)?;
+    rt.write_all(b" =")?;
+    write_numbers(rt, values, s.asked, s.at)
 }
 
 // Goes on with one number more.
-pub fn put(values: &[u64], s: Said, n: u64) -> Said {
+pub fn put(rt: &impl Print, values: &[u64], s: Said, n: u64) -> io::Result<Said> {
     let mut r = s;
     if s.agrees {
         if s.at < s.count && value(values, s.at) == n {
             r.at = s.at + 1;
-            return r;
+            return Ok(r);
         }
-        write_agreed(values, s);
+        write_agreed(rt, values, s)?;
         r.agrees = false;
     }
-    write_number(n);
-    r
+    write_number(rt, n)?;
+    Ok(r)
 }
 
 // Goes on with all of the numbers.
-pub fn put_all(values: &[u64], s: Said, ns: &[u16]) -> Said {
+pub fn put_all(rt: &impl Print, values: &[u64], s: Said, ns: &[u16]) -> io::Result<Said> {
     let mut r = s;
     let mut i = 0;
     while i < ns.len() {
-        r = put(values, r, wide(ns[i]));
+        r = put(rt, values, r, wide(ns[i]))?;
         i += 1;
     }
-    r
+    Ok(r)
 }
 
 // Says whether all of the answer agrees; else the line that was written ends.
-pub fn ended(values: &[u64], s: Said) -> bool {
+pub fn ended(rt: &impl Print, values: &[u64], s: Said) -> io::Result<bool> {
     if s.agrees {
         if s.at == s.count {
-            return true;
+            return Ok(true);
         }
-        write_agreed(values, s);
+        write_agreed(rt, values, s)?;
     }
-    io::write_all(STDOUT_FILENO, b"\n");
-    false
+    rt.write_all(b"\n")?;
+    Ok(false)
 }

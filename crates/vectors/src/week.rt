@@ -7,6 +7,7 @@ use crate::said::Said;
 use crate::told::put_list;
 use crate::values::{VALUES, at_most, narrow, value, value_after};
 use hours::HOURS;
+use std::io;
 
 const BLOCKS: usize = 64;
 
@@ -63,18 +64,25 @@ fn read_entries(values: &[u64], entries: &mut [[u16; HOURS]]) -> usize {
     lent
 }
 
-fn tell(memory: &[u8], entries: &[[u16; HOURS]], lent: usize, values: &[u64], s: Said) -> Said {
+fn tell(
+    rt: &impl Print,
+    memory: &[u8],
+    entries: &[[u16; HOURS]],
+    lent: usize,
+    values: &[u64],
+    s: Said,
+) -> io::Result<Said> {
     let k = at_most(lent, entries.len());
     let minute = value(values, 0) as usize;
     let p = hours::plan_hours(memory, minute, &entries[..k], value(values, 1) as usize);
-    put_list(memory, p, false, values, s)
+    put_list(rt, memory, p, false, values, s)
 }
 
 // Answers a line that asks for the hours call.
-pub fn hours_at(memory: &[u8], values: &[u64], s: Said) -> Said {
+pub fn hours_at(rt: &impl Print, memory: &[u8], values: &[u64], s: Said) -> io::Result<Said> {
     let mut none = [RUBBISH; HOURS];
     none[0] = 0;
     let mut entries = [none; BLOCKS];
     let lent = read_entries(values, &mut entries);
-    tell(memory, &entries, lent, values, s)
+    tell(rt, memory, &entries, lent, values, s)
 }

@@ -1,4 +1,5 @@
--- What the proofs of several functions use.
+-- The laws of the definitions in specs/, then what the proofs of several functions use.
+pub mod Laws
 pub mod Bits
 pub mod Digits
 pub mod Fill

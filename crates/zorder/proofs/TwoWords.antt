@@ -12,8 +12,8 @@ use lib.Count.{count_leading_zeros, leading_length, leading_top, leading_unique}
 use lib.Dec.{ltb}
 use lib.Pow.{pow_pos, pow-add, shr_lt, split, low, high}
 use Rattle.zorder.specs.Address.{bit}
-use Rattle.zorder.specs.Laws.Address.{bit-shr}
-use Rattle.zorder.specs.Laws.Inverse.{bit_below}
+use Rattle.zorder.proofs.Laws.Address.{bit-shr}
+use Rattle.zorder.proofs.Laws.Inverse.{bit_below}
 use Rattle.zorder.proofs.Bits.{shl-or}
 
 -- Two words of k + d bits shifted up by d bits, with g in the freed ones.

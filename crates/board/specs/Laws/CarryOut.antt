@@ -1,7 +1,7 @@
 -- Carrying out a plan, by its kind.
 use Rattle.std.specs.Prelude.{ℕ, true, false, List, ◌≡◌}
 use Rattle.std.proofs.Common.{sym, subst, arith}
-use Rattle.model.specs.Laws.Bool.{both_ways}
+use Rattle.model.proofs.Laws.Bool.{both_ways}
 use Rattle.promises.specs.Sound.{Sound}
 use Rattle.model.specs.Calls as calls
 use Rattle.dominance.specs.Move.{as_move}

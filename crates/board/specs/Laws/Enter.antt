@@ -9,8 +9,8 @@ use Rattle.model.specs.Calls as calls
 use Rattle.model.specs.Calls.{on_board}
 use Rattle.model.specs.Changing.{change_tree}
 use Rattle.model.specs.Sound.{Fit}
-use Rattle.model.specs.Laws.Order.{move-order}
-use Rattle.model.specs.Laws.Entering.{enter-moves}
+use Rattle.model.proofs.Laws.Order.{move-order}
+use Rattle.model.proofs.Laws.Entering.{enter-moves}
 use Rattle.promises.specs.Layout.{flag_in}
 use Rattle.promises.specs.Sound.{Stands}
 use Rattle.promises.specs.Run.{Bytes}

@@ -10,10 +10,10 @@ use Rattle.model.specs.Basics.{Each, select, any, numbers_from}
 use Rattle.model.specs.Moves.{Move, move_before, insert}
 use Rattle.model.specs.Lists.{hidden}
 use Rattle.model.specs.Calls.{on_board}
-use Rattle.model.specs.Laws.Bool.{cond_cases, both_ways, and_both, not-flip}
-use Rattle.model.specs.Laws.Basics.{each-mem, mem-each, each_map, select-mem, any-map, any-select}
-use Rattle.model.specs.Laws.Range.{each-place}
-use Rattle.model.specs.Laws.Sorting.{each-insert}
+use Rattle.model.proofs.Laws.Bool.{cond_cases, both_ways, and_both, not-flip}
+use Rattle.model.proofs.Laws.Basics.{each-mem, mem-each, each_map, select-mem, any-map, any-select}
+use Rattle.model.proofs.Laws.Range.{each-place}
+use Rattle.model.proofs.Laws.Sorting.{each-insert}
 use Rattle.line.specs.Line.{moves_in}
 use Rattle.promises.specs.Layout.{number_in, flag_in, move_in, line_from}
 use Rattle.dominance.specs.Move.{as_move}

@@ -12,9 +12,9 @@ use Rattle.model.specs.Changing.{change_tree}
 use Rattle.model.specs.Calls as calls
 use Rattle.model.specs.Calls.{Change, change_refusal, give_block, blocks_on, changed_moves, changed_blocks, changed, keeps_moves, changes_nothing}
 use Rattle.model.specs.Withdrawing.{unchanged}
-use Rattle.model.specs.Laws.Bool.{both_ways, and_right, or-false-left, or-false-right}
-use Rattle.model.specs.Laws.Changes.{change_number, change-number}
-use Rattle.model.specs.Laws.Blocks.{entered-blocks, withdrawn-blocks, recosted-blocks, changed-fit}
+use Rattle.model.proofs.Laws.Bool.{both_ways, and_right, or-false-left, or-false-right}
+use Rattle.model.proofs.Laws.Changes.{change_number, change-number}
+use Rattle.model.proofs.Laws.Blocks.{entered-blocks, withdrawn-blocks, recosted-blocks, changed-fit}
 use Rattle.line.specs.Line.{moves_in}
 use Rattle.promises.specs.Layout.{block_place, size_in, dimension_in, count_in, number_in, block_in, line_in, board_in}
 use Rattle.promises.specs.Sound.{Stands, Sound}

@@ -12,12 +12,12 @@ use Rattle.model.specs.Lists.{hidden, skyline}
 use Rattle.model.specs.Tree.{Tree, moves_of, ruled}
 use Rattle.model.specs.Calls.{Change, changed_moves, size_bad, memory_need}
 use Rattle.model.specs.Changing.{change_tree}
-use Rattle.model.specs.Laws.Basics.{each-mono, select-ext}
+use Rattle.model.proofs.Laws.Basics.{each-mono, select-ext}
 use Rattle.line.specs.Line.{moves_in, line_of}
 use Rattle.line.specs.Laws.Line.{moves-line}
 use Rattle.promises.specs.Layout.{size_in, dimension_in, count_in, flag_in, move_in, placed_in, line_from, line_in, kept_from, kept_in}
 use Rattle.promises.specs.Sound.{Stands}
-use Rattle.promises.specs.Laws.Tab.{each-tab}
+use Rattle.promises.proofs.Laws.Tab.{each-tab}
 use Rattle.memory.specs.Held.{SoundRows}
 use Rattle.memory.specs.Stores.{set_count}
 use Rattle.memory.specs.Frame.{DifferWithin, MovesOnly}

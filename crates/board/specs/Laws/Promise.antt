@@ -11,7 +11,7 @@ use Rattle.model.specs.Moves.{Row}
 use Rattle.model.specs.Calls as calls
 use Rattle.model.specs.Calls.{change_refusal, change_answer, change_notice, changed, keeps_moves, changes_nothing}
 use Rattle.model.specs.Changing.{change_tree}
-use Rattle.model.specs.Laws.Changes.{accepted-passes, nothing-keeps}
+use Rattle.model.proofs.Laws.Changes.{accepted-passes, nothing-keeps}
 use Rattle.promises.specs.Layout.{size_in, dimension_in, board_in}
 use Rattle.promises.specs.Sound.{Sound}
 use Rattle.promises.specs.Answers.{number_of, result_row, rows_after, outcome_number}

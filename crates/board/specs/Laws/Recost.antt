@@ -12,10 +12,10 @@ use Rattle.model.specs.Calls as calls
 use Rattle.model.specs.Calls.{on_board}
 use Rattle.model.specs.Changing.{change_tree}
 use Rattle.model.specs.Sound.{Fit}
-use Rattle.model.specs.Laws.Bool.{cond_cases}
-use Rattle.model.specs.Laws.Basics.{equal-true}
-use Rattle.model.specs.Laws.Order.{move-order}
-use Rattle.model.specs.Laws.Entering.{enter-moves}
+use Rattle.model.proofs.Laws.Bool.{cond_cases}
+use Rattle.model.proofs.Laws.Basics.{equal-true}
+use Rattle.model.proofs.Laws.Order.{move-order}
+use Rattle.model.proofs.Laws.Entering.{enter-moves}
 use Rattle.line.specs.Line.{moves_in}
 use Rattle.promises.specs.Layout.{number_in, costs_in, flag_in, line_from}
 use Rattle.promises.specs.Sound.{Stands}

@@ -12,7 +12,7 @@ use Rattle.model.specs.Moves.{Move}
 use Rattle.model.specs.Tree.{Tree, moves_of, ruled}
 use Rattle.model.specs.Calls.{on_board}
 use Rattle.model.specs.Sound.{Fit}
-use Rattle.model.specs.Laws.Basics.{any_false}
+use Rattle.model.proofs.Laws.Basics.{any_false}
 use Rattle.line.specs.Line.{Placed, none, moves_in}
 use Rattle.line.specs.Laws.Line.{moves-line}
 use Rattle.promises.specs.Layout.{number_in, costs_in, move_in, placed_in, line_from}

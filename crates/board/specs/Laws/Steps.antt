@@ -7,8 +7,8 @@ use Rattle.model.specs.Tree.{Tree, moves_of}
 use Rattle.model.specs.Withdrawing.{without, withdraw_tree}
 use Rattle.model.specs.Calls.{on_board}
 use Rattle.model.specs.Sound.{Fit}
-use Rattle.model.specs.Laws.Order.{move-order}
-use Rattle.model.specs.Laws.Withdrawing.{withdraw-moves}
+use Rattle.model.proofs.Laws.Order.{move-order}
+use Rattle.model.proofs.Laws.Withdrawing.{withdraw-moves}
 use Rattle.line.specs.Line.{moves_in}
 use Rattle.promises.specs.Layout.{number_in, costs_in, flag_in, line_from}
 use Rattle.promises.specs.Sound.{Stands}

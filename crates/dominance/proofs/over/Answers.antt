@@ -5,7 +5,7 @@ use mathlib.Core.Path.{◌≡◌, ap, ◌∙◌}
 use native.Mathlib.Omega.{arith}
 use lib.Dec.{eqb}
 use Rattle.model.specs.Dominance.{less}
-use Rattle.model.specs.Laws.Basics.{at_most_one}
+use Rattle.model.proofs.Laws.Basics.{at_most_one}
 use Rattle.dominance.specs.Laws.Lanes.{factor-test, over-number}
 use Rattle.dominance.proofs.over.Goals.{After-choose}
 use Rattle.dominance.proofs.over.Goals as goal

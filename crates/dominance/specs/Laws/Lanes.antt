@@ -8,8 +8,8 @@ use borrow.Author.Tests.{ltb-true, ltb-false, lt-ltb}
 use Rattle.std.proofs.Math.ListN.{get_or, get_or-eq_default}
 use Rattle.zorder.specs.Address.{row_costs}
 use Rattle.model.specs.Dominance.{less, nowhere_greater}
-use Rattle.model.specs.Laws.Bool.{test_cases, same_test}
-use Rattle.model.specs.Laws.Dominance.{nowhere-greater-places, places-nowhere-greater, take-same-length}
+use Rattle.model.proofs.Laws.Bool.{test_cases, same_test}
+use Rattle.model.proofs.Laws.Dominance.{nowhere-greater-places, places-nowhere-greater, take-same-length}
 use Rattle.dominance.specs.Lanes.{Lanes, bound, is_first, lesser, greater}
 
 -- ---- a choice by a factor

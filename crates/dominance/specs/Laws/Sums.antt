@@ -10,13 +10,13 @@ use Rattle.zorder.specs.Address.{row_costs}
 use Rattle.model.specs.Basics.{cons_if, select, numbers_from}
 use Rattle.model.specs.Dominance.{less, nowhere_greater, somewhere_less, better, at, dominates, equal_costs}
 use Rattle.model.specs.Lists.{chosen_costs}
-use Rattle.model.specs.Laws.Bool.{test_cases, same_test}
-use Rattle.model.specs.Laws.Basics.{at_most_one}
-use Rattle.model.specs.Laws.Dominance.{take-same-length}
-use Rattle.model.specs.Laws.Hiding.{better-or-equal}
-use Rattle.model.specs.Laws.Queries.{at_first}
-use Rattle.model.specs.Laws.Chosen.{chosen-first, bit-first, bit-past-first}
-use Rattle.model.specs.Laws.Range.{from, from_all, from_more, from_end}
+use Rattle.model.proofs.Laws.Bool.{test_cases, same_test}
+use Rattle.model.proofs.Laws.Basics.{at_most_one}
+use Rattle.model.proofs.Laws.Dominance.{take-same-length}
+use Rattle.model.proofs.Laws.Hiding.{better-or-equal}
+use Rattle.model.proofs.Laws.Queries.{at_first}
+use Rattle.model.proofs.Laws.Chosen.{chosen-first, bit-first, bit-past-first}
+use Rattle.model.proofs.Laws.Range.{from, from_all, from_more, from_end}
 use Rattle.dominance.specs.Sums.{count_less}
 
 -- The widened difference, divided: 1 if a is less than b, else 0.

@@ -14,7 +14,7 @@ use Rattle.std.proofs.lemmas.List.{length-map}
 use Rattle.model.specs.Basics.{all, any, has, within}
 use Rattle.model.specs.Calls as calls
 use Rattle.model.specs.Calls.{enter, withdraw, recost}
-use Rattle.model.specs.Laws.Bool.{test_cases, cond_cases, both_ways, same_test, cond_map}
+use Rattle.model.proofs.Laws.Bool.{test_cases, cond_cases, both_ways, same_test, cond_map}
 use Rattle.frame_lines.specs.Digits.{is_digit, value_of, bytes_of, numbers_of}
 use Rattle.frame_lines.specs.State.{State, unloaded, holds}
 use Rattle.frame_lines.specs.Frames.{Frame, load, change, wrong, sized, frame_number, frame_costs, call_frame, board_frame, call_codes, frame_in, whole_bytes, frame_of}

@@ -9,8 +9,8 @@ use Rattle.std.proofs.lemmas.List.{get_or-replicate}
 use Rattle.std.proofs.Math.ListN.{get_or-append, get_or-eq_default}
 use Rattle.std.proofs.Math.Seq.{get_or-append_seam}
 use Rattle.model.specs.Basics.{all}
-use Rattle.model.specs.Laws.Basics.{all_append}
-use Rattle.model.specs.Laws.Bool.{by_cases, test_cases}
+use Rattle.model.proofs.Laws.Basics.{all_append}
+use Rattle.model.proofs.Laws.Bool.{by_cases, test_cases}
 use Rattle.frame_lines.specs.Digits.{is_digit}
 use Rattle.frame_lines.specs.Reading.{most_digits, Judged, ByteKept}
 use Rattle.frame_lines.specs.declared.reading.Line.{Line}

@@ -5,7 +5,7 @@ use Rattle.model.specs.Loading.{load_tree}
 use Rattle.model.specs.Changing.{change_tree}
 use Rattle.model.specs.Calls as calls
 use Rattle.model.specs.Calls.{Change, give_block, row_blocks, changed_blocks, changed, change_answer}
-use Rattle.model.specs.Laws.Bool.{cond_cases}
+use Rattle.model.proofs.Laws.Bool.{cond_cases}
 use Rattle.frame_lines.specs.Digits.{bytes_of}
 use Rattle.frame_lines.specs.State.{State, unloaded, holds}
 use Rattle.frame_lines.specs.Frames.{Frame, load, change, list, early, wrong, sized, call_frame, board_frame, call_codes, frame_in, whole_bytes, frame_of}

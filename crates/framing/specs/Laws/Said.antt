@@ -5,7 +5,7 @@ use Rattle.std.proofs.Math.Path.{sym, ap₂}
 use Rattle.std.proofs.Common.{ap, ◌∙◌, eq-eqb, ne_eqb, eqb-true, arith}
 use Rattle.std.proofs.Math.ListN.{length, length-append}
 use Rattle.model.specs.Calls as calls
-use Rattle.model.specs.Laws.Bool.{test_cases}
+use Rattle.model.proofs.Laws.Bool.{test_cases}
 use Rattle.promises.specs.Answers.{number_of, answer_of}
 use Rattle.promises.specs.declared.Verdict.{Verdict}
 use Rattle.frame_lines.specs.Text.{byte_text, word_text, row_text, rows_text, Reply, refused, notice, listed, said_text, answer_text, line_end}

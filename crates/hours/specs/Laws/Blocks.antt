@@ -8,7 +8,7 @@ use Rattle.std.proofs.Math.ListN.{length-take}
 use Rattle.model.specs.Basics.{any}
 use Rattle.model.specs.Hours.{Hours, block_count, windows_of, hours_bad, open_in, no_hours, block_open}
 use Rattle.model.specs.Calls.{accepted, hours_refusal}
-use Rattle.model.specs.Laws.Hours.{past-shut}
+use Rattle.model.proofs.Laws.Hours.{past-shut}
 use Rattle.promises.specs.Answers.{block_hours}
 use Rattle.search.specs.Search.{None}
 use Rattle.hours.specs.Open.{FirstBad, OpenBlocks}

@@ -16,10 +16,10 @@ use Rattle.model.specs.Dominance.{nowhere_greater, hides}
 use Rattle.model.specs.Lists.{hidden, skyline, listed_rows}
 use Rattle.model.specs.Hours.{Hours, block_open, open_moves}
 use Rattle.model.specs.Calls.{block_bad, blocks_on, hours_query, query_rows}
-use Rattle.model.specs.Laws.Bool.{by_cases, both_ways, and_right, and_both, and-false-right, not-flip, not_back}
-use Rattle.model.specs.Laws.Basics.{select-ext, select-select, any-select}
-use Rattle.model.specs.Laws.Blocks.{block-most}
-use Rattle.model.specs.Laws.Hiding.{earlier-hides}
+use Rattle.model.proofs.Laws.Bool.{by_cases, both_ways, and_right, and_both, and-false-right, not-flip, not_back}
+use Rattle.model.proofs.Laws.Basics.{select-ext, select-select, any-select}
+use Rattle.model.proofs.Laws.Blocks.{block-most}
+use Rattle.model.proofs.Laws.Hiding.{earlier-hides}
 use Rattle.line.specs.Line.{moves_in}
 use Rattle.promises.specs.Layout.{number_in, block_in, costs_in, move_in, line_from, line_in, board_in}
 use Rattle.promises.specs.Run.{Bytes}

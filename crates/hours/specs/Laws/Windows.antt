@@ -8,7 +8,7 @@ use Rattle.std.proofs.Math.Decide.{dec_lt}
 use Rattle.std.proofs.Math.Seq.{take_all}
 use Rattle.model.specs.Basics.{any, within}
 use Rattle.model.specs.Hours.{Window, windows_of, minute_bad, window_bad, hours_bad, open_in}
-use Rattle.model.specs.Laws.Tree.{within-true, within-false}
+use Rattle.model.proofs.Laws.Tree.{within-true, within-false}
 use Rattle.promises.specs.Layout.{tab}
 use Rattle.promises.specs.Answers.{window_at, block_hours}
 use Rattle.search.specs.Search.{None}

@@ -10,10 +10,10 @@ use Rattle.model.specs.Basics.{Each}
 use Rattle.model.specs.Moves.{Move}
 use Rattle.model.specs.Tree.{Entry, moves_under}
 use Rattle.model.specs.Entering.{child_place, split, enter_node, root_of}
-use Rattle.model.specs.Laws.Bool.{by_cases}
-use Rattle.model.specs.Laws.Basics.{each-mono, each_left, each_right}
-use Rattle.model.specs.Laws.Tree.{Filled, Full, filled-full}
-use Rattle.model.specs.Laws.Entering.{enter_node-length, enter_node-filled, split-length, split-filled, split_moves}
+use Rattle.model.proofs.Laws.Bool.{by_cases}
+use Rattle.model.proofs.Laws.Basics.{each-mono, each_left, each_right}
+use Rattle.model.proofs.Laws.Tree.{Filled, Full, filled-full}
+use Rattle.model.proofs.Laws.Entering.{enter_node-length, enter_node-filled, split-length, split-filled, split_moves}
 use Rattle.line.specs.Line.{Placed, line_at, line_of}
 use Rattle.line.specs.Places.{height_at, node_start, node_end, entries, entry_at, set_height}
 use Rattle.line.specs.Enter.{cut_entry, split_at, cascade}

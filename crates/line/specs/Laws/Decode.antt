@@ -8,7 +8,7 @@ use Rattle.std.proofs.lemmas.Bool.{lt-leb}
 use Rattle.model.specs.Basics.{Each, cons_if, first_or}
 use Rattle.model.specs.Moves.{Move}
 use Rattle.model.specs.Tree.{Entry, Tree, empty, rooted, moves_under, first_move, filled_tree}
-use Rattle.model.specs.Laws.Bool.{test_cases}
+use Rattle.model.proofs.Laws.Bool.{test_cases}
 use Rattle.line.specs.Line.{Placed, line_at, line_of}
 use Rattle.line.specs.Places.{tail_of}
 use Rattle.line.specs.Laws.Line.{row, Low, Whole, WholeTree, tree-whole, rest_at, rest-low, first-cons, line-cons}

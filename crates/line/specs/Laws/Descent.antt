@@ -10,11 +10,11 @@ use Rattle.model.specs.Basics.{Each}
 use Rattle.model.specs.Moves.{Move, move_before, insert}
 use Rattle.model.specs.Tree.{Entry, moves_under}
 use Rattle.model.specs.Entering.{child_place, split, replace_at, enter_node}
-use Rattle.model.specs.Laws.Bool.{cond_cases}
-use Rattle.model.specs.Laws.Basics.{each_right}
-use Rattle.model.specs.Laws.Sorting.{length-insert}
-use Rattle.model.specs.Laws.Tree.{moves-append, leaf-moves}
-use Rattle.model.specs.Laws.Entering.{child_place-in, split-length, split_moves}
+use Rattle.model.proofs.Laws.Bool.{cond_cases}
+use Rattle.model.proofs.Laws.Basics.{each_right}
+use Rattle.model.proofs.Laws.Sorting.{length-insert}
+use Rattle.model.proofs.Laws.Tree.{moves-append, leaf-moves}
+use Rattle.model.proofs.Laws.Entering.{child_place-in, split-length, split_moves}
 use Rattle.line.specs.Line.{Placed, line_at}
 use Rattle.line.specs.Laws.Line.{Whole}
 use Rattle.line.specs.Laws.Entries.{following, line-middle, line-one}

@@ -7,10 +7,10 @@ use Rattle.model.specs.Basics.{Each, rising}
 use Rattle.model.specs.Moves.{Move, move_before, ordered}
 use Rattle.model.specs.Tree.{Entry, Tree, empty, rooted, moves_under, moves_of, filled_tree, ruled}
 use Rattle.model.specs.Entering.{enter_tree}
-use Rattle.model.specs.Laws.Bool.{by_cases}
-use Rattle.model.specs.Laws.Basics.{each-mono, each_both}
-use Rattle.model.specs.Laws.Sorting.{StrictOrder, BeforeEach, rising-tail, asym, connex, before-first}
-use Rattle.model.specs.Laws.Tree.{tree-full, root_least-range, ruled-filled, ruled-ordered}
+use Rattle.model.proofs.Laws.Bool.{by_cases}
+use Rattle.model.proofs.Laws.Basics.{each-mono, each_both}
+use Rattle.model.proofs.Laws.Sorting.{StrictOrder, BeforeEach, rising-tail, asym, connex, before-first}
+use Rattle.model.proofs.Laws.Tree.{tree-full, root_least-range, ruled-filled, ruled-ordered}
 use Rattle.line.specs.Line.{Placed, line_at, line_of}
 use Rattle.line.specs.Places.{height_at, set_height, insert_at}
 use Rattle.line.specs.Enter.{place_for, placed, cascade, flat_enter}

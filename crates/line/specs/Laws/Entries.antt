@@ -10,8 +10,8 @@ use Rattle.std.proofs.lemmas.List.{length-map}
 use Rattle.model.specs.Basics.{Each, select, count, last_or}
 use Rattle.model.specs.Moves.{Move, no_move}
 use Rattle.model.specs.Tree.{Entry, moves_under, first_move, last_move}
-use Rattle.model.specs.Laws.Basics.{each_append, count-append, count-cons}
-use Rattle.model.specs.Laws.Tree.{flat_map-append}
+use Rattle.model.proofs.Laws.Basics.{each_append, count-append, count-cons}
+use Rattle.model.proofs.Laws.Tree.{flat_map-append}
 use Rattle.line.specs.Line.{Placed, line_at, moves_in, heights_in}
 use Rattle.line.specs.Places.{move_at, height_at, node_start, node_end, entry_among, entry_at, set_height}
 use Rattle.line.specs.Laws.Line.{row, Whole, rest_at, rest-low, line-cons, line-moves}

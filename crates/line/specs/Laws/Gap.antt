@@ -12,10 +12,10 @@ use Rattle.model.specs.Basics.{Each}
 use Rattle.model.specs.Moves.{Move, move_before, insert}
 use Rattle.model.specs.Tree.{Entry, moves_under, first_move, last_move}
 use Rattle.model.specs.Entering.{earlier_in_gap}
-use Rattle.model.specs.Laws.Bool.{by_cases}
-use Rattle.model.specs.Laws.Basics.{each-mono, each_right}
-use Rattle.model.specs.Laws.Sorting.{insert-here, insert-append-right}
-use Rattle.model.specs.Laws.Tree.{leaf-moves}
+use Rattle.model.proofs.Laws.Bool.{by_cases}
+use Rattle.model.proofs.Laws.Basics.{each-mono, each_right}
+use Rattle.model.proofs.Laws.Sorting.{insert-here, insert-append-right}
+use Rattle.model.proofs.Laws.Tree.{leaf-moves}
 use Rattle.line.specs.Line.{Placed, line_at}
 use Rattle.line.specs.Places.{move_at, height_at, node_start, node_end, set_height, insert_at}
 use Rattle.line.specs.Enter.{later_in_gap, placed}

@@ -8,8 +8,8 @@ use Rattle.std.proofs.lemmas.Bool.{lt-leb}
 use Rattle.std.proofs.Math.ListN.{length}
 use Rattle.model.specs.Basics.{Each, cons_if, all, within}
 use Rattle.model.specs.Tree.{Entry, Tree, empty, rooted, first_move, filled, root_least, filled_tree}
-use Rattle.model.specs.Laws.Bool.{test_cases, and_left, and_right, and_both}
-use Rattle.model.specs.Laws.Basics.{each-mono}
+use Rattle.model.proofs.Laws.Bool.{test_cases, and_left, and_right, and_both}
+use Rattle.model.proofs.Laws.Basics.{each-mono}
 use Rattle.line.specs.Line.{Placed, line_of, heights_in}
 use Rattle.line.specs.Heights.{first_highest, counts_from, counts_at, root_count, levels_right, heights_right}
 use Rattle.line.specs.Laws.Line.{row, Low, tree-whole, tree-depth, rest_at, rest-low, line-cons}

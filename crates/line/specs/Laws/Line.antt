@@ -9,8 +9,8 @@ use Rattle.std.proofs.lemmas.List.{length-map}
 use Rattle.model.specs.Basics.{Each, first_or}
 use Rattle.model.specs.Moves.{Move, no_move}
 use Rattle.model.specs.Tree.{Entry, Tree, empty, rooted, moves_under, moves_of, first_move, filled_tree, root_least}
-use Rattle.model.specs.Laws.Basics.{each-mono, each_append}
-use Rattle.model.specs.Laws.Tree.{Filled, filled-full, tree-full, root_least-range}
+use Rattle.model.proofs.Laws.Basics.{each-mono, each_append}
+use Rattle.model.proofs.Laws.Tree.{Filled, filled-full, tree-full, root_least-range}
 use Rattle.line.specs.Line.{Placed, line_at, line_of, moves_in}
 
 abbrev pub row : Move → ℕ → Placed

@@ -9,7 +9,7 @@ use Rattle.std.proofs.Math.Seq.{take-length}
 use Rattle.model.specs.Basics.{Each, count}
 use Rattle.model.specs.Tree.{Entry}
 use Rattle.model.specs.Withdrawing.{settled}
-use Rattle.model.specs.Laws.Tree.{Filled, filled-full}
+use Rattle.model.proofs.Laws.Tree.{Filled, filled-full}
 use Rattle.line.specs.Line.{Placed, line_at, line_of}
 use Rattle.line.specs.Places.{height_at, entries, set_height}
 use Rattle.line.specs.Withdraw.{lowered}

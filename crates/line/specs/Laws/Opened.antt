@@ -14,11 +14,11 @@ use Rattle.model.specs.Moves.{Move, ordered}
 use Rattle.model.specs.Tree.{Tree, empty, rooted}
 use Rattle.model.specs.Nodes.{Node, node_of, nodes_of}
 use Rattle.model.specs.Sound.{Fit}
-use Rattle.model.specs.Laws.Bool.{test_cases}
-use Rattle.model.specs.Laws.Basics.{each_append, each-mono, mem-at, select-few, count-append, count_none, count-cons}
+use Rattle.model.proofs.Laws.Bool.{test_cases}
+use Rattle.model.proofs.Laws.Basics.{each_append, each-mono, mem-at, select-few, count-append, count_none, count-cons}
 use Rattle.model.specs.Runs.{RunOf, NodeIn}
-use Rattle.model.specs.Laws.Nodes.{Some, run-trans, node-wider, run-fit, run-ordered}
-use Rattle.model.specs.Laws.Opening.{Downward}
+use Rattle.model.proofs.Laws.Nodes.{Some, run-trans, node-wider, run-fit, run-ordered}
+use Rattle.model.proofs.Laws.Opening.{Downward}
 use Rattle.line.specs.Line.{Placed, none, line_of, moves_in, heights_in}
 use Rattle.line.specs.Places.{move_at, height_at, lower_among, lower, node_end, tail_of}
 use Rattle.line.specs.Search.{node_at, nodes_at, nodes_in, nodes_left, node_from, opened_from, opened_past}

@@ -7,7 +7,7 @@ use mathlib.Core.List.{List, ◌∷◌, ◌++◌}
 use Rattle.std.proofs.Math.Dec.{ltb}
 use Rattle.zorder.specs.Between.{side_of}
 use Rattle.model.specs.Moves.{Move}
-use Rattle.model.specs.Laws.Bool.{cond_map}
+use Rattle.model.proofs.Laws.Bool.{cond_map}
 use Rattle.line.specs.Line.{Placed, heights_in}
 use Rattle.line.specs.Places.{move_at, height_at, node_start, node_end, set_height, insert_at}
 use Rattle.line.specs.Enter.{later_in_gap, takes_over, placed}

@@ -14,8 +14,8 @@ use Rattle.std.proofs.lemmas.List.{length-map, take-append-le, drop-append-le}
 use Rattle.std.proofs.Math.Seq.{get_or-append_seam, take-append-add, drop-append-add, set-append_left, set-append_seam}
 use Rattle.model.specs.Basics.{count}
 use Rattle.model.specs.Moves.{Move}
-use Rattle.model.specs.Laws.Bool.{test_cases, cond_cases}
-use Rattle.model.specs.Laws.Basics.{each-mono, count_none, count_map}
+use Rattle.model.proofs.Laws.Bool.{test_cases, cond_cases}
+use Rattle.model.proofs.Laws.Basics.{each-mono, count_none, count_map}
 use Rattle.line.specs.Line.{Placed, none, heights_in}
 use Rattle.line.specs.Laws.Line.{row, Low}
 use Rattle.line.specs.Places.{lower_among, start_among, end_among, entries_among, entry_among, move_at, height_at, lower, node_start, node_end, entries, set_height, insert_at}

@@ -11,9 +11,9 @@ use Rattle.model.specs.Basics.{Each, insert_by}
 use Rattle.model.specs.Moves.{Move, move_before, insert}
 use Rattle.model.specs.Tree.{Entry, moves_under}
 use Rattle.model.specs.Entering.{child_place}
-use Rattle.model.specs.Laws.Basics.{each-mono, each_left, each_right}
-use Rattle.model.specs.Laws.Sorting.{insert-before, insert-append-right}
-use Rattle.model.specs.Laws.Tree.{leaf-moves}
+use Rattle.model.proofs.Laws.Basics.{each-mono, each_left, each_right}
+use Rattle.model.proofs.Laws.Sorting.{insert-before, insert-append-right}
+use Rattle.model.proofs.Laws.Tree.{leaf-moves}
 use Rattle.line.specs.Line.{Placed, line_at, moves_in}
 use Rattle.line.specs.Enter.{place_for}
 use Rattle.line.specs.Laws.Line.{row, Whole}

@@ -10,9 +10,9 @@ use Rattle.model.specs.Basics.{Each}
 use Rattle.model.specs.Moves.{Move}
 use Rattle.model.specs.Tree.{Entry, moves_under}
 use Rattle.model.specs.Withdrawing.{without, withdraw_node}
-use Rattle.model.specs.Laws.Bool.{by_cases}
-use Rattle.model.specs.Laws.Basics.{each_append, each_left, each_right}
-use Rattle.model.specs.Laws.Tree.{Filled, filled-full, full-filled}
+use Rattle.model.proofs.Laws.Bool.{by_cases}
+use Rattle.model.proofs.Laws.Basics.{each_append, each_left, each_right}
+use Rattle.model.proofs.Laws.Tree.{Filled, filled-full, full-filled}
 use Rattle.line.specs.Line.{Placed, line_at, moves_in, heights_in}
 use Rattle.line.specs.Places.{height_at}
 use Rattle.line.specs.Withdraw.{place_of, Range, widened, lifted}

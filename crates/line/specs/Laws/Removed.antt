@@ -9,8 +9,8 @@ use Rattle.std.proofs.Math.Seq.{take-append_seam, drop-append_seam, drop-append-
 use Rattle.model.specs.Moves.{Move}
 use Rattle.model.specs.Tree.{Entry, rooted, moves_under, moves_of, filled_tree}
 use Rattle.model.specs.Withdrawing.{without, Remainder, withdraw_node, settled}
-use Rattle.model.specs.Laws.Tree.{tree-full}
-use Rattle.model.specs.Laws.Withdrawing.{settled-moves}
+use Rattle.model.proofs.Laws.Tree.{tree-full}
+use Rattle.model.proofs.Laws.Withdrawing.{settled-moves}
 use Rattle.line.specs.Line.{Placed, line_at, line_of, moves_in}
 use Rattle.line.specs.Places.{height_at}
 use Rattle.line.specs.Withdraw.{Range, widened, lifted, cut_out, lowered}

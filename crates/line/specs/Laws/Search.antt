@@ -6,7 +6,7 @@ use Rattle.std.proofs.Common.{ap₂, ◌∙◌, le_refl, arith, leb-true, le-leb
 use Rattle.model.specs.Tree.{Entry, Tree, empty, rooted, moves_under, first_move}
 use Rattle.model.specs.Nodes.{Node, node_of, nodes_from, nodes_of}
 use Rattle.model.specs.Basics.{Each}
-use Rattle.model.specs.Laws.Bool.{test_cases}
+use Rattle.model.proofs.Laws.Bool.{test_cases}
 use Rattle.line.specs.Line.{Placed, line_at, line_of, moves_in}
 use Rattle.line.specs.Search.{node_at, nodes_at, nodes_in, nodes_left}
 use Rattle.line.specs.Laws.Line.{row, Whole, WholeTree, rest_at, rest-low, line-cons, line-moves}

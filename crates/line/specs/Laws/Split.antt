@@ -11,9 +11,9 @@ use Rattle.model.specs.Basics.{Each}
 use Rattle.model.specs.Moves.{Move}
 use Rattle.model.specs.Tree.{Entry, first_move, last_move, node_side}
 use Rattle.model.specs.Entering.{sides_at, least_by, left_part, split}
-use Rattle.model.specs.Laws.Bool.{cond_cases}
-use Rattle.model.specs.Laws.Basics.{each_left, each_right}
-use Rattle.model.specs.Laws.Entering.{left_part-range}
+use Rattle.model.proofs.Laws.Bool.{cond_cases}
+use Rattle.model.proofs.Laws.Basics.{each_left, each_right}
+use Rattle.model.proofs.Laws.Entering.{left_part-range}
 use Rattle.line.specs.Line.{Placed, line_at}
 use Rattle.line.specs.Places.{move_at, entry_at, side_at, set_height}
 use Rattle.line.specs.Enter.{cut_sides, cut_entry}

@@ -11,8 +11,8 @@ use Rattle.model.specs.Basics.{Each, first_or, last_or}
 use Rattle.model.specs.Moves.{Move, no_move, move_before}
 use Rattle.model.specs.Tree.{Entry, moves_under, first_move, last_move}
 use Rattle.model.specs.Entering.{earlier_in_gap, goes_into, child_place}
-use Rattle.model.specs.Laws.Basics.{each_append, each_left, each_right}
-use Rattle.model.specs.Laws.Entering.{each_first}
+use Rattle.model.proofs.Laws.Basics.{each_append, each_left, each_right}
+use Rattle.model.proofs.Laws.Entering.{each_first}
 use Rattle.line.specs.Laws.Line.{Whole, whole-moves}
 
 -- ---- a property of each entry of parts

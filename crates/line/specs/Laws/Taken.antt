@@ -10,9 +10,9 @@ use Rattle.model.specs.Basics.{Each, cons_if, select, count}
 use Rattle.model.specs.Moves.{Move}
 use Rattle.model.specs.Tree.{Entry, moves_under}
 use Rattle.model.specs.Withdrawing.{without, Remainder, keep_child, keep_children, withdraw_node}
-use Rattle.model.specs.Laws.Bool.{not-flip}
-use Rattle.model.specs.Laws.Basics.{each-mono, count-append, select-append, select-all}
-use Rattle.model.specs.Laws.Tree.{moves-append, Filled, filled-full}
+use Rattle.model.proofs.Laws.Bool.{not-flip}
+use Rattle.model.proofs.Laws.Basics.{each-mono, count-append, select-append, select-all}
+use Rattle.model.proofs.Laws.Tree.{moves-append, Filled, filled-full}
 
 perm-swap : {A : Type 0} (xs ys : List A) → Permᴰ (xs ++ ys) (ys ++ xs)
 perm-swap [] ys = Permᴰ.symm (Permᴰ.append-nil ys)

@@ -11,9 +11,9 @@ use Rattle.std.proofs.Math.Seq.{append_snoc}
 use Rattle.model.specs.Basics.{Each, first_or, last_or}
 use Rattle.model.specs.Moves.{Move, no_move, move_before, insert}
 use Rattle.model.specs.Tree.{Entry, moves_under, first_move, last_move}
-use Rattle.model.specs.Laws.Bool.{cond_cases}
-use Rattle.model.specs.Laws.Basics.{each_right, each_append}
-use Rattle.model.specs.Laws.Tree.{moves-append, leaf-moves}
+use Rattle.model.proofs.Laws.Bool.{cond_cases}
+use Rattle.model.proofs.Laws.Basics.{each_right, each_append}
+use Rattle.model.proofs.Laws.Tree.{moves-append, leaf-moves}
 use Rattle.line.specs.Line.{Placed, line_at}
 use Rattle.line.specs.Enter.{placed}
 use Rattle.line.specs.Laws.Line.{row, Whole, whole-moves, rest_at, rest-low, line-cons}

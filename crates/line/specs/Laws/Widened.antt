@@ -4,7 +4,7 @@ use Rattle.std.proofs.Math.Path.{ap}
 use Rattle.std.proofs.Common.{ap₂, ◌∙◌, arith, lt-ltb, le-ltb, ne_eqb, eq-eqb}
 use Rattle.model.specs.Basics.{Each}
 use Rattle.model.specs.Tree.{Entry}
-use Rattle.model.specs.Laws.Bool.{or_right, or_left, or-false-both}
+use Rattle.model.proofs.Laws.Bool.{or_right, or_left, or-false-both}
 use Rattle.line.specs.Line.{Placed, line_at, moves_in, heights_in}
 use Rattle.line.specs.Places.{start_among, end_among, entries_among, height_at, node_start, node_end, entries}
 use Rattle.line.specs.Withdraw.{place_of, Range, widened_among, widened}

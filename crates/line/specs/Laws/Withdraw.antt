@@ -13,14 +13,14 @@ use Rattle.model.specs.Tree.{Entry, Tree, empty, rooted, moves_of, filled_tree, 
 use Rattle.model.specs.Calls.{on_board}
 use Rattle.model.specs.Entering.{enter_tree}
 use Rattle.model.specs.Withdrawing.{without, withdraw_node, settled, enter_all, withdraw_tree}
-use Rattle.model.specs.Laws.Bool.{by_cases, and_left, and_right, not_back, both_ways}
-use Rattle.model.specs.Laws.Basics.{Once, each-mono, each-mem, mem-each, each_left, each_right, each_append, select-mem, each-select, count-cons, count_none, any_false}
-use Rattle.model.specs.Laws.Sorting.{StrictOrder, BeforeEach, rising-left, rising-right, rising-across, rising-append, rising-select, rising-once, sort-rising, insert-mem, each-insert}
-use Rattle.model.specs.Laws.Permuted.{sort-perm, each-perm}
-use Rattle.model.specs.Laws.Order.{has-numbers}
-use Rattle.model.specs.Laws.Tree.{ruled-filled, ruled-ordered, both-ruled}
-use Rattle.model.specs.Laws.Entering.{enter-moves, enter-ruled}
-use Rattle.model.specs.Laws.Withdrawing.{left-filled}
+use Rattle.model.proofs.Laws.Bool.{by_cases, and_left, and_right, not_back, both_ways}
+use Rattle.model.proofs.Laws.Basics.{Once, each-mono, each-mem, mem-each, each_left, each_right, each_append, select-mem, each-select, count-cons, count_none, any_false}
+use Rattle.model.proofs.Laws.Sorting.{StrictOrder, BeforeEach, rising-left, rising-right, rising-across, rising-append, rising-select, rising-once, sort-rising, insert-mem, each-insert}
+use Rattle.model.proofs.Laws.Permuted.{sort-perm, each-perm}
+use Rattle.model.proofs.Laws.Order.{has-numbers}
+use Rattle.model.proofs.Laws.Tree.{ruled-filled, ruled-ordered, both-ruled}
+use Rattle.model.proofs.Laws.Entering.{enter-moves, enter-ruled}
+use Rattle.model.proofs.Laws.Withdrawing.{left-filled}
 use Rattle.line.specs.Line.{line_of, moves_in}
 use Rattle.line.specs.Withdraw.{flat_enter_all, flat_withdraw}
 use Rattle.line.specs.Laws.Enter.{flat-enter-ordered}

@@ -8,9 +8,9 @@ use borrow.Author.Rules.{rules}
 use lib.ListN.{length}
 use Rattle.zorder.specs.Refusal.{cost_count_bad}
 use Rattle.model.specs.Calls.{size_bad, memory_need}
-use Rattle.model.specs.Laws.Bool.{or_left, or_right}
-use Rattle.model.specs.Laws.Loading.{size-most}
-use Rattle.model.specs.Laws.Order.{dimension-most}
+use Rattle.model.proofs.Laws.Bool.{or_left, or_right}
+use Rattle.model.proofs.Laws.Loading.{size-most}
+use Rattle.model.proofs.Laws.Order.{dimension-most}
 use Rattle.promises.specs.Answers.{input_row, outcome_number}
 use Rattle.promises.specs.declared.Outcome.TheVariants.{NumberTooLarge, BlockTooLarge, NumberTwice, BadArgument}
 use Rattle.loading.specs.File.{Acceptable}

@@ -7,9 +7,9 @@ use Rattle.std.proofs.Math.Seq.{drop-length}
 use Rattle.model.specs.Basics.{any}
 use Rattle.model.specs.Moves.{InputRow, move_of, in_z_order}
 use Rattle.model.specs.Calls.{on_board, give_block, blocks_on, row_blocks, loaded}
-use Rattle.model.specs.Laws.Bool.{or_cases, both_ways}
-use Rattle.model.specs.Laws.Basics.{each_at}
-use Rattle.model.specs.Laws.Blocks.{give-same, loaded-blocks, loaded-fit}
+use Rattle.model.proofs.Laws.Bool.{or_cases, both_ways}
+use Rattle.model.proofs.Laws.Basics.{each_at}
+use Rattle.model.proofs.Laws.Blocks.{give-same, loaded-blocks, loaded-fit}
 use Rattle.line.specs.Line.{moves_in}
 use Rattle.promises.specs.Layout.{size_in, dimension_in, block_in, line_in, board_in}
 use Rattle.promises.specs.Answers.{input_row}

@@ -2,17 +2,17 @@
 use Rattle.std.specs.Prelude.{ℕ, suc, ◌≤◌, ◌<◌, true, false, List, [], ◌∷◌, map, ◌≡◌, refl, leb, eqb, length}
 use Rattle.std.proofs.Common.{ap, ◌∙◌, arith, leb-false}
 use Rattle.zorder.specs.Refusal.{cost_past_bad}
-use Rattle.zorder.specs.Laws.Refusal.{first_passes, rest-passes}
+use Rattle.zorder.proofs.Laws.Refusal.{first_passes, rest-passes}
 use Rattle.zorder.specs.Between.{RowCosts}
 use Rattle.model.specs.Basics.{Each, any, has, distinct}
 use Rattle.model.specs.Moves.{InputRow, move_of}
 use Rattle.model.specs.Calls.{block_bad, row_refusal, rows_refusal, accepted}
 use Rattle.model.specs.Sound.{Fit}
-use Rattle.model.specs.Laws.Bool.{or-false-left, or-false-right}
-use Rattle.model.specs.Laws.Basics.{each-mono, each_both, each_map}
-use Rattle.model.specs.Laws.Order.{eqb-sym, distinct_cons}
-use Rattle.model.specs.Laws.Numbers.{distinct-length}
-use Rattle.model.specs.Laws.Blocks.{rows_pass, block-most}
+use Rattle.model.proofs.Laws.Bool.{or-false-left, or-false-right}
+use Rattle.model.proofs.Laws.Basics.{each-mono, each_both, each_map}
+use Rattle.model.proofs.Laws.Order.{eqb-sym, distinct_cons}
+use Rattle.model.proofs.Laws.Numbers.{distinct-length}
+use Rattle.model.proofs.Laws.Blocks.{rows_pass, block-most}
 use Rattle.loading.specs.Blocks.{Storable}
 use Rattle.loading.specs.File.{Acceptable}
 

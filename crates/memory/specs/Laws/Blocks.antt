@@ -12,13 +12,13 @@ use Rattle.model.specs.Moves.{Move}
 use Rattle.model.specs.Lists.{skyline}
 use Rattle.model.specs.Tree.{Tree, moves_of, ruled}
 use Rattle.model.specs.Calls.{size_bad, memory_need, block_bad, on_board, give_block, blocks_on}
-use Rattle.model.specs.Laws.Bool.{by_cases, both_ways}
-use Rattle.model.specs.Laws.Basics.{any-witness, each-mem, select-ext}
-use Rattle.model.specs.Laws.Blocks.{blocks-ext}
+use Rattle.model.proofs.Laws.Bool.{by_cases, both_ways}
+use Rattle.model.proofs.Laws.Basics.{any-witness, each-mem, select-ext}
+use Rattle.model.proofs.Laws.Blocks.{blocks-ext}
 use Rattle.line.specs.Line.{moves_in}
 use Rattle.promises.specs.Layout.{block_place, size_in, dimension_in, format_in, count_in, number_in, flag_in, block_in, move_in, line_from, line_in, kept_from, kept_in}
 use Rattle.promises.specs.Sound.{Stands}
-use Rattle.promises.specs.Laws.Tab.{each-tab}
+use Rattle.promises.proofs.Laws.Tab.{each-tab}
 use Rattle.memory.specs.Room.{Room, Numbers}
 use Rattle.memory.specs.Stores.{set_block}
 use Rattle.memory.specs.Frame.{BlocksOnly}

@@ -13,10 +13,10 @@ use Rattle.model.specs.Moves.{Move, move_before, ordered}
 use Rattle.model.specs.Dominance.{hides}
 use Rattle.model.specs.Lists.{hidden, skyline}
 use Rattle.model.specs.Sound.{Fit}
-use Rattle.model.specs.Laws.Bool.{and_left, and_right, and_both}
-use Rattle.model.specs.Laws.Basics.{select-same, each_left, each_right, select-append, select-ext, any-select}
-use Rattle.model.specs.Laws.Sorting.{rising-left}
-use Rattle.model.specs.Laws.Skyline.{skyline-append, skyline-earlier-listed}
+use Rattle.model.proofs.Laws.Bool.{and_left, and_right, and_both}
+use Rattle.model.proofs.Laws.Basics.{select-same, each_left, each_right, select-append, select-ext, any-select}
+use Rattle.model.proofs.Laws.Sorting.{rising-left}
+use Rattle.model.proofs.Laws.Skyline.{skyline-append, skyline-earlier-listed}
 use Rattle.promises.specs.Layout.{tab}
 use Rattle.memory.specs.Tests.{all_to, any_to}
 use Rattle.memory.specs.Laws.Places.{any-tab}

@@ -4,8 +4,8 @@ use Rattle.std.proofs.Common.{⊎_elim, sym, ◌∙◌, subst, eq-or-lt_of_le, l
 use Rattle.std.proofs.Math.Path.{ap}
 use Rattle.std.proofs.Math.Decide.{dec_lt}
 use Rattle.model.specs.Moves.{move_before, ordered}
-use Rattle.model.specs.Laws.Bool.{both_ways}
-use Rattle.model.specs.Laws.Order.{before-trans, before-irrefl}
+use Rattle.model.proofs.Laws.Bool.{both_ways}
+use Rattle.model.proofs.Laws.Order.{before-trans, before-irrefl}
 use Rattle.line.specs.Line.{moves_in}
 use Rattle.promises.specs.Layout.{move_in, line_from}
 use Rattle.memory.specs.Room.{Ordered}

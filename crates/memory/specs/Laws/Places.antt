@@ -8,8 +8,8 @@ use Rattle.std.proofs.Common.{◌∙◌, add-zero, add-suc, lt-suc_self, eq-or-l
 use Rattle.std.proofs.Math.Nat.{le_step}
 use Rattle.std.proofs.Math.Seq.{append_snoc}
 use Rattle.model.specs.Basics.{Each, any, all, rising}
-use Rattle.model.specs.Laws.Bool.{and_left, and_right, and_both, both_ways, by_cases, not-flip, same_test}
-use Rattle.model.specs.Laws.Basics.{each_left, each_right, any_append, all_append}
+use Rattle.model.proofs.Laws.Bool.{and_left, and_right, and_both, both_ways, by_cases, not-flip, same_test}
+use Rattle.model.proofs.Laws.Basics.{each_left, each_right, any_append, all_append}
 use Rattle.promises.specs.Layout.{tab}
 use Rattle.memory.specs.Tests.{all_to, any_to}
 

@@ -10,14 +10,14 @@ use Rattle.std.proofs.Math.ListN.{length-set}
 use Rattle.std.proofs.Math.Seq.{get_or-set_same, get_or-take}
 use Rattle.zorder.specs.Address.{row_costs, padded}
 use Rattle.zorder.specs.Between.{RowCosts}
-use Rattle.zorder.specs.Laws.Between.{row-padded}
+use Rattle.zorder.proofs.Laws.Between.{row-padded}
 use Rattle.promises.specs.Layout.{set_word, format_number, number_place, height_place, flag_place, cost_place, work_place, size_in, dimension_in, format_in, count_in, number_in, height_in, flag_in, cost_in, work_in, costs_in}
 use Rattle.memory.specs.Room.{Room}
 use Rattle.memory.specs.Stores.{set_head, set_count, set_number, set_height, set_listed, set_costs_from, set_costs, set_work}
 use Rattle.memory.specs.Frame.{DifferWithin, RowsOnly, FlagsOnly, CostsOnly, WorkOnly}
 use Rattle.memory.specs.Laws.Frames.{frame-refl, frame-trans, frame-widen, byte-frame, word-frame, byte-across, word-across, word-stored, word-length}
 use Rattle.memory.specs.Laws.Fields.{number-over, height-over, flag-over, costs-over, work-over}
-use Rattle.promises.specs.Laws.Tab.{tab-of}
+use Rattle.promises.proofs.Laws.Tab.{tab-of}
 
 apart : {i j : ℕ} → j ≢ i → (j < i) ⊎ (i < j)
 apart {i} {j} ne = go (dec_lt j i)

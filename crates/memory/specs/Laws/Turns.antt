@@ -8,7 +8,7 @@ use native.Mathlib.Omega.{arith}
 use borrow.Author.Tests.{ltb-true, lt-ltb, le-ltb, not-true}
 use Rattle.model.specs.Moves.{move_before}
 use Rattle.model.specs.Calls.{block_bad}
-use Rattle.model.specs.Laws.Bool.{and_left, and_right, and_both, and-false-right}
+use Rattle.model.proofs.Laws.Bool.{and_left, and_right, and_both, and-false-right}
 use Rattle.promises.specs.Layout.{number_in, block_in, move_in}
 use Rattle.memory.specs.Room.{Numbers}
 use Rattle.memory.specs.Tests.{all_to, number_right, numbers_right, order_right, is_flagged, is_listed, hidden_before, flags_right}

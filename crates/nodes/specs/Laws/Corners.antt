@@ -7,13 +7,13 @@ use Rattle.std.proofs.Common.{◌∙◌, arith, le-leb}
 use Rattle.std.proofs.lemmas.Bool.{not-false, lt-leb}
 use Rattle.std.proofs.Math.ListN.{take}
 use Rattle.zorder.specs.Between.{row_costs, RowCosts, before, near_of, far_of}
-use Rattle.zorder.specs.Laws.Between.{near-row, near_le, before-irrefl}
+use Rattle.zorder.proofs.Laws.Between.{near-row, near_le, before-irrefl}
 use Rattle.model.specs.Moves.{Move, move_before, z_before}
 use Rattle.model.specs.Dominance.{nowhere_greater, somewhere_less, better, dominates}
 use Rattle.model.specs.Sound.{Fit}
-use Rattle.model.specs.Laws.Bool.{by_cases, and_both, and-false-right, or_left, not_back}
-use Rattle.model.specs.Laws.Dominance.{dominates-below, row-lengths}
-use Rattle.model.specs.Laws.Hiding.{dominates-hides, move-hiding}
+use Rattle.model.proofs.Laws.Bool.{by_cases, and_both, and-false-right, or_left, not_back}
+use Rattle.model.proofs.Laws.Dominance.{dominates-below, row-lengths}
+use Rattle.model.proofs.Laws.Hiding.{dominates-hides, move-hiding}
 use Rattle.dominance.specs.Laws.Sums.{nowhere-somewhere}
 use Rattle.dominance.specs.Lanes.{Lanes, bound, is_first}
 use Rattle.promises.specs.Layout.{number_in, costs_in, move_in}

@@ -13,11 +13,11 @@ use Rattle.model.specs.Lists.{skyline}
 use Rattle.model.specs.Tree.{Tree}
 use Rattle.model.specs.Nodes.{Node, nodes_of, near_corner_of, far_corner_of, opens, nodes_opened}
 use Rattle.model.specs.Sound.{Fit}
-use Rattle.model.specs.Laws.Bool.{by_cases, and_left, and_right, and_both, or_left, or_right}
-use Rattle.model.specs.Laws.Dominance.{nowhere-below, dominates-below, row-lengths}
-use Rattle.model.specs.Laws.Tree.{ruled-filled}
-use Rattle.model.specs.Laws.Nodes.{corner-row, listed-enough-corner}
-use Rattle.model.specs.Laws.Opening.{Downward, Upward, corners-downward}
+use Rattle.model.proofs.Laws.Bool.{by_cases, and_left, and_right, and_both, or_left, or_right}
+use Rattle.model.proofs.Laws.Dominance.{nowhere-below, dominates-below, row-lengths}
+use Rattle.model.proofs.Laws.Tree.{ruled-filled}
+use Rattle.model.proofs.Laws.Nodes.{corner-row, listed-enough-corner}
+use Rattle.model.proofs.Laws.Opening.{Downward, Upward, corners-downward}
 use Rattle.line.specs.Line.{Placed, none, moves_in, heights_in}
 use Rattle.line.specs.Places.{move_at, height_at, node_end}
 use Rattle.line.specs.Search.{node_from, opened_from, opened_past}
@@ -25,7 +25,7 @@ use Rattle.line.specs.Laws.Line.{WholeTree, tree-whole}
 use Rattle.line.specs.Laws.Places.{height-among, length-heights, end-high}
 use Rattle.line.specs.Laws.Opened.{first-node, last-node, node_in, node-under, first-height, opened-all, opened-few, opened-end, opened-upper, opened-leaf, opened-passed}
 use Rattle.promises.specs.Layout.{dimension_in, height_place, height_in, move_in, placed_in, line_from}
-use Rattle.promises.specs.Laws.Tab.{each-tab}
+use Rattle.promises.proofs.Laws.Tab.{each-tab}
 use Rattle.promises.specs.Sound.{Stands}
 use Rattle.promises.specs.Run.{Bytes}
 use Rattle.memory.specs.Room.{ReadableRows, Ordered}

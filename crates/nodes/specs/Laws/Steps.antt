@@ -10,7 +10,7 @@ use Rattle.std.proofs.lemmas.Bool.{lt-leb}
 use Rattle.std.proofs.Math.ListN.{drop, get_or}
 use Rattle.std.proofs.Math.Seq.{drop-length}
 use Rattle.model.specs.Basics.{select, count}
-use Rattle.model.specs.Laws.Basics.{count-cons}
+use Rattle.model.proofs.Laws.Basics.{count-cons}
 use Rattle.line.specs.Places.{lower_among, start_among, end_among, entries_among, entry_among}
 
 -- ---- counted until one that ends the count

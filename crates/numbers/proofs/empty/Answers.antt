@@ -3,7 +3,7 @@ use Prim.Native.Nat.{ℕ, ◌/◌, ◌%◌, ◌^◌}
 use mathlib.Core.Path.{ap, ◌∙◌}
 use native.Mathlib.Nat.{zero-div}
 use lib.Dec.{eqb}
-use Rattle.zorder.specs.Laws.Between.{get_or-zeros}
+use Rattle.zorder.proofs.Laws.Between.{get_or-zeros}
 use Rattle.numbers.specs.Set.{in_set}
 use Rattle.numbers.proofs.empty.Goals as goal
 

@@ -9,7 +9,7 @@ use Rattle.std.proofs.lemmas.Bool.{not-false}
 use Rattle.std.proofs.Math.Dec.{leb}
 use Rattle.std.proofs.Math.ListN.{length-map}
 use Rattle.zorder.specs.Address.{row_costs}
-use Rattle.zorder.specs.Laws.Address.{Costs}
+use Rattle.zorder.proofs.Laws.Address.{Costs}
 use Rattle.zorder.specs.Refusal.{refusal, cost_past_bad}
 use Rattle.model.specs.Basics.{distinct}
 use Rattle.model.specs.Moves as model
@@ -18,13 +18,13 @@ use Rattle.model.specs.Withdrawing.{without}
 use Rattle.model.specs.Calls as calls
 use Rattle.model.specs.Calls.{block_bad, on_board, change_refusal, changed_moves}
 use Rattle.model.specs.Sound.{Fit}
-use Rattle.model.specs.Laws.Bool.{both_ways}
-use Rattle.model.specs.Laws.Basics.{each-mono}
-use Rattle.model.specs.Laws.Order.{has-numbers}
-use Rattle.model.specs.Laws.Numbers.{distinct-length}
-use Rattle.zorder.specs.Laws.Refusal.{first_passes, rest-passes}
-use Rattle.model.specs.Laws.Changes.{off-without}
-use Rattle.model.specs.Laws.Blocks.{block-most}
+use Rattle.model.proofs.Laws.Bool.{both_ways}
+use Rattle.model.proofs.Laws.Basics.{each-mono}
+use Rattle.model.proofs.Laws.Order.{has-numbers}
+use Rattle.model.proofs.Laws.Numbers.{distinct-length}
+use Rattle.zorder.proofs.Laws.Refusal.{first_passes, rest-passes}
+use Rattle.model.proofs.Laws.Changes.{off-without}
+use Rattle.model.proofs.Laws.Blocks.{block-most}
 use Rattle.line.specs.Line.{moves_in}
 use Rattle.promises.specs.Layout.{number_in, costs_in, line_from, board_in}
 use Rattle.promises.specs.Run.{Bytes}

@@ -7,7 +7,7 @@ use Rattle.model.specs.Basics.{count, numbers_from}
 use Rattle.model.specs.Moves as model
 use Rattle.model.specs.Moves.{Row, row_of, left, entered}
 use Rattle.model.specs.Lists.{skyline}
-use Rattle.model.specs.Laws.Notice.{gone, notice-rows}
+use Rattle.model.proofs.Laws.Notice.{gone, notice-rows}
 use Rattle.line.specs.Line.{moves_in}
 use Rattle.promises.specs.Layout.{move_in, line_from}
 use Rattle.promises.specs.Answers.{result_row}

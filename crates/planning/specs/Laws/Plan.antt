@@ -7,20 +7,20 @@ use native.Mathlib.Omega.{arith}
 use borrow.Author.Tests.{ltb-true, lt-ltb, le-ltb}
 use Rattle.std.proofs.Math.ListN.{length}
 use Rattle.zorder.specs.Address.{row_costs}
-use Rattle.zorder.specs.Laws.Address.{Costs}
+use Rattle.zorder.proofs.Laws.Address.{Costs}
 use Rattle.model.specs.Basics.{equal}
 use Rattle.model.specs.Calls as calls
 use Rattle.model.specs.Calls.{accepted, refused_with, rows_answer, change_refusal, change_notice, keeps_moves, on_board}
 use Rattle.model.specs.Withdrawing.{costs_on, unchanged}
 use Rattle.model.specs.Tree.{Tree}
 use Rattle.model.specs.Opening.{withdraw_opens, change_opens}
-use Rattle.model.specs.Laws.Bool.{both_ways, and_left, and_right}
-use Rattle.model.specs.Laws.Basics.{equal-refl}
+use Rattle.model.proofs.Laws.Bool.{both_ways, and_left, and_right}
+use Rattle.model.proofs.Laws.Basics.{equal-refl}
 use Rattle.promises.specs.Layout.{size_in, dimension_in, number_in, costs_in, board_in}
 use Rattle.promises.specs.Sound.{Stands, Sound}
 use Rattle.promises.specs.Answers.{answer_of, number_of, counted, refused_by, outcome_number}
 use Rattle.promises.specs.Run.{Bytes}
-use Rattle.promises.specs.Laws.Answers.{counted-zero}
+use Rattle.promises.proofs.Laws.Answers.{counted-zero}
 use Rattle.promises.specs.declared.Verdict.{Verdict}
 use Rattle.promises.specs.declared.Outcome.{Outcome}
 use Rattle.promises.specs.declared.Outcome.TheVariants.{Unsound}

@@ -16,13 +16,13 @@ use Rattle.model.specs.Basics.{Each, cons_if, select, count, rising, insert_by, 
 use Rattle.model.specs.Moves.{Move, Row, row_of, move_before, insert, ordered, left, entered}
 use Rattle.model.specs.Lists.{hidden, skyline}
 use Rattle.model.specs.Sound.{Fit}
-use Rattle.model.specs.Laws.Bool.{by_cases, test_cases, and_left, and_right, not_back, not-flip}
-use Rattle.model.specs.Laws.Basics.{mem-each, each-mem, select-mem, mem-select, select-ext, select-append}
-use Rattle.model.specs.Laws.Range.{each-numbers, numbers-append}
-use Rattle.model.specs.Laws.Order.{move-order, off-board}
-use Rattle.model.specs.Laws.Sorting.{StrictOrder, insert-mem, mem-insert-old, asym, connex, rising-cons, rising-tail, rising-head}
-use Rattle.model.specs.Laws.Skyline.{skyline-mem}
-use Rattle.model.specs.Laws.Notice.{among, gone, among-mem}
+use Rattle.model.proofs.Laws.Bool.{by_cases, test_cases, and_left, and_right, not_back, not-flip}
+use Rattle.model.proofs.Laws.Basics.{mem-each, each-mem, select-mem, mem-select, select-ext, select-append}
+use Rattle.model.proofs.Laws.Range.{each-numbers, numbers-append}
+use Rattle.model.proofs.Laws.Order.{move-order, off-board}
+use Rattle.model.proofs.Laws.Sorting.{StrictOrder, insert-mem, mem-insert-old, asym, connex, rising-cons, rising-tail, rising-head}
+use Rattle.model.proofs.Laws.Skyline.{skyline-mem}
+use Rattle.model.proofs.Laws.Notice.{among, gone, among-mem}
 use Rattle.line.specs.Line.{Placed, none, moves_in}
 use Rattle.line.specs.Enter.{place_for}
 use Rattle.promises.specs.Layout.{move_in, placed_in, line_from}

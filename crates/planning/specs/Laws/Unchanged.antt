@@ -16,13 +16,13 @@ use Rattle.model.specs.Calls as calls
 use Rattle.model.specs.Calls.{on_board, list_of, change_notice, changed}
 use Rattle.model.specs.Changing.{change_tree}
 use Rattle.model.specs.Sound.{Fit}
-use Rattle.model.specs.Laws.Order.{move-order}
-use Rattle.model.specs.Laws.Notice.{notice-none}
-use Rattle.model.specs.Laws.Recosting.{recost-moves}
+use Rattle.model.proofs.Laws.Order.{move-order}
+use Rattle.model.proofs.Laws.Notice.{notice-none}
+use Rattle.model.proofs.Laws.Recosting.{recost-moves}
 use Rattle.promises.specs.Layout.{size_in, dimension_in, costs_in, board_in}
 use Rattle.promises.specs.Sound.{Stands}
 use Rattle.promises.specs.Run.{Bytes}
-use Rattle.promises.specs.Laws.Stands.{stands-dimension, stands-moves, stands-fit, stands-once}
+use Rattle.promises.proofs.Laws.Stands.{stands-dimension, stands-moves, stands-fit, stands-once}
 use Rattle.dominance.specs.Move.{as_move}
 use Rattle.dominance.specs.declared.Move.{Move}
 use Rattle.memory.specs.Held.{SoundRows}

@@ -8,7 +8,7 @@ use Rattle.zorder.specs.Address.{row_costs}
 use Rattle.model.specs.Basics.{count}
 use Rattle.model.specs.Dominance.{somewhere_less, better, dominates}
 use Rattle.model.specs.Lists.{dominators}
-use Rattle.model.specs.Laws.Bool.{by_cases, both_ways, and_left}
+use Rattle.model.proofs.Laws.Bool.{by_cases, both_ways, and_left}
 use Rattle.dominance.specs.Lanes.{Lanes, bound, is_first}
 use Rattle.line.specs.Line.{moves_in}
 use Rattle.promises.specs.Layout.{number_in, move_in, line_from}

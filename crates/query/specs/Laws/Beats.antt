@@ -12,13 +12,13 @@ use Rattle.model.specs.Moves.{Move, ordered}
 use Rattle.model.specs.Dominance.{less, nowhere_greater, somewhere_less, better, at, dominates_at, dominates_on}
 use Rattle.model.specs.Lists.{hidden, skyline, chosen_costs}
 use Rattle.model.specs.Sound.{Fit}
-use Rattle.model.specs.Laws.Bool.{by_cases, same_test, and_left, and_right, and_both, not-flip, not_back, or_cases, or_left, or_right}
-use Rattle.model.specs.Laws.Basics.{each-mem, mem-each, parts-each, any-mem, any-mono, any-witness}
-use Rattle.model.specs.Laws.Chosen.{chosen-below}
-use Rattle.model.specs.Laws.Dominance.{row-lengths}
-use Rattle.model.specs.Laws.Hiding.{hides-nowhere-greater}
-use Rattle.model.specs.Laws.Range.{each-place}
-use Rattle.model.specs.Laws.Skyline.{skyline-mem, mem-skyline, skyline-hider}
+use Rattle.model.proofs.Laws.Bool.{by_cases, same_test, and_left, and_right, and_both, not-flip, not_back, or_cases, or_left, or_right}
+use Rattle.model.proofs.Laws.Basics.{each-mem, mem-each, parts-each, any-mem, any-mono, any-witness}
+use Rattle.model.proofs.Laws.Chosen.{chosen-below}
+use Rattle.model.proofs.Laws.Dominance.{row-lengths}
+use Rattle.model.proofs.Laws.Hiding.{hides-nowhere-greater}
+use Rattle.model.proofs.Laws.Range.{each-place}
+use Rattle.model.proofs.Laws.Skyline.{skyline-mem, mem-skyline, skyline-hider}
 use Rattle.query.specs.Rule.{beats}
 use Rattle.query.specs.declared.rule.Rule.{Rule}
 use Rattle.query.specs.declared.rule.Rule.TheVariants.{OnK, Chosen}

@@ -8,8 +8,8 @@ use Rattle.zorder.specs.Refusal.{refusal}
 use Rattle.model.specs.Basics.{select}
 use Rattle.model.specs.Lists.{band, on_k, chosen, listed_rows}
 use Rattle.model.specs.Calls.{accepted, refused_with, band_query, on_k_query, chosen_query, query_refusal, query_rows}
-use Rattle.model.specs.Laws.Bool.{or_left, or_right, or-false-both}
-use Rattle.model.specs.Laws.Tree.{within-true, within-false}
+use Rattle.model.proofs.Laws.Bool.{or_left, or_right, or-false-both}
+use Rattle.model.proofs.Laws.Tree.{within-true, within-false}
 use Rattle.promises.specs.Layout.{dimension_in, board_in}
 use Rattle.query.specs.Rule.{beats}
 use Rattle.query.specs.Band.{in_band}

@@ -11,11 +11,11 @@ use Rattle.zorder.specs.Address.{row_costs}
 use Rattle.model.specs.Basics.{select, any, all, count, parts, numbers_from}
 use Rattle.model.specs.Dominance.{less, nowhere_greater, somewhere_less, better, at, dominates_at, dominates_on}
 use Rattle.model.specs.Lists.{chosen_costs}
-use Rattle.model.specs.Laws.Bool.{same_test, or_cases, or_left, and_left, and_both, both_ways, not-flip}
-use Rattle.model.specs.Laws.Basics.{any_append, any-map, any-witness, count-cons, count-pos}
-use Rattle.model.specs.Laws.Range.{length-numbers}
-use Rattle.model.specs.Laws.Chosen.{chosen-within}
-use Rattle.model.specs.Laws.Queries.{at_first}
+use Rattle.model.proofs.Laws.Bool.{same_test, or_cases, or_left, and_left, and_both, both_ways, not-flip}
+use Rattle.model.proofs.Laws.Basics.{any_append, any-map, any-witness, count-cons, count-pos}
+use Rattle.model.proofs.Laws.Range.{length-numbers}
+use Rattle.model.proofs.Laws.Chosen.{chosen-within}
+use Rattle.model.proofs.Laws.Queries.{at_first}
 use Rattle.dominance.specs.Sums.{count_less}
 use Rattle.dominance.specs.Laws.Sums.{exceeds-better}
 

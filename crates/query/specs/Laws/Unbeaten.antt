@@ -13,9 +13,9 @@ use Rattle.model.specs.Basics.{any}
 use Rattle.model.specs.Moves.{Move}
 use Rattle.model.specs.Dominance.{nowhere_greater, somewhere_less, better, at, dominates_at}
 use Rattle.model.specs.Lists.{chosen_costs}
-use Rattle.model.specs.Laws.Bool.{by_cases, both_ways, and_left, and_right, and_both, not-flip}
-use Rattle.model.specs.Laws.Basics.{each-mem, mem-select}
-use Rattle.model.specs.Laws.Chosen.{chosen-below, chosen-within}
+use Rattle.model.proofs.Laws.Bool.{by_cases, both_ways, and_left, and_right, and_both, not-flip}
+use Rattle.model.proofs.Laws.Basics.{each-mem, mem-select}
+use Rattle.model.proofs.Laws.Chosen.{chosen-below, chosen-within}
 use Rattle.line.specs.Line.{moves_in}
 use Rattle.dominance.specs.Lanes.{Lanes, bound, is_chosen}
 use Rattle.dominance.specs.Laws.Lanes.{places-bounds}

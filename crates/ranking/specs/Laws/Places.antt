@@ -7,7 +7,7 @@ use Rattle.std.proofs.Math.Path.{refl, sym, ap, ap₂}
 use Rattle.std.proofs.Common.{◌∙◌, add-one, arith}
 use Rattle.std.proofs.Math.ListN.{length, length-append}
 use Rattle.model.specs.Basics.{Each, cons_if, select, count, numbers_from}
-use Rattle.model.specs.Laws.Basics.{each_append, select-append}
+use Rattle.model.proofs.Laws.Basics.{each_append, select-append}
 use Rattle.promises.specs.Layout.{tab}
 use Rattle.upkeep.specs.Laws.Places.{count-more}
 

@@ -9,8 +9,8 @@ use Rattle.std.proofs.lemmas.List.{length-map}
 use Rattle.model.specs.Basics.{select, numbers_from}
 use Rattle.model.specs.Moves.{listed, row_of}
 use Rattle.model.specs.Lists.{listed_rows}
-use Rattle.model.specs.Laws.Basics.{select-ext}
-use Rattle.model.specs.Laws.Range.{each-place}
+use Rattle.model.proofs.Laws.Basics.{select-ext}
+use Rattle.model.proofs.Laws.Range.{each-place}
 use Rattle.promises.specs.Layout.{number_in, move_in}
 use Rattle.promises.specs.Answers.{result_row}
 use Rattle.memory.specs.Held.{SoundAt}

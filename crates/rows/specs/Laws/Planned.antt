@@ -11,8 +11,8 @@ use Rattle.model.specs.Moves.{Row}
 use Rattle.model.specs.Tree.{Tree}
 use Rattle.model.specs.Calls as calls
 use Rattle.model.specs.Calls.{accepted, refused_with, or_else, rows_answer, Query, query_refusal, query_rows, query_answer}
-use Rattle.model.specs.Laws.Bool.{by_cases}
-use Rattle.model.specs.Laws.Basics.{map-take, map-drop}
+use Rattle.model.proofs.Laws.Bool.{by_cases}
+use Rattle.model.proofs.Laws.Basics.{map-take, map-drop}
 use Rattle.promises.specs.Layout.{dimension_in, board_in}
 use Rattle.model.specs.Opening.{query_opens}
 use Rattle.memory.specs.declared.head.Head.{Head}

@@ -11,9 +11,9 @@ use native.Mathlib.Omega.{arith}
 use Rattle.std.proofs.Math.ListN.{length, set, drop, length-set}
 use Rattle.std.proofs.Math.Seq.{paste, paste-zero, paste-suc, drop-drop}
 use Rattle.model.specs.Basics.{cons_if, select, numbers_from, first_or}
-use Rattle.model.specs.Laws.Bool.{by_cases, test_cases}
-use Rattle.model.specs.Laws.Basics.{select-append}
-use Rattle.model.specs.Laws.Range.{numbers-append}
+use Rattle.model.proofs.Laws.Bool.{by_cases, test_cases}
+use Rattle.model.proofs.Laws.Basics.{select-append}
+use Rattle.model.proofs.Laws.Range.{numbers-append}
 use Rattle.promises.specs.Layout.{move_in}
 use Rattle.dominance.specs.Move.{as_move}
 use Rattle.upkeep.specs.Change.{places_in}

@@ -13,8 +13,8 @@ use Rattle.std.proofs.Math.Dec.{leb}
 use Rattle.std.proofs.Math.ListN.{length, get_or, get_or-eq_default}
 use Rattle.zorder.specs.Address.{row_costs}
 use Rattle.model.specs.Dominance.{less, nowhere_greater}
-use Rattle.model.specs.Laws.Bool.{by_cases, both_ways, and_left, and_right, and_both, same_test}
-use Rattle.model.specs.Laws.Dominance.{nowhere-greater-places, places-nowhere-greater}
+use Rattle.model.proofs.Laws.Bool.{by_cases, both_ways, and_left, and_right, and_both, same_test}
+use Rattle.model.proofs.Laws.Dominance.{nowhere-greater-places, places-nowhere-greater}
 use Rattle.memory.specs.Tests.{all_to}
 use Rattle.search.specs.Columns.{column_fits, fitting, Column, Bounds, FittingColumn, NoneFits, SomeFits, Put}
 use Rattle.memory.specs.Laws.Places.{all_to-at, all_to-all}

@@ -8,8 +8,8 @@ use Rattle.std.proofs.Common.{sym, ◌∙◌, eq-or-lt_of_le, le_of_suc-le-suc, 
 use Rattle.std.proofs.Math.Nat.{add-zero}
 use native.Mathlib.Omega.{arith}
 use Rattle.model.specs.Basics.{count, select}
-use Rattle.model.specs.Laws.Bool.{by_cases, both_ways}
-use Rattle.model.specs.Laws.Basics.{at_most_one, count-append, count-cons}
+use Rattle.model.proofs.Laws.Bool.{by_cases, both_ways}
+use Rattle.model.proofs.Laws.Basics.{at_most_one, count-append, count-cons}
 use Rattle.promises.specs.Layout.{tab}
 use Rattle.search.specs.Columns.{count_to}
 use Rattle.search.specs.Search.{None, First}

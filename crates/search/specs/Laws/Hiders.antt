@@ -5,8 +5,8 @@ use Rattle.std.proofs.Common.{◌∙◌, arith, lt-ltb, le-ltb}
 use Rattle.std.proofs.Math.Decide.{dec_lt}
 use Rattle.zorder.specs.Address.{row_costs}
 use Rattle.model.specs.Dominance.{nowhere_greater, hides}
-use Rattle.model.specs.Laws.Bool.{not-flip}
-use Rattle.model.specs.Laws.Hiding.{earlier-hides}
+use Rattle.model.proofs.Laws.Bool.{not-flip}
+use Rattle.model.proofs.Laws.Hiding.{earlier-hides}
 use Rattle.dominance.specs.Lanes.{Lanes, bound, is_first}
 use Rattle.dominance.specs.Laws.Lanes.{bounds-first}
 use Rattle.promises.specs.Layout.{number_in, costs_in, move_in}

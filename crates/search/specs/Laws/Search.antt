@@ -9,13 +9,13 @@ use Rattle.std.proofs.Math.Nat.{min-le_left}
 use Rattle.std.proofs.Math.ListN.{get_or-eq_default}
 use Rattle.zorder.specs.Address.{row_costs}
 use Rattle.model.specs.Dominance.{nowhere_greater, somewhere_less}
-use Rattle.model.specs.Laws.Bool.{by_cases, both_ways, and-false-right}
-use Rattle.model.specs.Laws.Dominance.{nowhere-greater-places, somewhere-less-place}
+use Rattle.model.proofs.Laws.Bool.{by_cases, both_ways, and-false-right}
+use Rattle.model.proofs.Laws.Dominance.{nowhere-greater-places, somewhere-less-place}
 use Rattle.dominance.specs.Lanes.{Lanes, bound, is_first, lesser}
 use Rattle.dominance.specs.Laws.Lanes.{lesser-below}
 use Rattle.dominance.specs.Laws.Sums.{nowhere-somewhere}
 use Rattle.promises.specs.Layout.{number_in, costs_in, tab}
-use Rattle.promises.specs.Laws.Tab.{length-tab, get_or-tab, tab-of}
+use Rattle.promises.proofs.Laws.Tab.{length-tab, get_or-tab, tab-of}
 use Rattle.memory.specs.Laws.Costs.{row-length}
 use Rattle.search.specs.Search.{looks_at, seen, seen_at, bounds_at, fits, None, First, Some, Below, Under, Corners, CornerWith}
 use Rattle.search.specs.declared.search.Among.{Among}

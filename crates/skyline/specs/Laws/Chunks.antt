@@ -5,7 +5,7 @@ use Rattle.std.proofs.Common.{⊎_elim, sym, ap, ◌∙◌, subst, arith, lt-ltb
 use Rattle.std.proofs.Math.Decide.{ℕ_discrete}
 use Rattle.zorder.specs.Address.{row_costs}
 use Rattle.model.specs.Dominance.{nowhere_greater, somewhere_less}
-use Rattle.model.specs.Laws.Bool.{by_cases, both_ways, and_both}
+use Rattle.model.proofs.Laws.Bool.{by_cases, both_ways, and_both}
 use Rattle.dominance.specs.Lanes.{Lanes, lesser}
 use Rattle.promises.specs.Layout.{number_in}
 use Rattle.promises.specs.Run.{Bytes}

@@ -3,7 +3,7 @@ use Rattle.std.specs.Prelude.{ℕ, zero, suc, ◌+◌, ◌<◌, Bool, true, fals
 use Rattle.std.specs.Bool.{beq}
 use Rattle.std.proofs.Math.Path.{refl}
 use Rattle.std.proofs.Common.{ap₂, ◌∙◌}
-use Rattle.model.specs.Laws.Bool.{or_left, or_right, or-false-both}
+use Rattle.model.proofs.Laws.Bool.{or_left, or_right, or-false-both}
 use Rattle.memory.specs.Tests.{all_to, is_listed, hidden_at, hidden_right, listed_right, flags_right}
 use Rattle.memory.specs.Laws.Places.{all_to-more, all_to-fails}
 

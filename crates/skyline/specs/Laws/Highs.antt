@@ -4,7 +4,7 @@ use Rattle.std.proofs.Common.{sym, ap, ◌∙◌, subst, arith, length-set}
 use Rattle.std.proofs.Math.Decide.{ℕ_discrete}
 use Rattle.zorder.specs.Address.{row_costs}
 use Rattle.model.specs.Dominance.{somewhere_less}
-use Rattle.model.specs.Laws.Bool.{both_ways}
+use Rattle.model.proofs.Laws.Bool.{both_ways}
 use Rattle.dominance.specs.Lanes.{Lanes, greater}
 use Rattle.dominance.specs.Laws.Lanes.{greater-above}
 use Rattle.search.specs.Search.{bounds_at, Under}

@@ -7,7 +7,7 @@ use Rattle.std.proofs.Math.Decide.{ℕ_discrete, dec_lt}
 use borrow.Author.Tests.{lt-ltb, le-ltb}
 use Rattle.zorder.specs.Address.{row_costs}
 use Rattle.model.specs.Dominance.{somewhere_less}
-use Rattle.model.specs.Laws.Bool.{by_cases, and_both, and-false-right}
+use Rattle.model.proofs.Laws.Bool.{by_cases, and_both, and-false-right}
 use Rattle.promises.specs.Run.{Bytes}
 use Rattle.memory.specs.Room.{Ordered}
 use Rattle.memory.specs.Tests.{is_listed, hidden_at, listed_right}

@@ -5,7 +5,7 @@ use Rattle.std.proofs.Math.Path.{ap}
 use Rattle.model.specs.Tree.{Tree}
 use Rattle.model.specs.Calls.{Board}
 use Rattle.model.specs.Sound.{BlocksFit}
-use Rattle.model.specs.Laws.Bool.{by_cases, both_ways}
+use Rattle.model.proofs.Laws.Bool.{by_cases, both_ways}
 use Rattle.line.specs.Line.{heights_in}
 use Rattle.line.specs.Heights.{heights_right}
 use Rattle.promises.specs.Layout.{size_in, dimension_in, count_in, line_in, board_in}

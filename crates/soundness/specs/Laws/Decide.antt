@@ -11,10 +11,10 @@ use Rattle.model.specs.Lists.{skyline}
 use Rattle.model.specs.Tree.{Tree, moves_of}
 use Rattle.model.specs.Calls.{memory_need}
 use Rattle.model.specs.Sound.{Fit}
-use Rattle.model.specs.Laws.Bool.{both_ways}
-use Rattle.model.specs.Laws.Order.{dimension-most}
-use Rattle.model.specs.Laws.Loading.{size-most}
-use Rattle.model.specs.Laws.Tree.{ruled-filled, both-ruled}
+use Rattle.model.proofs.Laws.Bool.{both_ways}
+use Rattle.model.proofs.Laws.Order.{dimension-most}
+use Rattle.model.proofs.Laws.Loading.{size-most}
+use Rattle.model.proofs.Laws.Tree.{ruled-filled, both-ruled}
 use Rattle.line.specs.Line.{Placed, line_of, moves_in, heights_in}
 use Rattle.line.specs.Heights.{heights_right}
 use Rattle.line.specs.Laws.Line.{moves-line}
@@ -23,8 +23,8 @@ use Rattle.line.specs.Laws.Heights.{heights-right, right-heights}
 use Rattle.promises.specs.Layout.{size_in, dimension_in, count_in, number_in, flag_in, move_in, tab, heights_from, line_from, line_in, board_in, kept_from, kept_in}
 use Rattle.promises.specs.Sound.{Stands, Sound}
 use Rattle.promises.specs.Run.{Bytes}
-use Rattle.promises.specs.Laws.Tab.{each-tab}
-use Rattle.promises.specs.Laws.Stands.{costs-row, stands-dimension, stands-moves, stands-order}
+use Rattle.promises.proofs.Laws.Tab.{each-tab}
+use Rattle.promises.proofs.Laws.Stands.{costs-row, stands-dimension, stands-moves, stands-order}
 use Rattle.memory.specs.Room.{Room, Numbers, Readable}
 use Rattle.memory.specs.Held.{HeadOf}
 use Rattle.memory.specs.declared.head.Head.{Head}

@@ -8,17 +8,17 @@ use Rattle.std.proofs.Math.ListN.{length}
 use Rattle.model.specs.Basics.{any}
 use Rattle.model.specs.Tree.{Tree}
 use Rattle.model.specs.Calls.{Board, memory_need}
-use Rattle.model.specs.Laws.Bool.{or_cases}
-use Rattle.model.specs.Laws.Basics.{each-mem, any-witness}
-use Rattle.model.specs.Laws.Tree.{ruled-filled}
+use Rattle.model.proofs.Laws.Bool.{or_cases}
+use Rattle.model.proofs.Laws.Basics.{each-mem, any-witness}
+use Rattle.model.proofs.Laws.Tree.{ruled-filled}
 use Rattle.line.specs.Laws.Decode.{line-injective}
 use Rattle.promises.specs.Layout.{number_place, height_place, flag_place, block_place, cost_place, work_place, size_in, dimension_in, count_in, number_in, tab, board_in}
 use Rattle.promises.specs.Sound.{Stands, Holding}
 use Rattle.promises.specs.Written.{in_area}
 use Rattle.promises.specs.Used.{head_use, rows_use, move_use, in_use, long_enough, SameInUse}
-use Rattle.promises.specs.Laws.Tab.{each-tab}
-use Rattle.promises.specs.Laws.Stands.{stands-dimension}
-use Rattle.promises.specs.Laws.Written.{area-ends}
+use Rattle.promises.proofs.Laws.Tab.{each-tab}
+use Rattle.promises.proofs.Laws.Stands.{stands-dimension}
+use Rattle.promises.proofs.Laws.Written.{area-ends}
 use Rattle.soundness.specs.Laws.Decide.{stands-numbers}
 use Rattle.soundness.specs.Laws.Used.{word_same, used-board, used-stands}
 

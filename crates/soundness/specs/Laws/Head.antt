@@ -3,7 +3,7 @@ use Rattle.std.specs.Prelude.{ℕ, ◌≤◌, Bool, true, false, not, ◌&&◌, 
 use borrow.Author.Tests.{leb-true, le-leb, eqb-true, eq-eqb}
 use Rattle.zorder.specs.Refusal.{cost_count_bad}
 use Rattle.model.specs.Calls.{size_bad, memory_need}
-use Rattle.model.specs.Laws.Bool.{by_cases, and_left, and_right, and_both, not-flip, not_back, same_test}
+use Rattle.model.proofs.Laws.Bool.{by_cases, and_left, and_right, and_both, not-flip, not_back, same_test}
 use Rattle.promises.specs.Layout.{size_in, dimension_in, format_in, format_number, count_in}
 use Rattle.memory.specs.Tests.{head_right}
 

@@ -13,15 +13,15 @@ use Rattle.model.specs.Moves.{Move}
 use Rattle.model.specs.Lists.{skyline}
 use Rattle.model.specs.Tree.{Tree, moves_of, ruled}
 use Rattle.model.specs.Calls.{size_bad, memory_need, blocks_on}
-use Rattle.model.specs.Laws.Bool.{or_left, or_right}
-use Rattle.model.specs.Laws.Basics.{select-ext}
+use Rattle.model.proofs.Laws.Bool.{or_left, or_right}
+use Rattle.model.proofs.Laws.Basics.{select-ext}
 use Rattle.line.specs.Line.{moves_in}
 use Rattle.promises.specs.Layout.{word_at, number_place, height_place, flag_place, block_place, cost_place, size_in, dimension_in, format_in, count_in, number_in, height_in, flag_in, block_in, cost_in, costs_in, move_in, tab, line_from, line_in, board_in, kept_from, kept_in}
 use Rattle.promises.specs.Sound.{Stands}
 use Rattle.promises.specs.Written.{in_area}
 use Rattle.promises.specs.Used.{head_use, rows_use, move_use, in_use, long_enough, SameInUse}
-use Rattle.promises.specs.Laws.Tab.{each-tab, tab-ext}
-use Rattle.promises.specs.Laws.Written.{in-area}
+use Rattle.promises.proofs.Laws.Tab.{each-tab, tab-ext}
+use Rattle.promises.proofs.Laws.Written.{in-area}
 use Rattle.memory.specs.Laws.Places.{any-tab, any_to-found}
 use Rattle.memory.specs.Laws.Lines.{line-ext, moves_in-line}
 use Rattle.memory.specs.Laws.Blocks.{same_blocks}

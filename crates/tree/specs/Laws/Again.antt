@@ -12,15 +12,15 @@ use Rattle.model.specs.Calls.{on_board}
 use Rattle.model.specs.Sound.{Fit}
 use Rattle.model.specs.Entering.{enter_tree}
 use Rattle.model.specs.Withdrawing.{enter_all}
-use Rattle.model.specs.Laws.Bool.{or-false-both}
-use Rattle.model.specs.Laws.Sorting.{any-insert}
-use Rattle.model.specs.Laws.Order.{move-path, move-order, distinct_head, distinct-right}
-use Rattle.model.specs.Laws.Entering.{enter-moves}
+use Rattle.model.proofs.Laws.Bool.{or-false-both}
+use Rattle.model.proofs.Laws.Sorting.{any-insert}
+use Rattle.model.proofs.Laws.Order.{move-path, move-order, distinct_head, distinct-right}
+use Rattle.model.proofs.Laws.Entering.{enter-moves}
 use Rattle.line.specs.Line.{moves_in}
 use Rattle.line.specs.Laws.Line.{moves-line}
 use Rattle.promises.specs.Layout.{costs_in, work_in, tab}
 use Rattle.memory.specs.Frame.{RowsOnly}
-use Rattle.promises.specs.Laws.Tab.{get_or-tab, tab-append, tab-cons}
+use Rattle.promises.proofs.Laws.Tab.{get_or-tab, tab-append, tab-cons}
 use Rattle.memory.specs.Laws.Places.{tab-each}
 use Rattle.memory.specs.Laws.Frames.{frame-refl, frame-trans}
 use Rattle.memory.specs.Laws.Fields.{costs-over-rows, work-over-rows}

@@ -6,7 +6,7 @@ use Rattle.std.proofs.Math.Path.{refl, ap}
 use Rattle.std.proofs.Common.{sym, ◌∙◌, lt-ltb, le-ltb}
 use native.Mathlib.Omega.{arith}
 use Rattle.model.specs.Entering.{least_by}
-use Rattle.model.specs.Laws.Bool.{cond_cases}
+use Rattle.model.proofs.Laws.Bool.{cond_cases}
 use Rattle.line.specs.Line.{Placed, heights_in}
 use Rattle.line.specs.Places.{entry_among, node_end, entry_at, side_at}
 use Rattle.line.specs.Enter.{cut_sides, cut_entry}

@@ -15,20 +15,20 @@ use Rattle.model.specs.Tree.{Tree, moves_of}
 use Rattle.model.specs.Calls.{on_board}
 use Rattle.model.specs.Sound.{Fit}
 use Rattle.model.specs.Withdrawing.{without, withdraw_tree}
-use Rattle.model.specs.Laws.Bool.{by_cases}
-use Rattle.model.specs.Laws.Basics.{each-mem, mem-each, any-mem, any-witness, count-append, count-pos}
-use Rattle.model.specs.Laws.Sorting.{rising-once}
-use Rattle.model.specs.Laws.Order.{move-path, move-order}
-use Rattle.model.specs.Laws.Numbers.{once-distinct}
-use Rattle.model.specs.Laws.Tree.{ruled-ordered}
-use Rattle.model.specs.Laws.Withdrawing.{withdraw-moves}
+use Rattle.model.proofs.Laws.Bool.{by_cases}
+use Rattle.model.proofs.Laws.Basics.{each-mem, mem-each, any-mem, any-witness, count-append, count-pos}
+use Rattle.model.proofs.Laws.Sorting.{rising-once}
+use Rattle.model.proofs.Laws.Order.{move-path, move-order}
+use Rattle.model.proofs.Laws.Numbers.{once-distinct}
+use Rattle.model.proofs.Laws.Tree.{ruled-ordered}
+use Rattle.model.proofs.Laws.Withdrawing.{withdraw-moves}
 use Rattle.line.specs.Line.{moves_in}
 use Rattle.line.specs.Withdraw as line
 use Rattle.line.specs.Laws.Line.{moves-line}
 use Rattle.line.specs.Laws.Taken.{numbered}
 use Rattle.line.specs.Laws.Withdraw.{one-numbered}
 use Rattle.promises.specs.Layout.{number_in, costs_in, move_in, line_from, tab}
-use Rattle.promises.specs.Laws.Tab.{length-tab, each-tab}
+use Rattle.promises.proofs.Laws.Tab.{length-tab, each-tab}
 use Rattle.memory.specs.Laws.Places.{any_to-found, any-tab}
 use Rattle.memory.specs.Laws.Lines.{moves_in-line}
 use Rattle.tree.specs.Hold.{RowsHold}

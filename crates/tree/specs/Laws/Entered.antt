@@ -8,11 +8,11 @@ use Rattle.model.specs.Moves.{Move, no_move, move_before, ordered, insert}
 use Rattle.model.specs.Tree.{Tree, moves_of}
 use Rattle.model.specs.Entering.{enter_tree}
 use Rattle.model.specs.Sound.{Fit}
-use Rattle.model.specs.Laws.Basics.{each_at}
-use Rattle.model.specs.Laws.Sorting.{StrictOrder, each-insert}
-use Rattle.model.specs.Laws.Order.{move-order, off-board}
-use Rattle.model.specs.Laws.Tree.{ruled-filled, ruled-ordered}
-use Rattle.model.specs.Laws.Entering.{enter-moves, enter-ruled}
+use Rattle.model.proofs.Laws.Basics.{each_at}
+use Rattle.model.proofs.Laws.Sorting.{StrictOrder, each-insert}
+use Rattle.model.proofs.Laws.Order.{move-order, off-board}
+use Rattle.model.proofs.Laws.Tree.{ruled-filled, ruled-ordered}
+use Rattle.model.proofs.Laws.Entering.{enter-moves, enter-ruled}
 use Rattle.line.specs.Line.{Placed, none, line_of, moves_in}
 use Rattle.line.specs.Places.{height_at, insert_at}
 use Rattle.line.specs.Enter.{place_for, placed, cascade, flat_enter}
@@ -22,7 +22,7 @@ use Rattle.line.specs.Laws.Enter.{enter-cons, flat-enter-ruled}
 use Rattle.promises.specs.Layout.{height_in, move_in, placed_in, tab, line_from}
 use Rattle.memory.specs.Room.{Numbers, Ordered}
 use Rattle.memory.specs.Frame.{RowsOnly}
-use Rattle.promises.specs.Laws.Tab.{length-tab, get_or-tab}
+use Rattle.promises.proofs.Laws.Tab.{length-tab, get_or-tab}
 use Rattle.memory.specs.Laws.Frames.{frame-refl, frame-trans, room-over}
 use Rattle.memory.specs.Laws.Lines.{length-line, get_or-line, height_at-line, moves_in-line}
 use Rattle.memory.specs.Laws.Ordered.{line-ordered}

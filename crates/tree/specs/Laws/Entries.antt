@@ -10,8 +10,8 @@ use native.Mathlib.Omega.{arith}
 use Rattle.std.proofs.Math.ListN.{drop}
 use Rattle.std.proofs.Math.Seq.{take-nil}
 use Rattle.model.specs.Basics.{count, select}
-use Rattle.model.specs.Laws.Bool.{test_cases}
-use Rattle.model.specs.Laws.Basics.{count-cons}
+use Rattle.model.proofs.Laws.Bool.{test_cases}
+use Rattle.model.proofs.Laws.Basics.{count-cons}
 use Rattle.line.specs.Places.{lower_among, end_among, entries_among, entry_among}
 use Rattle.line.specs.Laws.Places.{end-past, entry_next, end-high}
 

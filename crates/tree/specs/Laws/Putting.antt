@@ -10,9 +10,9 @@ use Rattle.std.proofs.Math.ListN.{drop, get_or-eq_default}
 use Rattle.zorder.specs.Between.{side_of}
 use Rattle.model.specs.Basics.{Each}
 use Rattle.model.specs.Moves.{Move}
-use Rattle.model.specs.Laws.Bool.{cond_cases, both_ways}
-use Rattle.model.specs.Laws.Basics.{each_append, each_set}
-use Rattle.model.specs.Laws.Tree.{each_take, each-drop}
+use Rattle.model.proofs.Laws.Bool.{cond_cases, both_ways}
+use Rattle.model.proofs.Laws.Basics.{each_append, each_set}
+use Rattle.model.proofs.Laws.Tree.{each_take, each-drop}
 use Rattle.line.specs.Line.{Placed, none}
 use Rattle.line.specs.Places as places
 use Rattle.line.specs.Places.{move_at, height_at, node_start, node_end, insert_at}

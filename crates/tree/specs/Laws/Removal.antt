@@ -11,11 +11,11 @@ use Rattle.model.specs.Tree.{Entry, Tree, empty, rooted, moves_of, filled_tree, 
 use Rattle.model.specs.Calls.{on_board}
 use Rattle.model.specs.Sound.{Fit}
 use Rattle.model.specs.Withdrawing.{without, withdraw_node, settled, enter_all, withdraw_tree}
-use Rattle.model.specs.Laws.Basics.{each_left, each_right, each-select, select-map}
-use Rattle.model.specs.Laws.Sorting.{StrictOrder}
-use Rattle.model.specs.Laws.Order.{move-order, distinct-left, distinct-right, distinct-select}
-use Rattle.model.specs.Laws.Tree.{ruled-filled, ruled-ordered, both-ruled}
-use Rattle.model.specs.Laws.Withdrawing.{left-filled}
+use Rattle.model.proofs.Laws.Basics.{each_left, each_right, each-select, select-map}
+use Rattle.model.proofs.Laws.Sorting.{StrictOrder}
+use Rattle.model.proofs.Laws.Order.{move-order, distinct-left, distinct-right, distinct-select}
+use Rattle.model.proofs.Laws.Tree.{ruled-filled, ruled-ordered, both-ruled}
+use Rattle.model.proofs.Laws.Withdrawing.{left-filled}
 use Rattle.line.specs.Line.{Placed, line_of, moves_in}
 use Rattle.line.specs.Places.{height_at}
 use Rattle.line.specs.Withdraw as line
@@ -24,7 +24,7 @@ use Rattle.line.specs.Laws.Removed.{range_of, range_rows, flat-remove-own, Parte
 use Rattle.line.specs.Laws.Withdraw.{ends-each, ends-rising, moves-in-order}
 use Rattle.promises.specs.Layout.{number_in, height_in, costs_in, work_in, move_in, placed_in, line_from, tab}
 use Rattle.memory.specs.Frame.{RowsOnly}
-use Rattle.promises.specs.Laws.Tab.{tab-ext, take-tab, drop-tab, map-tab, get_or-tab}
+use Rattle.promises.proofs.Laws.Tab.{tab-ext, take-tab, drop-tab, map-tab, get_or-tab}
 use Rattle.memory.specs.Laws.Places.{tab-each}
 use Rattle.memory.specs.Laws.Frames.{frame-trans, room-over}
 use Rattle.memory.specs.Laws.Fields.{work-over-rows, costs-over-rows, costs-over-work}

@@ -7,7 +7,7 @@ use Rattle.std.proofs.Math.Path.{sym, ap, ap₂}
 use Rattle.std.proofs.Common.{◌∙◌, eq-eqb, ne_eqb}
 use native.Mathlib.Omega.{arith}
 use Rattle.model.specs.Basics.{cons_if, select}
-use Rattle.model.specs.Laws.Basics.{select-append}
+use Rattle.model.proofs.Laws.Basics.{select-append}
 use Rattle.line.specs.Line.{Placed}
 use Rattle.line.specs.Places.{move_at}
 use Rattle.line.specs.Withdraw as line
@@ -15,7 +15,7 @@ use Rattle.promises.specs.Layout.{number_in, work_in, move_in, line_from, tab}
 use Rattle.memory.specs.Room.{Room}
 use Rattle.memory.specs.Stores.{set_work}
 use Rattle.memory.specs.Frame.{WorkOnly}
-use Rattle.promises.specs.Laws.Tab.{tab-ext}
+use Rattle.promises.proofs.Laws.Tab.{tab-ext}
 use Rattle.memory.specs.Laws.Frames.{frame-refl, frame-trans}
 use Rattle.memory.specs.Laws.Fields.{number-over-work}
 use Rattle.memory.specs.Laws.Stored.{set_work-work, work-set_work, work-set_work-other}

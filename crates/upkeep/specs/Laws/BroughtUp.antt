@@ -18,15 +18,15 @@ use Rattle.model.specs.Nodes.{Node, nodes_of, near_corner_of, far_corner_of, ope
 use Rattle.model.specs.Withdrawing.{without, costs_on}
 use Rattle.model.specs.Calls.{on_board}
 use Rattle.model.specs.Opening.{opens_for, withdraw_opens}
-use Rattle.model.specs.Laws.Bool.{by_cases, same_test, both_ways, and_both, and_left, and_right, not_back}
-use Rattle.model.specs.Laws.Basics.{mem-each, any-mem, any-witness, any-select, count-ext}
-use Rattle.model.specs.Laws.Dominance.{row-lengths}
-use Rattle.model.specs.Laws.Order.{distinct-select, costs-on-own}
-use Rattle.model.specs.Laws.Skyline.{skyline-mem, mem-skyline}
-use Rattle.model.specs.Laws.Changes.{mem-without}
+use Rattle.model.proofs.Laws.Bool.{by_cases, same_test, both_ways, and_both, and_left, and_right, not_back}
+use Rattle.model.proofs.Laws.Basics.{mem-each, any-mem, any-witness, any-select, count-ext}
+use Rattle.model.proofs.Laws.Dominance.{row-lengths}
+use Rattle.model.proofs.Laws.Order.{distinct-select, costs-on-own}
+use Rattle.model.proofs.Laws.Skyline.{skyline-mem, mem-skyline}
+use Rattle.model.proofs.Laws.Changes.{mem-without}
 use Rattle.model.specs.Runs.{NodeIn}
-use Rattle.model.specs.Laws.Nodes.{node-near, node-far}
-use Rattle.model.specs.Laws.Opening.{dominates-or-equals, far-corner-row, brought-up-counts}
+use Rattle.model.proofs.Laws.Nodes.{node-near, node-far}
+use Rattle.model.proofs.Laws.Opening.{dominates-or-equals, far-corner-row, brought-up-counts}
 use Rattle.line.specs.Line.{moves_in}
 use Rattle.line.specs.Search.{opened_past}
 use Rattle.promises.specs.Layout.{number_in, move_in, line_from}

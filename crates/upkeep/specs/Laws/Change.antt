@@ -18,10 +18,10 @@ use Rattle.model.specs.Tree.{Tree}
 use Rattle.model.specs.Opening.{withdraw_opens}
 use Rattle.model.specs.Withdrawing.{without}
 use Rattle.model.specs.Sound.{Fit}
-use Rattle.model.specs.Laws.Bool.{test_cases, same_test, both_ways, and_both, and_left, and_right, and-drop-left, and-false-right}
-use Rattle.model.specs.Laws.Basics.{select-map, select-ext, any-map, any-select, any-mem, any-mono, count-ext}
-use Rattle.model.specs.Laws.Range.{each-place}
-use Rattle.model.specs.Laws.Skyline.{HiderIn, skyline-mem, enter-hidden, skyline-hider, enter-hidden-self}
+use Rattle.model.proofs.Laws.Bool.{test_cases, same_test, both_ways, and_both, and_left, and_right, and-drop-left, and-false-right}
+use Rattle.model.proofs.Laws.Basics.{select-map, select-ext, any-map, any-select, any-mem, any-mono, count-ext}
+use Rattle.model.proofs.Laws.Range.{each-place}
+use Rattle.model.proofs.Laws.Skyline.{HiderIn, skyline-mem, enter-hidden, skyline-hider, enter-hidden-self}
 use Rattle.line.specs.Line.{moves_in}
 use Rattle.promises.specs.Layout.{number_in, move_in, line_from}
 use Rattle.promises.specs.Sound.{Stands}

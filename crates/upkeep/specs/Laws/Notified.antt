@@ -8,11 +8,11 @@ use Rattle.std.proofs.Common.{ap₂, ◌∙◌, subst}
 use Rattle.model.specs.Basics.{Each, select, rising, insert_by}
 use Rattle.model.specs.Moves.{Move, move_before}
 use Rattle.model.specs.Lists.{hidden, skyline}
-use Rattle.model.specs.Laws.Bool.{by_cases, test_cases, same_test, and_both, and_left, and_right, not-flip, not_back}
-use Rattle.model.specs.Laws.Basics.{mem-each, select-mem, select-ext, select-select, select-map, select-append}
-use Rattle.model.specs.Laws.Sorting.{StrictOrder, select-insert, insert-append-right, insert-before}
-use Rattle.model.specs.Laws.Skyline.{skyline-mem, mem-skyline}
-use Rattle.model.specs.Laws.Notice.{among, gone, mem-among, among-mem}
+use Rattle.model.proofs.Laws.Bool.{by_cases, test_cases, same_test, and_both, and_left, and_right, not-flip, not_back}
+use Rattle.model.proofs.Laws.Basics.{mem-each, select-mem, select-ext, select-select, select-map, select-append}
+use Rattle.model.proofs.Laws.Sorting.{StrictOrder, select-insert, insert-append-right, insert-before}
+use Rattle.model.proofs.Laws.Skyline.{skyline-mem, mem-skyline}
+use Rattle.model.proofs.Laws.Notice.{among, gone, mem-among, among-mem}
 
 enter-order : (s l : Bool) → (s && not l) ≡ (not l && s)
 enter-order true true = refl

@@ -8,9 +8,9 @@ use Rattle.zorder.specs.Address.{row_costs}
 use Rattle.model.specs.Moves.{Move, move_before, ordered}
 use Rattle.model.specs.Dominance.{hides}
 use Rattle.model.specs.Sound.{Fit}
-use Rattle.model.specs.Laws.Bool.{by_cases, both_ways, and_both, and-false-right, not-flip}
-use Rattle.model.specs.Laws.Order.{move-order, before-trans, before-irrefl}
-use Rattle.model.specs.Laws.Hiding.{earlier-hides, move-hiding}
+use Rattle.model.proofs.Laws.Bool.{by_cases, both_ways, and_both, and-false-right, not-flip}
+use Rattle.model.proofs.Laws.Order.{move-order, before-trans, before-irrefl}
+use Rattle.model.proofs.Laws.Hiding.{earlier-hides, move-hiding}
 use Rattle.dominance.specs.Lanes.{Lanes, bound, is_first}
 use Rattle.line.specs.Places.{move_at}
 use Rattle.line.specs.Enter.{place_for}

@@ -7,9 +7,9 @@ use Rattle.std.proofs.Common.{◌∙◌, subst, arith, eqb-true, eq-eqb, length-
 use Rattle.std.proofs.Math.Dec.{eqb}
 use Rattle.std.proofs.Math.ListN.{length}
 use Rattle.model.specs.Basics.{cons_if, any, numbers_from, has}
-use Rattle.model.specs.Laws.Bool.{or_swap, same_test}
-use Rattle.model.specs.Laws.Basics.{mem-select, select-mem, any_append, any-mem, any-witness}
-use Rattle.model.specs.Laws.Order.{has-map}
+use Rattle.model.proofs.Laws.Bool.{or_swap, same_test}
+use Rattle.model.proofs.Laws.Basics.{mem-select, select-mem, any_append, any-mem, any-witness}
+use Rattle.model.proofs.Laws.Order.{has-map}
 use Rattle.promises.specs.Layout.{number_in}
 use Rattle.numbers.specs.Set.{in_set, With}
 use Rattle.upkeep.specs.Change.{places_in, Passing}

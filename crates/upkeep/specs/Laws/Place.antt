@@ -8,8 +8,8 @@ use Rattle.std.proofs.Common.{le_of_suc-le-suc, not-suc-le-zero}
 use Rattle.std.proofs.Math.ListN.{length}
 use Rattle.model.specs.Basics.{Each, rising}
 use Rattle.model.specs.Moves.{Move, move_before}
-use Rattle.model.specs.Laws.Bool.{by_cases, both_ways}
-use Rattle.model.specs.Laws.Sorting.{StrictOrder, rising-head, rising-tail}
+use Rattle.model.proofs.Laws.Bool.{by_cases, both_ways}
+use Rattle.model.proofs.Laws.Sorting.{StrictOrder, rising-head, rising-tail}
 use Rattle.line.specs.Line.{Placed, none, moves_in}
 use Rattle.line.specs.Enter.{place_for}
 

@@ -8,11 +8,11 @@ use Rattle.std.proofs.Math.Path.{refl, sym, ap, ap₂}
 use native.Mathlib.Omega.{arith}
 use Rattle.model.specs.Basics.{cons_if, select, any, count, numbers_from}
 use Rattle.model.specs.Moves.{Move}
-use Rattle.model.specs.Laws.Basics.{each-mem, select-append, select-all, select-none, select-few, any-map, count-append, count-cons}
-use Rattle.model.specs.Laws.Range.{each-numbers, each-place, numbers-append, length-numbers}
+use Rattle.model.proofs.Laws.Basics.{each-mem, select-append, select-all, select-none, select-few, any-map, count-append, count-cons}
+use Rattle.model.proofs.Laws.Range.{each-numbers, each-place, numbers-append, length-numbers}
 use Rattle.promises.specs.Layout.{tab}
 use Rattle.memory.specs.Tests.{any_to}
-use Rattle.promises.specs.Laws.Tab.{tab-cons, tab-ext}
+use Rattle.promises.proofs.Laws.Tab.{tab-cons, tab-ext}
 use Rattle.memory.specs.Laws.Places.{any-tab}
 use Rattle.upkeep.specs.Change.{drop_at, places_in}
 

@@ -11,7 +11,7 @@ use Rattle.std.proofs.Math.Dec.{leb}
 use Rattle.zorder.specs.Address.{row_costs, padded}
 use Rattle.zorder.specs.Between.{RowCosts}
 use Rattle.zorder.specs.Refusal.{all_zero, cost_past_bad}
-use Rattle.zorder.specs.Laws.Between.{row-padded}
+use Rattle.zorder.proofs.Laws.Between.{row-padded}
 use Rattle.model.specs.Basics.{Each, select, any, sort_by}
 use Rattle.model.specs.Moves.{Move, Row, row_of, same_row, listed, left, entered}
 use Rattle.model.specs.Dominance.{dominates_at, dominates_on}
@@ -19,9 +19,9 @@ use Rattle.model.specs.Lists.{hidden, skyline, dominators, band, rank_before, ra
 use Rattle.model.specs.Hours.{block_open, open_moves}
 use Rattle.model.specs.Notice.{missing, notice_of}
 use Rattle.model.specs.Calls.{Board, list_of, changed, changed_moves, query_rows, Change, change_notice}
-use Rattle.model.specs.Laws.Basics.{each_append, each-select}
-use Rattle.model.specs.Laws.Sorting.{each-sort}
-use Rattle.model.specs.Laws.Tree.{each_take}
+use Rattle.model.proofs.Laws.Basics.{each_append, each-select}
+use Rattle.model.proofs.Laws.Sorting.{each-sort}
+use Rattle.model.proofs.Laws.Tree.{each_take}
 use Rattle.width.specs.Width.{Covered, list, band_query, rank_query, on_k_query, chosen_query, hours_query, query_of, narrow, widened, row_with, board_with, change_with}
 use Rattle.width.specs.Laws.Width.{KeepsFirst, query-rows-with}
 use Rattle.width.specs.Laws.WidthChanges.{FitCosts, FitChange, fit-rows, fit-skyline, fit-changed, change-notice-with}

@@ -9,7 +9,7 @@ use Rattle.std.proofs.Math.Dec.{ltb, leb}
 use Rattle.std.proofs.Math.ListN.{length, take, length-map}
 use Rattle.zorder.specs.Between.{before, same_place}
 use Rattle.zorder.specs.Refusal.{cost_past_bad}
-use Rattle.zorder.specs.Laws.FirstCosts.{before-alike, same-place-alike}
+use Rattle.zorder.proofs.Laws.FirstCosts.{before-alike, same-place-alike}
 use Rattle.model.specs.Basics.{Each, select, any, count, sort_by, parts, numbers_from, equal}
 use Rattle.model.specs.Moves.{Move, Row, row_of, listed, z_before, move_before, row_before}
 use Rattle.model.specs.Dominance.{better, dominates, at, dominates_at, dominates_on, equal_costs, lower_twin, hides}
@@ -17,10 +17,10 @@ use Rattle.model.specs.Lists.{hidden, skyline, dominators, band, dominated, rank
 use Rattle.model.specs.Hours.{block_open, open_moves}
 use Rattle.model.specs.Calls.{Board, list_of, query_rows, query_refusal, query_answer, Answer, or_else, rows_answer}
 use Rattle.width.specs.Width.{Covered, list, band_query, rank_query, on_k_query, chosen_query, hours_query, query_of, move_with, row_with, board_with}
-use Rattle.model.specs.Laws.Basics.{each-mem, mem-each, parts-each, any-map, any-ext, select-map, count_map, map-take}
-use Rattle.model.specs.Laws.Range.{each-place}
-use Rattle.model.specs.Laws.Chosen.{chosen-below}
-use Rattle.model.specs.Laws.Sorting.{map-sort}
+use Rattle.model.proofs.Laws.Basics.{each-mem, mem-each, parts-each, any-map, any-ext, select-map, count_map, map-take}
+use Rattle.model.proofs.Laws.Range.{each-place}
+use Rattle.model.proofs.Laws.Chosen.{chosen-below}
+use Rattle.model.proofs.Laws.Sorting.{map-sort}
 
 -- What g keeps of a row's costs: the first d, that those past d are zero, and that there are none.
 pub record KeepsFirst (d : ℕ) (g : List ℕ → List ℕ) : Type 0 where

@@ -11,8 +11,8 @@ use Rattle.std.proofs.Math.ListN.{length, length-map}
 use Rattle.zorder.specs.Address.{row_costs, padded}
 use Rattle.zorder.specs.Between.{RowCosts}
 use Rattle.zorder.specs.Refusal.{refusal, cost_past_bad}
-use Rattle.zorder.specs.Laws.Between.{row-padded}
-use Rattle.zorder.specs.Laws.Refusal.{first_passes, rest-passes}
+use Rattle.zorder.proofs.Laws.Between.{row-padded}
+use Rattle.zorder.proofs.Laws.Refusal.{first_passes, rest-passes}
 use Rattle.model.specs.Basics.{Each, any, has, equal}
 use Rattle.model.specs.Moves.{Move, InputRow, Row, move_of, row_of, same_row, left, entered, move_before, insert, in_z_order}
 use Rattle.model.specs.Lists.{skyline}
@@ -23,10 +23,10 @@ use Rattle.model.specs.Withdrawing.{without, withdraw_tree, costs_on, unchanged,
 use Rattle.model.specs.Notice.{missing, notice_of}
 use Rattle.model.specs.Changing.{change_tree}
 use Rattle.model.specs.Calls.{Answer, refused_with, or_else, rows_answer, Board, block_bad, row_refusal, rows_refusal, load_answer, give_block, row_blocks, loaded, Change, enter, withdraw, recost, on_board, change_refusal, changed_moves, changed_blocks, changed, list_of, change_notice, change_answer}
-use Rattle.model.specs.Laws.Bool.{same_test, cond_map}
-use Rattle.model.specs.Laws.Basics.{each-mem, mem-each, each_map, each-select, any-map, any-ext, select-map, select-ext, equal-refl, equal-true}
-use Rattle.model.specs.Laws.Sorting.{map-insert, each-insert}
-use Rattle.model.specs.Laws.Order.{costs-on-fit}
+use Rattle.model.proofs.Laws.Bool.{same_test, cond_map}
+use Rattle.model.proofs.Laws.Basics.{each-mem, mem-each, each_map, each-select, any-map, any-ext, select-map, select-ext, equal-refl, equal-true}
+use Rattle.model.proofs.Laws.Sorting.{map-insert, each-insert}
+use Rattle.model.proofs.Laws.Order.{costs-on-fit}
 use Rattle.width.specs.Width.{move_with, input_with, row_with, board_with, change_with, tree_with}
 use Rattle.width.specs.Laws.Width.{KeepsFirst, move-before-with, skyline-with, rows-with}
 use Rattle.width.specs.Laws.WidthTree.{sorted-with, load-with, enter-with, without-with, costs-on-with, on-board-with, withdraw-with, moves-of-with}

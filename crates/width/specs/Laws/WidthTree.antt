@@ -10,7 +10,7 @@ use Rattle.std.proofs.Math.Dec.{leb, eqb}
 use Rattle.std.proofs.Math.ListN.{length, take, drop}
 use Rattle.std.proofs.lemmas.List.{length-map}
 use Rattle.zorder.specs.Between.{side_of, near_of, far_of}
-use Rattle.zorder.specs.Laws.FirstCosts.{side-alike, near-alike, far-alike}
+use Rattle.zorder.proofs.Laws.FirstCosts.{side-alike, near-alike, far-alike}
 use Rattle.model.specs.Basics.{any, all, count, first_or, last_or, within, equal}
 use Rattle.model.specs.Moves.{Move, no_move, move_before, insert, in_z_order, ordered}
 use Rattle.model.specs.Dominance.{better, dominates, equal_costs}
@@ -23,9 +23,9 @@ use Rattle.model.specs.Nodes.{Node, node_of, nodes_from, nodes_of, near_corner_o
 use Rattle.model.specs.Calls.{on_board, Change, enter, withdraw, recost}
 use Rattle.model.specs.Opening.{opens_for, withdraw_opens, change_opens}
 use Rattle.width.specs.Width.{move_with, change_with, entry_with, tree_with}
-use Rattle.model.specs.Laws.Bool.{cond_map}
-use Rattle.model.specs.Laws.Basics.{any-map, select-map, count_map, map-take, map-drop}
-use Rattle.model.specs.Laws.Sorting.{map-insert, map-sort, map-rising}
+use Rattle.model.proofs.Laws.Bool.{cond_map}
+use Rattle.model.proofs.Laws.Basics.{any-map, select-map, count_map, map-take, map-drop}
+use Rattle.model.proofs.Laws.Sorting.{map-insert, map-sort, map-rising}
 use Rattle.width.specs.Laws.Width.{KeepsFirst, move-before-with, skyline-with}
 
 -- ---- lists mapped

@@ -3,7 +3,7 @@ use mathlib.Core.Path.{refl, sym, ◌∙◌}
 use native.Mathlib.Omega.{arith}
 use borrow.Author.Rules.{rules}
 use borrow.Author.Tests.{eqb-true, eqb-false, not-true, not-false}
-use Rattle.model.specs.Laws.Bool.{both_ways}
+use Rattle.model.proofs.Laws.Bool.{both_ways}
 use Rattle.board.specs.Laws.CarryOut.{carried-out}
 use Rattle.board.proofs.make.carry_out.Statement.{statement}
 use Rattle.board.proofs.make.carry_out.Tie as tie

@@ -3,7 +3,7 @@ use mathlib.Core.Path.{refl, sym, subst}
 use borrow.Author.Rules.{rules}
 use borrow.Author.Tests.{not-true, not-false}
 use Rattle.dominance.specs.declared.Move.{Move}
-use Rattle.model.specs.Laws.Bool.{both_ways}
+use Rattle.model.proofs.Laws.Bool.{both_ways}
 use Rattle.planning.specs.Change.{ToEnter, ToRecost}
 use Rattle.planning.specs.Plan.{PreparedFor}
 use Rattle.board.specs.Laws.CarryOut.{prepared-for, moves-made, enter-as, withdraw-as, recost-as}

@@ -9,7 +9,7 @@ use native.Mathlib.Omega.{arith}
 use lib.Dec.{eqb}
 use lib.ListN.{length, get_or, set}
 use lib.Seq.{get_or-set_same, get_or-set_other}
-use Rattle.model.specs.Laws.Bool.{test_cases}
+use Rattle.model.proofs.Laws.Bool.{test_cases}
 use Rattle.frame_lines.specs.Reading.{most_digits, ByteKept}
 use Rattle.frame_lines.proofs.reading.placed.Goals as goal
 

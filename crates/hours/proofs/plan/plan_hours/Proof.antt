@@ -6,7 +6,7 @@ use native.Mathlib.Omega.{arith}
 use borrow.Author.Rules.{rules}
 use Rattle.model.specs.Hours.{minute_bad}
 use Rattle.model.specs.Calls.{hours_query}
-use Rattle.model.specs.Laws.Hours.{minute-most}
+use Rattle.model.proofs.Laws.Hours.{minute-most}
 use Rattle.promises.specs.Answers.{block_hours, outcome_number}
 use Rattle.promises.specs.Layout.{board_in}
 use Rattle.memory.specs.Held.{SoundAt}

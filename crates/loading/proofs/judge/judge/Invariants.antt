@@ -11,7 +11,7 @@ use borrow.Author.Tests.{eq-eqb, ne_eqb, le-leb, lt-leb}
 use lib.ListN.{length, drop, get_or}
 use lib.Seq.{drop-drop}
 use Rattle.zorder.specs.Refusal.{all_zero}
-use Rattle.zorder.specs.Laws.Refusal.{all-zero-step, all-zero-end}
+use Rattle.zorder.proofs.Laws.Refusal.{all-zero-step, all-zero-end}
 use Rattle.loading.proofs.Judging.{Passed, none_passed, too_large, block-bad, past-bad, number-twice, row-passed, all-passed}
 use Rattle.loading.proofs.judge.judge.Given as goal
 

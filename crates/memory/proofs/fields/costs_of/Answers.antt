@@ -9,7 +9,7 @@ use borrow.Author.Tests.{ltb-true, ltb-false}
 use lib.Dec.{ltb}
 use lib.ListN.{length, get_or, set}
 use Rattle.zorder.proofs.Fill.{filled, filled_none, filled_more, filled-all}
-use Rattle.model.specs.Laws.Bool.{test_cases}
+use Rattle.model.proofs.Laws.Bool.{test_cases}
 use Rattle.dominance.specs.Laws.Sums.{times-lt, first_of}
 use Rattle.promises.specs.Layout.{word_at, cost_place, cost_in, costs_in}
 use Rattle.memory.specs.Laws.Costs.{row-length, row-cost, row-past}

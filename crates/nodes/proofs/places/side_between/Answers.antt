@@ -3,7 +3,7 @@ use mathlib.Core.Path.{ap₂, ◌∙◌}
 use native.Mathlib.Omega.{arith}
 use borrow.Author.Rules.{rules}
 use Rattle.zorder.specs.Between.{side_of}
-use Rattle.zorder.specs.Laws.Between.{side-small}
+use Rattle.zorder.proofs.Laws.Between.{side-small}
 use Rattle.line.specs.Places.{side_at}
 use Rattle.nodes.specs.Laws.Heights.{costs-line}
 use Rattle.nodes.proofs.places.side_between.Goals as goal

@@ -8,7 +8,7 @@ use borrow.Author.Rules.{rules}
 use borrow.Author.Tests.{le-leb, lt-leb}
 use Rattle.zorder.specs.Refusal.{refusal, cost_past_bad}
 use Rattle.model.specs.Calls.{block_bad}
-use Rattle.model.specs.Laws.Bool.{both_ways}
+use Rattle.model.proofs.Laws.Bool.{both_ways}
 use Rattle.promises.specs.Answers.{outcome_number}
 use Rattle.planning.specs.Kind.{comes}
 use Rattle.planning.specs.Laws.Judge.{judges-by}

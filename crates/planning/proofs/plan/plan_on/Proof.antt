@@ -6,7 +6,7 @@ use native.Mathlib.Omega.{arith}
 use borrow.Author.Rules.{rules}
 use borrow.Author.Tests.{eqb-true, eqb-false, not-true, not-false}
 use Rattle.zorder.specs.Address.{row_costs}
-use Rattle.zorder.specs.Laws.Address.{Costs}
+use Rattle.zorder.proofs.Laws.Address.{Costs}
 use Rattle.zorder.proofs.Row.{row-costs}
 use Rattle.promises.specs.Answers.{outcome_number}
 use Rattle.promises.specs.Run.{Bytes}

@@ -6,7 +6,7 @@ use native.Mathlib.Omega.{arith}
 use borrow.Author.Tests.{lt-ltb, le-ltb}
 use lib.Dec.{ltb}
 use Rattle.model.specs.Calls.{block_bad}
-use Rattle.model.specs.Laws.Blocks.{block-low, block-high}
+use Rattle.model.proofs.Laws.Blocks.{block-low, block-high}
 use Rattle.promises.proofs.ranges.block_bad.Goals as goal
 
 most : (n : ℕ) → Dec (63 < n) → ltb 63 n ≡ block_bad n

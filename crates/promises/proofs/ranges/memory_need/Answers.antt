@@ -2,7 +2,7 @@
 use mathlib.Core.Path.{refl}
 use native.Mathlib.Omega.{arith}
 use Rattle.model.specs.Calls.{memory_need}
-use Rattle.model.specs.Laws.Loading.{size-most}
+use Rattle.model.proofs.Laws.Loading.{size-most}
 use Rattle.promises.proofs.ranges.memory_need.Goals as goal
 
 pub returns : goal.returns

@@ -8,7 +8,7 @@ use native.Mathlib.Omega.{arith}
 use borrow.Author.Tests.{lt-ltb, le-ltb}
 use lib.Dec.{ltb}
 use Rattle.model.specs.Calls.{size_bad}
-use Rattle.model.specs.Laws.Tree.{within-true, within-false}
+use Rattle.model.proofs.Laws.Tree.{within-true, within-false}
 use Rattle.promises.proofs.ranges.size_bad.Goals as goal
 
 most : (n : ℕ) → 16 ≤ n → Dec (4096 < n) → ltb 4096 n ≡ size_bad n

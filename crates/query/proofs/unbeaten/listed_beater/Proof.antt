@@ -4,7 +4,7 @@ use Prim.Native.Nat.{ℕ, ◌-◌, ◌≤◌}
 use mathlib.Core.List.{List}
 use mathlib.Core.Path.{◌≡◌, sym, ap, ◌∙◌, subst}
 use native.Mathlib.Omega.{arith}
-use Rattle.model.specs.Laws.Bool.{and-false-right}
+use Rattle.model.proofs.Laws.Bool.{and-false-right}
 use Rattle.promises.specs.Run.{Bytes}
 use Rattle.search.specs.Search.{None}
 use Rattle.memory.specs.Tests.{is_listed}

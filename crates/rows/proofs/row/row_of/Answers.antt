@@ -11,7 +11,7 @@ use Rattle.rows.proofs.row.row_of.Goals.{After-p-1}
 use Rattle.rows.proofs.row.row_of.Goals as goal
 
 count : (c : After-p-1) → length c.args.x.costs ≡ row_costs
-count c = sym (length-map c.args.x.costs (λ (v : ℕ). v)) ∙ c.well_formed.0.1.1.1.0.1.0.1
+count c = c.well_formed.0.1.1.1.0.1.0.1
 
 set-two : (a b v j : ℕ) (cs : List ℕ) → set (a ∷ b ∷ cs) (j + 2) v ≡ a ∷ b ∷ set cs j v
 set-two a b v j cs =

@@ -2,7 +2,7 @@
 use Prim.Native.Nat.{◌-◌, ◌≤◌}
 use mathlib.Core.Path.{◌≡◌, sym, ap, ◌∙◌}
 use native.Mathlib.Omega.{arith}
-use Rattle.model.specs.Laws.Basics.{at_most_one}
+use Rattle.model.proofs.Laws.Basics.{at_most_one}
 use Rattle.search.specs.Columns.{count_to, column_fits, fitting}
 use Rattle.search.specs.Laws.Counts.{count_none, count-more, count_most}
 use Rattle.search.proofs.columns.fitting.Given as goal

@@ -3,7 +3,7 @@ use Prim.Native.Nat.{ℕ, ◌-◌}
 use mathlib.Core.Path.{ap, ◌∙◌}
 use native.Mathlib.Omega.{arith}
 use Rattle.model.specs.Dominance.{less}
-use Rattle.model.specs.Laws.Basics.{at_most_one}
+use Rattle.model.proofs.Laws.Basics.{at_most_one}
 use Rattle.search.specs.Laws.Columns.{zero_number}
 use Rattle.search.proofs.columns.zero.Goals as goal
 

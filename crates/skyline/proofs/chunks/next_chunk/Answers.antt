@@ -6,7 +6,7 @@ use mathlib.Core.Path.{◌≡◌, refl, sym, ap, ◌∙◌, subst}
 use native.Mathlib.Omega.{arith}
 use borrow.Author.Tests.{ltb-true, ltb-false, not-false}
 use lib.Dec.{ltb}
-use Rattle.model.specs.Laws.Bool.{by_cases, both_ways, and_left, and_right}
+use Rattle.model.proofs.Laws.Bool.{by_cases, both_ways, and_left, and_right}
 use Rattle.dominance.specs.Lanes.{Lanes, lesser}
 use Rattle.promises.specs.Run.{Bytes}
 use Rattle.search.specs.Search.{seen_at, bounds_at}

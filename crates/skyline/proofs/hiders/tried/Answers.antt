@@ -1,7 +1,7 @@
 -- `hiders::tried` meets its contract. Assumes nothing.
 use mathlib.Core.Path.{refl, sym, ◌∙◌}
 use borrow.Author.Rules.{rules}
-use Rattle.model.specs.Laws.Bool.{both_ways}
+use Rattle.model.proofs.Laws.Bool.{both_ways}
 use Rattle.search.specs.Laws.Search.{tried-some}
 use Rattle.skyline.proofs.hiders.tried.Goals as goal
 

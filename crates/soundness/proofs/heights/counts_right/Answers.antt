@@ -8,7 +8,7 @@ use lib.Dec.{leb}
 use lib.ListN.{drop}
 use borrow.Author.Tests.{ltb-true, ltb-false, leb-false, le-leb, lt-leb}
 use Rattle.model.specs.Basics.{within}
-use Rattle.model.specs.Laws.Tree.{within-true, within-false}
+use Rattle.model.proofs.Laws.Tree.{within-true, within-false}
 use Rattle.line.specs.Heights.{counts_from, counts_at}
 use Rattle.promises.specs.Layout.{heights_from}
 use Rattle.soundness.specs.Laws.Levels.{counts-first, counts-last, node-right, node-wrong, node-entry, node-inside}

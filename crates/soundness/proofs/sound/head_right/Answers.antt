@@ -6,7 +6,7 @@ use borrow.Author.Tests.{eqb-true, eq-eqb, not-true, not-false}
 use lib.Dec.{leb}
 use Rattle.zorder.specs.Refusal.{cost_count_bad}
 use Rattle.model.specs.Calls.{size_bad, memory_need}
-use Rattle.model.specs.Laws.Bool.{both_ways}
+use Rattle.model.proofs.Laws.Bool.{both_ways}
 use Rattle.promises.specs.Layout.{format_in, format_number}
 use Rattle.soundness.specs.Laws.Head.{head-wrong, head-count}
 use Rattle.soundness.proofs.sound.head_right.Goals as goal

@@ -6,7 +6,7 @@ use mathlib.Core.Path.{◌≡◌, refl, sym, ap, ◌∙◌}
 use borrow.Author.Rules.{rules}
 use borrow.Author.Tests.{eq-eqb, ne_eqb, le-leb, lt-leb, lt-ltb, le-ltb}
 use lib.Dec.{leb, ltb, eqb}
-use Rattle.model.specs.Laws.Bool.{and_both, and-false-right}
+use Rattle.model.proofs.Laws.Bool.{and_both, and-false-right}
 use Rattle.line.specs.Load.{starts_group}
 use Rattle.tree.proofs.raise.starts_group.Goals.{else-j-eq0-2-via-then-j-eq0-2+else-j-n, else-j-eq0-2-via-else-j-eq0-2}
 use Rattle.tree.proofs.raise.starts_group.Goals as goal

@@ -13,9 +13,9 @@ use lib.ListN.{length, get_or, take}
 use lib.Seq.{ext_get_or, get_or-take}
 use Rattle.zorder.specs.Address.{row_costs, address}
 use Rattle.zorder.specs.Between.{unkept_of}
-use Rattle.zorder.specs.Laws.Address.{Costs, shifted, length-shifted, get_or-shifted, groups-costs-lt}
-use Rattle.zorder.specs.Laws.Inverse.{agree-iff}
-use Rattle.zorder.specs.Laws.Region.{unkept-unique}
+use Rattle.zorder.proofs.Laws.Address.{Costs, shifted, length-shifted, get_or-shifted, groups-costs-lt}
+use Rattle.zorder.proofs.Laws.Inverse.{agree-iff}
+use Rattle.zorder.proofs.Laws.Region.{unkept-unique}
 use Rattle.zorder.proofs.Bits.{or-zero-iff, shr-eq-iff, shr-zero-iff}
 use Rattle.zorder.proofs.Row.{row-costs, first-costs}
 use Rattle.zorder.proofs.between.unkept_of.Given as goal

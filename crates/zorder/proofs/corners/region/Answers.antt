@@ -14,13 +14,13 @@ use Rattle.zorder.specs.Address.{row_costs, costs_of, padded}
 use Rattle.zorder.specs.Promise.{RegionPromise, RefusedRegion, number_of}
 use Rattle.zorder.specs.Refusal.{or_zero, or_zeros, cost_count_bad, address_bad, region_refusal, refusal}
 use Rattle.zorder.specs.Region.{unkept, zeros_below, ones_below, near_corner, far_corner, side}
-use Rattle.zorder.specs.Laws.Corners.{near-costs, far-costs}
-use Rattle.zorder.specs.Laws.Inverse.{costs_of-costs}
+use Rattle.zorder.proofs.Laws.Corners.{near-costs, far-costs}
+use Rattle.zorder.proofs.Laws.Inverse.{costs_of-costs}
 use Rattle.zorder.specs.declared.RegionResult.{RegionResult}
 use Rattle.zorder.specs.declared.Verdict.{Verdict}
 use Rattle.zorder.specs.declared.Verdict.TheVariants.{Accepted, BadCostCount, BadArgument}
 use Rattle.zorder.specs.Words.{value}
-use Rattle.zorder.specs.Laws.Refusal.{count-right, address-right}
+use Rattle.zorder.proofs.Laws.Refusal.{count-right, address-right}
 use Rattle.zorder.proofs.Checks.{three-checks, no-detail}
 use Rattle.zorder.proofs.Row.{take-padded}
 use Rattle.zorder.proofs.corners.region.Goals.{After-unkept-u, Else-cost_count_bad, Else-too_large, Else-too_large-2}
@@ -114,11 +114,11 @@ returns-then-too_large c =
     let large = bad-large a.d (value a.a) (value a.b) c.refused-then-too_large.result right R in
     let order = bad-order a.d (value a.a) (value a.b) c.refused-then-too_large.result right R in
     elim c.then-too_large.branch [
-      then-too_large-via-then-too_large w ↦ large (ap (λ (t : Bool). t || address_bad a.d (value a.b)) (first ∙ w.if-too_large.true))
-    | then-too_large-via-else-too_large+then-too_large-2 w ↦
-        large (ap₂ ◌||◌ (first ∙ w.if-too_large.false) (sym w.too_large-else-too_large.ensures ∙ w.if-too_large-2.true))
-    | then-too_large-via-else-too_large+else-too_large-2+then-below w ↦
-        order (ap₂ ◌||◌ (first ∙ w.if-too_large.false) (sym w.too_large-else-too_large.ensures ∙ w.if-too_large-2.false)) (sym w.below.ensures ∙ w.if-below.true)
+      | then-too_large-via-then-too_large w ↦ large (ap (λ (t : Bool). t || address_bad a.d (value a.b)) (first ∙ w.if-too_large.true))
+      | then-too_large-via-else-too_large+then-too_large-2 w ↦
+          large (ap₂ ◌||◌ (first ∙ w.if-too_large.false) (sym w.too_large-else-too_large.ensures ∙ w.if-too_large-2.true))
+      | then-too_large-via-else-too_large+else-too_large-2+then-below w ↦
+          order (ap₂ ◌||◌ (first ∙ w.if-too_large.false) (sym w.too_large-else-too_large.ensures ∙ w.if-too_large-2.false)) (sym w.below.ensures ∙ w.if-below.true)
     ]
 
 pub unkept-u-requires : goal.unkept-u-requires

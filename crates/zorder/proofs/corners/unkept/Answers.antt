@@ -12,7 +12,7 @@ use lib.Pow.{pow_mono}
 use Rattle.zorder.specs.Address.{row_costs}
 use Rattle.zorder.specs.Region.{unkept}
 use Rattle.zorder.specs.Words.{value}
-use Rattle.zorder.specs.Laws.Region.{unkept-unique}
+use Rattle.zorder.proofs.Laws.Region.{unkept-unique}
 use Rattle.zorder.proofs.Bits.{round-up-iff, shr-eq-leading}
 use Rattle.zorder.proofs.corners.unkept.Goals.{After-leading_zeros-zeros}
 use Rattle.zorder.proofs.corners.unkept.Goals as goal

@@ -3,7 +3,7 @@ use Prim.Native.Nat.{◌^◌}
 use native.Mathlib.Nat.{div-mul-le_self}
 use native.Mathlib.Omega.{arith}
 use borrow.Author.Rules.{rules}
-use Rattle.zorder.specs.Laws.Corners.{zeros_below-one}
+use Rattle.zorder.proofs.Laws.Corners.{zeros_below-one}
 use Rattle.zorder.proofs.corners.zeros_below.Goals as goal
 
 pub overflow_cast-result-4 : goal.overflow_cast-result-4

@@ -13,8 +13,8 @@ use Rattle.zorder.specs.Words.{words_of}
 use Rattle.zorder.specs.declared.AddressWords.{AddressWords}
 use Rattle.zorder.specs.declared.Verdict.{Verdict}
 use Rattle.zorder.specs.declared.Verdict.TheVariants.{Accepted, BadCostCount, BadArgument}
-use Rattle.zorder.specs.Laws.Refusal.{count-right}
-use Rattle.zorder.specs.Laws.Words.{words-value}
+use Rattle.zorder.proofs.Laws.Refusal.{count-right}
+use Rattle.zorder.proofs.Laws.Words.{words-value}
 use Rattle.zorder.proofs.Checks.{two-checks, no-detail}
 use Rattle.zorder.proofs.interleave.address.Goals.{Else-cost_count_bad}
 use Rattle.zorder.proofs.interleave.address.Goals as goal

@@ -10,7 +10,7 @@ use lib.ListN.{length, get_or, take, length-append}
 use lib.Pow.{pow_mono}
 use lib.Seq.{take-suc, length-take-le}
 use Rattle.zorder.specs.Address.{bit, group}
-use Rattle.zorder.specs.Laws.Address.{group-lt}
+use Rattle.zorder.proofs.Laws.Address.{group-lt}
 use Rattle.zorder.proofs.Bits.{and_one, shl-or}
 use Rattle.zorder.proofs.interleave.group.Given as goal
 

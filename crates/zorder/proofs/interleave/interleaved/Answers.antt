@@ -8,7 +8,7 @@ use lib.Pow.{pow_mono}
 use lib.Seq.{length-take-le}
 use Rattle.zorder.specs.Address.{address, group, groups}
 use Rattle.zorder.specs.Words.{value}
-use Rattle.zorder.specs.Laws.Address.{group-lt}
+use Rattle.zorder.proofs.Laws.Address.{group-lt}
 use Rattle.zorder.proofs.Digits.{Digits, Whole, digit-more, digits-end}
 use Rattle.zorder.proofs.interleave.interleaved.Goals as goal
 

@@ -6,7 +6,7 @@ use borrow.Author.Tests.{eq-eqb, ne_eqb}
 use lib.ListN.{drop}
 use Rattle.zorder.specs.Address.{row_costs}
 use Rattle.zorder.specs.Refusal.{all_zero}
-use Rattle.zorder.specs.Laws.Refusal.{all-zero-step, all-zero-end}
+use Rattle.zorder.proofs.Laws.Refusal.{all-zero-step, all-zero-end}
 use Rattle.zorder.proofs.interleave.zero_past.Goals as goal
 
 pub loop-i-init : goal.loop-i-init

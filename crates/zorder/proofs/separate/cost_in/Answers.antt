@@ -15,7 +15,6 @@ cost-bits d e a = record {
   none = refl;
   more = λ k. ap (λ (n : ℕ). bit (d * k + e) a * 2 ^ n + cost_from_bits d e k a) (sym (one-mul k));
   small = λ k. omega arith;
-
 }
 
 -- The place of a bit is below 128.

@@ -10,7 +10,7 @@ use Rattle.zorder.specs.Promise.{CostsPromise, number_of}
 use Rattle.zorder.specs.Refusal.{or_zeros, cost_count_bad, address_bad, costs_refusal, refusal}
 use Rattle.zorder.specs.declared.Verdict.{Verdict}
 use Rattle.zorder.specs.declared.Verdict.TheVariants.{Accepted, BadCostCount, BadArgument}
-use Rattle.zorder.specs.Laws.Refusal.{count-right}
+use Rattle.zorder.proofs.Laws.Refusal.{count-right}
 use Rattle.zorder.specs.Words.{value}
 use Rattle.zorder.proofs.Checks.{two-checks, no-detail}
 use Rattle.zorder.proofs.separate.costs.Goals.{Else-cost_count_bad}

@@ -7,7 +7,7 @@ use native.Mathlib.Nat.{le_of_suc-le-suc}
 use native.Mathlib.Omega.{arith}
 use lib.ListN.{length, get_or, set}
 use Rattle.zorder.specs.Address.{row_costs, cost_from_bits, costs_from, costs_of}
-use Rattle.zorder.specs.Laws.Inverse.{costs_of-costs}
+use Rattle.zorder.proofs.Laws.Inverse.{costs_of-costs}
 use Rattle.zorder.specs.Words.{value}
 use Rattle.zorder.proofs.Fill.{filled, filled_none, filled_more, filled-all}
 use Rattle.zorder.proofs.separate.separated.Given as goal

@@ -6,7 +6,7 @@ use borrow.Author.Rules.{rules}
 use lib.Dec.{ltb}
 use Rattle.zorder.specs.Refusal.{address_bad}
 use Rattle.zorder.specs.Words.{value}
-use Rattle.zorder.specs.Laws.Words.{value-lt}
+use Rattle.zorder.proofs.Laws.Words.{value-lt}
 use Rattle.zorder.proofs.Bits.{leading-large}
 use Rattle.zorder.proofs.separate.too_large.Goals as goal
 

@@ -1,8 +1,0 @@
--- What holds of the promises.
-pub mod Tab
-pub mod Answers
-pub mod Stands
-pub mod Demand3
-pub mod BroughtUp
-pub mod Accept
-pub mod Written
