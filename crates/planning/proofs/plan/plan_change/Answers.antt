@@ -5,7 +5,7 @@ use Rattle.planning.specs.Laws.Plan.{plan-unsound}
 use Rattle.planning.proofs.plan.plan_change.Goals as goal
 
 pub returns-in_default : goal.returns-in_default
-returns-in_default c = plan-unsound (unsound-held c.sound_head.ensures c.enum_told-1.given.1) c.keeps_moves.ensures
+returns-in_default c = plan-unsound (unsound-held c.sound_head.ensures c.in_default.not-Sound) c.keeps_moves.ensures
 
 pub plan_on-requires : goal.plan_on-requires
 plan_on-requires c = sound-held c.sound_head.ensures c.in-Sound.is
