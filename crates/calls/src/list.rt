@@ -19,8 +19,7 @@ fn answer_of(p: Plan) -> Answer
     answered(verdict, p.need, p.opened)
 }
 
-// Tells a list as planned. What the plan holds is read by functions of its own, so that the walk of
-// this one looks into no struct.
+// Tells a list as planned.
 pub fn tell_list(rows: &mut [Row], memory: &[u8], p: Plan) -> Answer
     requires { ListAsked p memory.now rows.old }
     ensures { ListTold p memory.now rows.old result rows.new }

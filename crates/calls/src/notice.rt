@@ -21,7 +21,7 @@ fn answer_of(p: ChangePlan) -> Answer
     answered(verdict, p.need, p.opened)
 }
 
-// Tells a change as planned; the walk of this one looks into no struct either.
+// Tells a change as planned.
 pub fn tell_notice(rows: &mut [Row], memory: &[u8], p: ChangePlan) -> Answer
     requires { NoticeAsked p memory.now rows.old }
     ensures { NoticeTold p memory.now rows.old result rows.new }
