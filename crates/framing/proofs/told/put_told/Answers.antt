@@ -1,0 +1,54 @@
+use Prim.Native.Nat.{ℕ, ◌+◌, ◌-◌, ◌*◌, ◌≤◌, ◌<◌}
+use mathlib.Core.List.{flat_map}
+use mathlib.Core.Path.{◌≡◌, refl}
+use native.Mathlib.Omega.{arith}
+use lib.ListN.{take}
+use Rattle.promises.specs.Answers.{result_row}
+use Rattle.rows.specs.Telling.{position}
+use Rattle.frame_lines.specs.Reading.{most_digits}
+use Rattle.frame_lines.specs.Text.{row_text}
+use Rattle.framing.specs.Writing.{telling_rows}
+use Rattle.frame_lines.specs.Put.{TextPut}
+use Rattle.frame_lines.specs.Laws.Put.{put-none, put_both, put_as}
+use Rattle.framing.specs.Laws.Rows.{row_text-most}
+use Rattle.framing.specs.Laws.Told.{position-more, told_more, told-end}
+use Rattle.framing.proofs.told.put_told.Goals as goal
+
+some : (k count : ℕ) → k < count → 0 < count
+some k count more = omega arith
+
+less : (k count : ℕ) → k < count → count - (k + 1) < count - k
+less k count more = omega arith
+
+pub loop-k-init : goal.loop-k-init
+unfolding flat_map position
+loop-k-init c = (omega arith, omega arith, refl, put-none _ _)
+
+pub told_next-s-requires : goal.told_next-s-requires
+told_next-s-requires c =
+    c.requires.asked (some _ _ c.loop-k-test.true)
+
+pub loop-k-preserved : goal.loop-k-preserved
+loop-k-preserved c =
+    let a = c.args in
+    let own = c.loop-k in
+    let told = c.told_next-s in (
+      omega arith,
+      omega (arith, row_text-most a.d (result_row told.result.row)),
+      position-more a.t a.m.now own.k own.invariant.2 told.ensures.1,
+      put_as
+          (told_more a.t a.m.now c.requires own.k (omega arith) own.invariant.2 told.ensures.0)
+          (put_both own.invariant.3 c.put_row-next.ensures),
+    )
+
+pub returns : goal.returns
+returns c =
+    let a = c.args in
+    let own = c.loop-k in
+    put_as (told-end a.t a.m.now c.requires {k = own.k} (omega arith)) own.invariant.3
+
+pub loop-k-smaller : goal.loop-k-smaller
+loop-k-smaller c = less _ _ c.loop-k-test.true
+
+pub shape_of-out : goal.shape_of-out
+shape_of-out c = c.loop-k.invariant.3.kept
