@@ -4,7 +4,7 @@ use Rattle.model.specs.Calls.{list}
 use Rattle.memory.specs.Held.{SoundAt}
 use Rattle.memory.specs.Laws.Held.{held-readable}
 use Rattle.soundness.specs.Laws.Held.{sound-held, unsound-held}
-use Rattle.rows.specs.Laws.Planned.{query-unsound}
+use Rattle.rows.proofs.Planned.{query-unsound}
 use Rattle.listing.specs.Laws.List.{list-planned}
 use Rattle.listing.proofs.plan_list.Statement.{statement}
 use Rattle.listing.proofs.plan_list.Tie as tie
