@@ -17,7 +17,7 @@ use Rattle.promises.specs.Sound.{Sound}
 use Rattle.promises.specs.Answers.{answer_of}
 use Rattle.promises.specs.Promise.{ChangeSaid}
 use Rattle.promises.specs.Run.{Bytes}
-use Rattle.promises.specs.Laws.Stands.{stands-moves, sound-board}
+use Rattle.promises.proofs.Laws.Stands.{stands-moves, sound-board}
 use Rattle.promises.proofs.Demand3.{said-rows}
 use Rattle.promises.specs.declared.CallResult.{CallResult}
 

@@ -24,7 +24,7 @@ use Rattle.promises.specs.Sound.{Holding}
 use Rattle.promises.specs.Answers.{answer_of, number_of, counted, rows_after}
 use Rattle.promises.specs.Promise.{MemoryAfter, LoadPromise, Said, QueryPromise, QuerySaidOn, ChangeSaidOn, ChangeSaid, ChangePromise}
 use Rattle.promises.specs.Run.{Bytes, Step, changes, previews, lists, load_refused, leaves, Steps, done, then, event_of, events_of, History, end, call, load, run_of, EachRun}
-use Rattle.promises.specs.Laws.Stands.{holding-sound, holding-board}
+use Rattle.promises.proofs.Laws.Stands.{holding-sound, holding-board}
 use Rattle.promises.specs.declared.Verdict.{Verdict}
 use Rattle.promises.specs.declared.CallResult.{CallResult}
 

@@ -6,4 +6,3 @@ pub mod Used
 pub mod Answers
 pub mod Promise
 pub mod Run
-pub mod Laws

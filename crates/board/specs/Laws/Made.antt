@@ -17,7 +17,7 @@ use Rattle.line.specs.Line.{moves_in, line_of}
 use Rattle.line.specs.Laws.Line.{moves-line}
 use Rattle.promises.specs.Layout.{size_in, dimension_in, count_in, flag_in, move_in, placed_in, line_from, line_in, kept_from, kept_in}
 use Rattle.promises.specs.Sound.{Stands}
-use Rattle.promises.specs.Laws.Tab.{each-tab}
+use Rattle.promises.proofs.Laws.Tab.{each-tab}
 use Rattle.memory.specs.Held.{SoundRows}
 use Rattle.memory.specs.Stores.{set_count}
 use Rattle.memory.specs.Frame.{DifferWithin, MovesOnly}

@@ -1,6 +1,6 @@
 -- Lists of pairs as lists of numbers, and costs as a row holds them.
 use Rattle.promises.specs.Layout.{tab}
-use Rattle.promises.specs.Laws.Tab.{length-tab, get_or-tab}
+use Rattle.promises.proofs.Laws.Tab.{length-tab, get_or-tab}
 use Rattle.zorder.specs.Address.{row_costs, padded}
 use Rattle.std.specs.Prelude.{ℕ, zero, suc, ◌+◌, ◌-◌, ◌*◌, ◌<◌, ◌≤◌, Bool, cond, List, [], ◌∷◌, ◌++◌, ◌≡◌, refl, ltb, length, get_or, replicate}
 use Rattle.std.proofs.Common.{sym, ap, ap₂, ◌∙◌, ltb-true, ltb-false, arith, length-append, get_or-append-add, ext_get_or}

@@ -18,7 +18,7 @@ use Rattle.model.proofs.Laws.Blocks.{blocks-ext}
 use Rattle.line.specs.Line.{moves_in}
 use Rattle.promises.specs.Layout.{block_place, size_in, dimension_in, format_in, count_in, number_in, flag_in, block_in, move_in, line_from, line_in, kept_from, kept_in}
 use Rattle.promises.specs.Sound.{Stands}
-use Rattle.promises.specs.Laws.Tab.{each-tab}
+use Rattle.promises.proofs.Laws.Tab.{each-tab}
 use Rattle.memory.specs.Room.{Room, Numbers}
 use Rattle.memory.specs.Stores.{set_block}
 use Rattle.memory.specs.Frame.{BlocksOnly}

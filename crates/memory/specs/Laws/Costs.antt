@@ -10,7 +10,7 @@ use Rattle.std.proofs.Math.Seq.{get_or-append-add}
 use Rattle.zorder.specs.Address.{row_costs, padded}
 use Rattle.promises.specs.Layout.{word_at, cost_place, cost_in, tab, costs_in}
 use Rattle.promises.specs.Run.{Bytes}
-use Rattle.promises.specs.Laws.Tab.{length-tab, get_or-tab}
+use Rattle.promises.proofs.Laws.Tab.{length-tab, get_or-tab}
 
 module _ (c d : ℕ) (m : List ℕ) (number : ℕ) (few : d ≤ row_costs) where
   pub row-length : length (costs_in c d m number) ≡ row_costs

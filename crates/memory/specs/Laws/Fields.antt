@@ -8,7 +8,7 @@ use Rattle.zorder.specs.Address.{row_costs, padded}
 use Rattle.promises.specs.Layout.{number_place, height_place, flag_place, cost_place, work_place, number_in, height_in, flag_in, cost_in, work_in, costs_in}
 use Rattle.memory.specs.Frame.{DifferWithin, RowsOnly, FlagsOnly, CostsOnly, WorkOnly}
 use Rattle.memory.specs.Laws.Frames.{Apart, byte-across, word-across}
-use Rattle.promises.specs.Laws.Tab.{tab-ext}
+use Rattle.promises.proofs.Laws.Tab.{tab-ext}
 
 -- ---- each field, over any frame
 

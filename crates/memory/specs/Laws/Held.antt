@@ -23,11 +23,11 @@ use Rattle.line.specs.Laws.Line.{moves-line}
 use Rattle.promises.specs.Layout.{size_in, dimension_in, count_in, number_in, flag_in, move_in, placed_in, tab, line_from, line_in, board_in, kept_from, kept_in}
 use Rattle.promises.specs.Sound.{Stands}
 use Rattle.promises.specs.Run.{Bytes}
-use Rattle.promises.specs.Laws.Stands.{stands-dimension, stands-moves, stands-order, stands-fit, stands-once}
+use Rattle.promises.proofs.Laws.Stands.{stands-dimension, stands-moves, stands-order, stands-fit, stands-once}
 use Rattle.memory.specs.Room.{Room, Numbers, ReadableRows, Ordered}
 use Rattle.memory.specs.Held.{SoundRows}
 use Rattle.memory.specs.Tests.{any_to, is_listed}
-use Rattle.promises.specs.Laws.Tab.{length-tab, get_or-tab, map-tab}
+use Rattle.promises.proofs.Laws.Tab.{length-tab, get_or-tab, map-tab}
 use Rattle.memory.specs.Laws.Places.{tab-each, any-tab, any_to-found}
 use Rattle.memory.specs.Laws.Lines.{moves_in-line, line_in-line}
 use Rattle.memory.specs.Laws.Ordered.{line-ordered, ordered-place}

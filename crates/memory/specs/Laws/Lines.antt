@@ -14,7 +14,7 @@ use Rattle.promises.specs.Layout.{size_in, dimension_in, count_in, number_in, he
 use Rattle.memory.specs.Room.{Room, Numbers}
 use Rattle.memory.specs.Stores.{set_height, set_costs}
 use Rattle.memory.specs.Frame.{DifferWithin, FlagsOnly, WorkOnly}
-use Rattle.promises.specs.Laws.Tab.{each-tab, length-tab, get_or-tab, tab-ext, tab-set, tab-insert, map-tab}
+use Rattle.promises.proofs.Laws.Tab.{each-tab, length-tab, get_or-tab, tab-ext, tab-set, tab-insert, map-tab}
 use Rattle.memory.specs.Laws.Places.{tab-each}
 use Rattle.memory.specs.Laws.Fields.{number-over-head, height-over-head, costs-over-head, costs-over-rows, number-over-flags, height-over-flags, costs-over-flags, number-over-costs, height-over-costs, number-over-work, height-over-work, costs-over-work}
 use Rattle.memory.specs.Laws.Stored.{set_height-rows, set_costs-costs, number-set_height, height-set_height, height-set_height-other, costs-set_costs-other}

@@ -17,7 +17,7 @@ use Rattle.memory.specs.Stores.{set_head, set_count, set_number, set_height, set
 use Rattle.memory.specs.Frame.{DifferWithin, RowsOnly, FlagsOnly, CostsOnly, WorkOnly}
 use Rattle.memory.specs.Laws.Frames.{frame-refl, frame-trans, frame-widen, byte-frame, word-frame, byte-across, word-across, word-stored, word-length}
 use Rattle.memory.specs.Laws.Fields.{number-over, height-over, flag-over, costs-over, work-over}
-use Rattle.promises.specs.Laws.Tab.{tab-of}
+use Rattle.promises.proofs.Laws.Tab.{tab-of}
 
 apart : {i j : ℕ} → j ≢ i → (j < i) ⊎ (i < j)
 apart {i} {j} ne = go (dec_lt j i)

@@ -9,7 +9,7 @@ use Rattle.std.proofs.Math.ListN.{length, set}
 use Rattle.model.proofs.Laws.Bool.{both_ways, or_left, or_right, or-false-left, or-false-right}
 use Rattle.promises.specs.Layout.{word_at, set_word, block_place, cost_place, format_number, size_in, dimension_in, format_in, block_in}
 use Rattle.promises.specs.Written.{in_area, moves_write, load_writes, Only}
-use Rattle.promises.specs.Laws.Written.{in-area, writes-count, writes-rows, writes-costs, leaves-head, leaves-blocks}
+use Rattle.promises.proofs.Laws.Written.{in-area, writes-count, writes-rows, writes-costs, leaves-head, leaves-blocks}
 use Rattle.memory.specs.Room.{Room}
 use Rattle.memory.specs.Stores.{set_head, set_count}
 use Rattle.memory.specs.Frame.{DifferWithin, MovesOnly, RowsOnly, FlagsOnly, BlocksOnly, CostsOnly, WorkOnly}

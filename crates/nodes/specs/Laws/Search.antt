@@ -25,7 +25,7 @@ use Rattle.line.specs.Laws.Line.{WholeTree, tree-whole}
 use Rattle.line.specs.Laws.Places.{height-among, length-heights, end-high}
 use Rattle.line.specs.Laws.Opened.{first-node, last-node, node_in, node-under, first-height, opened-all, opened-few, opened-end, opened-upper, opened-leaf, opened-passed}
 use Rattle.promises.specs.Layout.{dimension_in, height_place, height_in, move_in, placed_in, line_from}
-use Rattle.promises.specs.Laws.Tab.{each-tab}
+use Rattle.promises.proofs.Laws.Tab.{each-tab}
 use Rattle.promises.specs.Sound.{Stands}
 use Rattle.promises.specs.Run.{Bytes}
 use Rattle.memory.specs.Room.{ReadableRows, Ordered}

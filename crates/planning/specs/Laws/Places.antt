@@ -9,7 +9,7 @@ use Rattle.model.specs.Calls.{on_board}
 use Rattle.model.proofs.Laws.Bool.{both_ways}
 use Rattle.line.specs.Line.{moves_in}
 use Rattle.promises.specs.Layout.{costs_in, move_in, line_from}
-use Rattle.promises.specs.Laws.Tab.{each-tab}
+use Rattle.promises.proofs.Laws.Tab.{each-tab}
 use Rattle.memory.specs.Laws.Lines.{moves_in-line, length-line}
 use Rattle.upkeep.specs.Change.{drop_at}
 

@@ -20,7 +20,7 @@ use Rattle.promises.specs.Layout.{size_in, dimension_in, number_in, costs_in, bo
 use Rattle.promises.specs.Sound.{Stands, Sound}
 use Rattle.promises.specs.Answers.{answer_of, number_of, counted, refused_by, outcome_number}
 use Rattle.promises.specs.Run.{Bytes}
-use Rattle.promises.specs.Laws.Answers.{counted-zero}
+use Rattle.promises.proofs.Laws.Answers.{counted-zero}
 use Rattle.promises.specs.declared.Verdict.{Verdict}
 use Rattle.promises.specs.declared.Outcome.{Outcome}
 use Rattle.promises.specs.declared.Outcome.TheVariants.{Unsound}

@@ -22,7 +22,7 @@ use Rattle.model.proofs.Laws.Recosting.{recost-moves}
 use Rattle.promises.specs.Layout.{size_in, dimension_in, costs_in, board_in}
 use Rattle.promises.specs.Sound.{Stands}
 use Rattle.promises.specs.Run.{Bytes}
-use Rattle.promises.specs.Laws.Stands.{stands-dimension, stands-moves, stands-fit, stands-once}
+use Rattle.promises.proofs.Laws.Stands.{stands-dimension, stands-moves, stands-fit, stands-once}
 use Rattle.dominance.specs.Move.{as_move}
 use Rattle.dominance.specs.declared.Move.{Move}
 use Rattle.memory.specs.Held.{SoundRows}

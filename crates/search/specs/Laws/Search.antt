@@ -15,7 +15,7 @@ use Rattle.dominance.specs.Lanes.{Lanes, bound, is_first, lesser}
 use Rattle.dominance.specs.Laws.Lanes.{lesser-below}
 use Rattle.dominance.specs.Laws.Sums.{nowhere-somewhere}
 use Rattle.promises.specs.Layout.{number_in, costs_in, tab}
-use Rattle.promises.specs.Laws.Tab.{length-tab, get_or-tab, tab-of}
+use Rattle.promises.proofs.Laws.Tab.{length-tab, get_or-tab, tab-of}
 use Rattle.memory.specs.Laws.Costs.{row-length}
 use Rattle.search.specs.Search.{looks_at, seen, seen_at, bounds_at, fits, None, First, Some, Below, Under, Corners, CornerWith}
 use Rattle.search.specs.declared.search.Among.{Among}

@@ -23,8 +23,8 @@ use Rattle.line.specs.Laws.Heights.{heights-right, right-heights}
 use Rattle.promises.specs.Layout.{size_in, dimension_in, count_in, number_in, flag_in, move_in, tab, heights_from, line_from, line_in, board_in, kept_from, kept_in}
 use Rattle.promises.specs.Sound.{Stands, Sound}
 use Rattle.promises.specs.Run.{Bytes}
-use Rattle.promises.specs.Laws.Tab.{each-tab}
-use Rattle.promises.specs.Laws.Stands.{costs-row, stands-dimension, stands-moves, stands-order}
+use Rattle.promises.proofs.Laws.Tab.{each-tab}
+use Rattle.promises.proofs.Laws.Stands.{costs-row, stands-dimension, stands-moves, stands-order}
 use Rattle.memory.specs.Room.{Room, Numbers, Readable}
 use Rattle.memory.specs.Held.{HeadOf}
 use Rattle.memory.specs.declared.head.Head.{Head}

@@ -16,9 +16,9 @@ use Rattle.promises.specs.Layout.{number_place, height_place, flag_place, block_
 use Rattle.promises.specs.Sound.{Stands, Holding}
 use Rattle.promises.specs.Written.{in_area}
 use Rattle.promises.specs.Used.{head_use, rows_use, move_use, in_use, long_enough, SameInUse}
-use Rattle.promises.specs.Laws.Tab.{each-tab}
-use Rattle.promises.specs.Laws.Stands.{stands-dimension}
-use Rattle.promises.specs.Laws.Written.{area-ends}
+use Rattle.promises.proofs.Laws.Tab.{each-tab}
+use Rattle.promises.proofs.Laws.Stands.{stands-dimension}
+use Rattle.promises.proofs.Laws.Written.{area-ends}
 use Rattle.soundness.specs.Laws.Decide.{stands-numbers}
 use Rattle.soundness.specs.Laws.Used.{word_same, used-board, used-stands}
 

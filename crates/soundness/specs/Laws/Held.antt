@@ -1,5 +1,5 @@
 -- What a memory is found to hold, by cases.
-use Rattle.std.specs.Prelude.{ℕ, List, ◌≡◌}
+use Rattle.std.specs.Prelude.{ℕ, List, ◌≡◌, refl}
 use Rattle.std.proofs.Common.{subst}
 use Rattle.promises.specs.Sound.{Sound}
 use Rattle.memory.specs.Held.{SoundAt}
@@ -15,3 +15,8 @@ sound-held {m} p e = subst (HeldIn m) e p
 pub unsound-held : {m : List ℕ} {r : Held} → HeldIn m r → r ≡ held.Unsound → Sound m → ⊥
 unfolding HeldIn
 unsound-held {m} p e = subst (HeldIn m) e p
+
+-- What is not found sound is found unsound.
+pub only-unsound : (r : Held) → ((h : Head) → r ≡ held.Sound h → ⊥) → r ≡ held.Unsound
+only-unsound (held.Sound h) none = absurd (none h refl)
+only-unsound held.Unsound none = refl

@@ -14,7 +14,7 @@ use Rattle.model.proofs.Laws.Bool.{and_both, and-false-right}
 use Rattle.line.specs.Heights.{first_highest, counts_from, counts_at, root_count, levels_right, heights_right}
 use Rattle.promises.specs.Layout.{height_in, tab, heights_from}
 use Rattle.memory.specs.Tests.{all_to}
-use Rattle.promises.specs.Laws.Tab.{tab-cons}
+use Rattle.promises.proofs.Laws.Tab.{tab-cons}
 use Rattle.memory.specs.Laws.Lines.{length-heights_from, get_or-heights_from}
 use Rattle.memory.specs.Laws.Places.{all_to-fails, all_to-next, all-tab}
 

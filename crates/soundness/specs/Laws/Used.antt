@@ -20,8 +20,8 @@ use Rattle.promises.specs.Layout.{word_at, number_place, height_place, flag_plac
 use Rattle.promises.specs.Sound.{Stands}
 use Rattle.promises.specs.Written.{in_area}
 use Rattle.promises.specs.Used.{head_use, rows_use, move_use, in_use, long_enough, SameInUse}
-use Rattle.promises.specs.Laws.Tab.{each-tab, tab-ext}
-use Rattle.promises.specs.Laws.Written.{in-area}
+use Rattle.promises.proofs.Laws.Tab.{each-tab, tab-ext}
+use Rattle.promises.proofs.Laws.Written.{in-area}
 use Rattle.memory.specs.Laws.Places.{any-tab, any_to-found}
 use Rattle.memory.specs.Laws.Lines.{line-ext, moves_in-line}
 use Rattle.memory.specs.Laws.Blocks.{same_blocks}

@@ -20,7 +20,7 @@ use Rattle.line.specs.Line.{moves_in}
 use Rattle.line.specs.Laws.Line.{moves-line}
 use Rattle.promises.specs.Layout.{costs_in, work_in, tab}
 use Rattle.memory.specs.Frame.{RowsOnly}
-use Rattle.promises.specs.Laws.Tab.{get_or-tab, tab-append, tab-cons}
+use Rattle.promises.proofs.Laws.Tab.{get_or-tab, tab-append, tab-cons}
 use Rattle.memory.specs.Laws.Places.{tab-each}
 use Rattle.memory.specs.Laws.Frames.{frame-refl, frame-trans}
 use Rattle.memory.specs.Laws.Fields.{costs-over-rows, work-over-rows}

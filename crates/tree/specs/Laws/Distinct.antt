@@ -28,7 +28,7 @@ use Rattle.line.specs.Laws.Line.{moves-line}
 use Rattle.line.specs.Laws.Taken.{numbered}
 use Rattle.line.specs.Laws.Withdraw.{one-numbered}
 use Rattle.promises.specs.Layout.{number_in, costs_in, move_in, line_from, tab}
-use Rattle.promises.specs.Laws.Tab.{length-tab, each-tab}
+use Rattle.promises.proofs.Laws.Tab.{length-tab, each-tab}
 use Rattle.memory.specs.Laws.Places.{any_to-found, any-tab}
 use Rattle.memory.specs.Laws.Lines.{moves_in-line}
 use Rattle.tree.specs.Hold.{RowsHold}

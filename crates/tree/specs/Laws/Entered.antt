@@ -22,7 +22,7 @@ use Rattle.line.specs.Laws.Enter.{enter-cons, flat-enter-ruled}
 use Rattle.promises.specs.Layout.{height_in, move_in, placed_in, tab, line_from}
 use Rattle.memory.specs.Room.{Numbers, Ordered}
 use Rattle.memory.specs.Frame.{RowsOnly}
-use Rattle.promises.specs.Laws.Tab.{length-tab, get_or-tab}
+use Rattle.promises.proofs.Laws.Tab.{length-tab, get_or-tab}
 use Rattle.memory.specs.Laws.Frames.{frame-refl, frame-trans, room-over}
 use Rattle.memory.specs.Laws.Lines.{length-line, get_or-line, height_at-line, moves_in-line}
 use Rattle.memory.specs.Laws.Ordered.{line-ordered}

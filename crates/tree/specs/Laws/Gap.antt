@@ -13,7 +13,7 @@ use Rattle.line.specs.Withdraw as line
 use Rattle.line.specs.Laws.Places.{height-seam}
 use Rattle.promises.specs.Layout.{height_in, placed_in, line_from, tab}
 use Rattle.memory.specs.Stores.{set_height}
-use Rattle.promises.specs.Laws.Tab.{tab-cut}
+use Rattle.promises.proofs.Laws.Tab.{tab-cut}
 use Rattle.memory.specs.Laws.Frames.{frame-trans, room-over}
 use Rattle.memory.specs.Laws.Stored.{set_height-rows}
 use Rattle.memory.specs.Laws.Lines.{length-line, height_at-line, line-set_height}

@@ -24,7 +24,7 @@ use Rattle.line.specs.Laws.Removed.{range_of, range_rows, flat-remove-own, Parte
 use Rattle.line.specs.Laws.Withdraw.{ends-each, ends-rising, moves-in-order}
 use Rattle.promises.specs.Layout.{number_in, height_in, costs_in, work_in, move_in, placed_in, line_from, tab}
 use Rattle.memory.specs.Frame.{RowsOnly}
-use Rattle.promises.specs.Laws.Tab.{tab-ext, take-tab, drop-tab, map-tab, get_or-tab}
+use Rattle.promises.proofs.Laws.Tab.{tab-ext, take-tab, drop-tab, map-tab, get_or-tab}
 use Rattle.memory.specs.Laws.Places.{tab-each}
 use Rattle.memory.specs.Laws.Frames.{frame-trans, room-over}
 use Rattle.memory.specs.Laws.Fields.{work-over-rows, costs-over-rows, costs-over-work}

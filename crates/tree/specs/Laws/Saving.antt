@@ -15,7 +15,7 @@ use Rattle.promises.specs.Layout.{number_in, work_in, move_in, line_from, tab}
 use Rattle.memory.specs.Room.{Room}
 use Rattle.memory.specs.Stores.{set_work}
 use Rattle.memory.specs.Frame.{WorkOnly}
-use Rattle.promises.specs.Laws.Tab.{tab-ext}
+use Rattle.promises.proofs.Laws.Tab.{tab-ext}
 use Rattle.memory.specs.Laws.Frames.{frame-refl, frame-trans}
 use Rattle.memory.specs.Laws.Fields.{number-over-work}
 use Rattle.memory.specs.Laws.Stored.{set_work-work, work-set_work, work-set_work-other}

@@ -9,7 +9,7 @@ use Rattle.model.specs.Moves.{Move}
 use Rattle.model.proofs.Laws.Basics.{select-ext, select-map}
 use Rattle.line.specs.Line.{moves_in}
 use Rattle.promises.specs.Layout.{number_in, move_in, line_from, line_in, board_in}
-use Rattle.promises.specs.Laws.Tab.{each-tab}
+use Rattle.promises.proofs.Laws.Tab.{each-tab}
 use Rattle.memory.specs.Held.{SoundRows}
 use Rattle.memory.specs.Laws.Lines.{moves_in-line}
 use Rattle.memory.specs.declared.head.Head.{Head}

@@ -12,7 +12,7 @@ use Rattle.model.proofs.Laws.Basics.{each-mem, select-append, select-all, select
 use Rattle.model.proofs.Laws.Range.{each-numbers, each-place, numbers-append, length-numbers}
 use Rattle.promises.specs.Layout.{tab}
 use Rattle.memory.specs.Tests.{any_to}
-use Rattle.promises.specs.Laws.Tab.{tab-cons, tab-ext}
+use Rattle.promises.proofs.Laws.Tab.{tab-cons, tab-ext}
 use Rattle.memory.specs.Laws.Places.{any-tab}
 use Rattle.upkeep.specs.Change.{drop_at, places_in}
 

@@ -7,7 +7,7 @@ use lib.ListN.{length, set}
 use Rattle.zorder.specs.Address.{row_costs, padded}
 use Rattle.zorder.proofs.Fill.{filled, filled_none, filled_more, filled-all}
 use Rattle.promises.specs.Layout.{tab}
-use Rattle.promises.specs.Laws.Tab.{length-tab, get_or-tab}
+use Rattle.promises.proofs.Laws.Tab.{length-tab, get_or-tab}
 use Rattle.frame_lines.specs.Reading.{cost_at, costs_at}
 use Rattle.frame_lines.proofs.frame.costs_at.Given as goal
 

@@ -1,0 +1,14 @@
+-- `notice::entered_of` meets its contract. Assumes nothing.
+use borrow.Author.Rules.{rules}
+use Rattle.search.specs.declared.search.Among.TheVariants.{Hidden}
+use Rattle.planning.proofs.notice.entered_of.Goals as goal
+
+pub returns : goal.returns
+returns c =
+    let a = c.args in
+    (λ i.
+    record {
+      told = record { head = a.p.head; mark = 2; among = Hidden; coming = record { told = a.p.upkeep.listed; place = a.p.place; entrant = c.coming_of.ensures i } };
+      numbers = a.p.upkeep.changed;
+      count = c.counted.ensures i;
+    })

@@ -1,0 +1,11 @@
+-- `plan::plan_change` meets its contract. Assumes nothing.
+use borrow.Author.Rules.{rules}
+use Rattle.soundness.specs.Laws.Held.{sound-held, unsound-held}
+use Rattle.planning.specs.Laws.Plan.{plan-unsound}
+use Rattle.planning.proofs.plan.plan_change.Goals as goal
+
+pub returns-in_default : goal.returns-in_default
+returns-in_default c = plan-unsound (unsound-held c.sound_head.ensures c.enum_told-1.given.1) c.keeps_moves.ensures
+
+pub plan_on-requires : goal.plan_on-requires
+plan_on-requires c = sound-held c.sound_head.ensures c.in-Sound.is
