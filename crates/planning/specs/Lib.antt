@@ -2,4 +2,3 @@
 pub mod Kind
 pub mod Change
 pub mod Plan
-pub mod Laws

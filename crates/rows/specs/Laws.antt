@@ -2,4 +2,3 @@
 pub mod Set
 pub mod Telling
 pub mod Listed
-pub mod Planned

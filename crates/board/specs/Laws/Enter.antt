@@ -29,7 +29,7 @@ use Rattle.upkeep.specs.declared.exchange.Upkeep.{Upkeep}
 use Rattle.planning.specs.Change.{ToEnter, Moved, EnterMade}
 use Rattle.board.specs.Laws.Rows.{holds-sound, holds-moves, holds-over-flags, holds-counted}
 use Rattle.board.specs.Laws.Made.{FlagsRight, made}
-use Rattle.planning.specs.Laws.Places.{entering-moves}
+use Rattle.planning.proofs.Laws.Places.{entering-moves}
 use Rattle.board.specs.Laws.Flags.{flags-come}
 use Rattle.board.specs.Laws.Steps.{listed-frame, stored-frame, stored-holds, stored-asked}
 

@@ -30,7 +30,7 @@ use Rattle.memory.specs.Laws.Blocks.{same_blocks, set_block-blocks, block-set_bl
 use Rattle.memory.specs.Laws.Held.{held-room}
 use Rattle.planning.specs.Change.{Moved}
 use Rattle.planning.specs.Kind.{change_of, comes}
-use Rattle.planning.specs.Laws.Accepted.{recost-on}
+use Rattle.planning.proofs.Laws.Accepted.{recost-on}
 use Rattle.planning.specs.declared.change.Kind.{Kind}
 use Rattle.planning.specs.declared.change.Kind.TheVariants.{Enter, Withdraw, Recost}
 

@@ -22,7 +22,7 @@ use Rattle.memory.specs.Stores.{set_block}
 use Rattle.rows.specs.Telling.{filled_rows}
 use Rattle.rows.specs.Planned.{answered, put}
 use Rattle.rows.specs.Laws.Telling.{filled-length}
-use Rattle.rows.specs.Laws.Planned.{foreseen-said, foreseen-unsaid, tells-put, tells_none, put_both}
+use Rattle.rows.proofs.Planned.{foreseen-said, foreseen-unsaid, tells-put, tells_none, put_both}
 use Rattle.planning.specs.Kind.{call_of, comes}
 use Rattle.planning.specs.Change.{Made}
 use Rattle.planning.specs.Plan.{CarriedOut, Planned, left_of, rows_filled}

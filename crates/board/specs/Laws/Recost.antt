@@ -37,7 +37,7 @@ use Rattle.upkeep.specs.Flag.{SetFlags}
 use Rattle.upkeep.specs.Laws.Change.{rest-without}
 use Rattle.upkeep.specs.declared.exchange.Upkeep.{Upkeep}
 use Rattle.planning.specs.Change.{ToRecost, Moved, RecostMade}
-use Rattle.planning.specs.Laws.Places.{costs-board}
+use Rattle.planning.proofs.Laws.Places.{costs-board}
 use Rattle.board.specs.Laws.Rows.{holds-sound, holds-moves, holds-over-flags, holds-counted}
 use Rattle.board.specs.Laws.Made.{FlagsRight, made}
 use Rattle.board.specs.Laws.Flags.{flags-come}

@@ -6,7 +6,7 @@ use Rattle.std.proofs.lemmas.List.{length-map}
 use Rattle.model.specs.Calls as calls
 use Rattle.promises.specs.Answers.{result_row}
 use Rattle.rows.specs.Planned.{QueryPlanned, answered}
-use Rattle.rows.specs.Laws.Planned.{query-promise}
+use Rattle.rows.proofs.Planned.{query-promise}
 use Rattle.rows.specs.Rows.{row_numbers}
 use Rattle.rows.specs.declared.plan.Plan.{Plan}
 use Rattle.rows.specs.declared.row.Row.{Row}

@@ -1,11 +1,9 @@
-use Prim.Native.Nat.{◌-◌, ◌≤◌}
 use mathlib.Core.List.{[]}
 use mathlib.Core.Path.{sym, ◌∙◌}
 use native.Mathlib.Omega.{arith}
 use lib.ListN.{get_or, length-take}
 use Rattle.model.specs.Hours.{block_count, hours_bad}
 use Rattle.promises.specs.Answers.{block_hours}
-use Rattle.search.specs.Search.{None}
 use Rattle.search.specs.Laws.Search.{none-empty, none_more}
 use Rattle.hours.specs.Laws.Blocks.{first_found, none_found}
 use Rattle.hours.proofs.blocks.first_bad.Goals as goal

@@ -1,39 +1,26 @@
 -- `plan::plan_hours` meets its contract. Assumes nothing.
-use mathlib.Core.Bool.{false}
 use mathlib.Core.List.{map}
-use mathlib.Core.Path.{◌≡◌, sym, ◌∙◌}
+use mathlib.Core.Path.{sym, ◌∙◌}
 use native.Mathlib.Omega.{arith}
-use borrow.Author.Rules.{rules}
-use Rattle.model.specs.Hours.{minute_bad}
 use Rattle.model.specs.Calls.{hours_query}
 use Rattle.model.proofs.Laws.Hours.{minute-most}
 use Rattle.promises.specs.Answers.{block_hours, outcome_number}
 use Rattle.promises.specs.Layout.{board_in}
-use Rattle.memory.specs.Held.{SoundAt}
-use Rattle.soundness.specs.Laws.Held.{sound-held, unsound-held}
+use Rattle.soundness.specs.Laws.Held.{sound-held, unsound-held, only-unsound}
 use Rattle.rows.specs.Laws.Planned.{query-unsound, query-bad, query-refused}
 use Rattle.hours.specs.Laws.Calls.{minute-refused, hours-refused, hours-right, hours-planned}
-use Rattle.hours.proofs.plan.plan_hours.Goals.{After-first_bad-bad, In-Sound}
 use Rattle.hours.proofs.plan.plan_hours.Goals as goal
-
--- Once the memory is known to be sound.
-sound-at : (c : In-Sound) → SoundAt c.h-1.given.0.0 c.args.m.now
-sound-at c = sound-held c.sound_head.ensures c.in-Sound.is
-
--- Once the minute is one of the week.
-minute-right : (c : After-first_bad-bad) → minute_bad c.args.minute ≡ false
-minute-right c = sym c.minute_bad.ensures ∙ c.if-minute_bad.false
 
 pub returns-in_default : goal.returns-in_default
 returns-in_default c =
     let a = c.args in
-    query-unsound (hours_query a.minute (map block_hours a.hours.now)) a.m.now a.lent c.refused.ensures (unsound-held c.sound_head.ensures c.enum_told-1.given.1)
+    query-unsound (hours_query a.minute (map block_hours a.hours.now)) a.m.now a.lent c.refused.ensures (unsound-held c.sound_head.ensures (only-unsound _ c.in_default.not-Sound))
 
 pub returns-then-minute_bad : goal.returns-then-minute_bad
 returns-then-minute_bad c =
     let a = c.args in
     let hours = map block_hours a.hours.now in
-    query-bad (hours_query a.minute hours) a.m.now a.lent c.refused-then-minute_bad.ensures (sound-at c.before.before.before).sound
+    query-bad (hours_query a.minute hours) a.m.now a.lent c.refused-then-minute_bad.ensures (sound-held c.sound_head.ensures c.in-Sound.is).sound
     (minute-refused (board_in a.m.now) a.minute hours (sym c.minute_bad.ensures ∙ c.if-minute_bad.true))
 
 pub returns-then-bad-lt-BLOCKS : goal.returns-then-bad-lt-BLOCKS
@@ -41,18 +28,18 @@ unfolding outcome_number
 returns-then-bad-lt-BLOCKS c =
     let a = c.args in
     let hours = map block_hours a.hours.now in
-    query-refused (hours_query a.minute hours) a.m.now a.lent c.refused-then-bad-lt-BLOCKS.ensures (sound-at c.before.before.before.before.before).sound (omega arith)
-    (hours-refused (board_in a.m.now) a.minute hours (minute-right c.before.before) c.first_bad-bad.ensures c.if-bad-lt-BLOCKS.true)
+    query-refused (hours_query a.minute hours) a.m.now a.lent c.refused-then-bad-lt-BLOCKS.ensures (sound-held c.sound_head.ensures c.in-Sound.is).sound (omega arith)
+    (hours-refused (board_in a.m.now) a.minute hours (sym c.minute_bad.ensures ∙ c.if-minute_bad.false) c.first_bad-bad.ensures c.if-bad-lt-BLOCKS.true)
 
 pub overflow_cast-minute : goal.overflow_cast-minute
-overflow_cast-minute c = omega (arith, minute-most _ (minute-right c.before))
+overflow_cast-minute c = omega (arith, minute-most _ (sym c.minute_bad.ensures ∙ c.if-minute_bad.false))
 
 pub returns : goal.returns
 returns c =
     let a = c.args in
     let hours = map block_hours a.hours.now in
-    hours-planned (sound-at c.before.before.before.before.before.before.before) c.open_blocks-blocks.ensures c.find_shown.ensures c.plan_found.ensures
-    (hours-right (board_in a.m.now) a.minute hours (minute-right c.before.before.before.before) c.first_bad-bad.ensures c.if-bad-lt-BLOCKS.false)
+    hours-planned (sound-held c.sound_head.ensures c.in-Sound.is) c.open_blocks-blocks.ensures c.find_shown.ensures c.plan_found.ensures
+    (hours-right (board_in a.m.now) a.minute hours (sym c.minute_bad.ensures ∙ c.if-minute_bad.false) c.first_bad-bad.ensures c.if-bad-lt-BLOCKS.false)
 
 pub find_shown-requires : goal.find_shown-requires
-find_shown-requires c = sound-at c.before.before.before.before.before
+find_shown-requires c = sound-held c.sound_head.ensures c.in-Sound.is

@@ -1,14 +1,8 @@
-use Prim.Native.Nat.{ℕ, ◌-◌, ◌≤◌}
-use mathlib.Core.Bool.{Bool}
-use mathlib.Core.List.{List}
 use mathlib.Core.Path.{sym}
 use native.Mathlib.Omega.{arith}
 use Rattle.promises.specs.Layout.{move_in}
 use Rattle.memory.specs.Laws.Held.{held-readable}
-use Rattle.memory.specs.declared.head.Head.{Head}
-use Rattle.upkeep.specs.Found.{move_of}
-use Rattle.upkeep.specs.Laws.Found.{FindsTo, finds-few, finds-none, adds-few, finds-more, finds-all}
-use Rattle.hours.specs.Open.{shown_in}
+use Rattle.upkeep.specs.Laws.Found.{finds-few, finds-none, adds-few, finds-more, finds-all}
 use Rattle.hours.proofs.shown.find_shown.Invariants.{test}
 use Rattle.hours.proofs.shown.find_shown.Goals as goal
 

@@ -1,10 +1,7 @@
-use Prim.Native.Nat.{◌-◌, ◌≤◌}
 use mathlib.Core.Path.{sym, ◌∙◌}
 use native.Mathlib.Omega.{arith}
-use borrow.Author.Rules.{rules}
 use Rattle.model.specs.Hours.{window_bad}
 use Rattle.promises.specs.Answers.{window_at}
-use Rattle.search.specs.Search.{None}
 use Rattle.search.specs.Laws.Search.{none-empty, none_more}
 use Rattle.hours.specs.Laws.Windows.{no-window, some-window, fifth-bad, few-bad}
 use Rattle.hours.proofs.windows.hours_bad.Goals as goal

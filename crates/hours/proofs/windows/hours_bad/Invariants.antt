@@ -1,13 +1,8 @@
 -- `windows::hours_bad` meets its contract. The loop's invariant: no window passed is bad. Assumes nothing.
 use Prim.Native.Nat.{◌-◌, ◌≤◌}
-use mathlib.Core.Path.{sym, ◌∙◌}
-use native.Mathlib.Omega.{arith}
-use borrow.Author.Rules.{rules}
 use Rattle.model.specs.Hours.{window_bad}
 use Rattle.promises.specs.Answers.{window_at}
 use Rattle.search.specs.Search.{None}
-use Rattle.search.specs.Laws.Search.{none-empty, none_more}
-use Rattle.hours.specs.Laws.Windows.{no-window, some-window, fifth-bad, few-bad}
 use Rattle.hours.proofs.windows.hours_bad.Given as goal
 
 abbrev pub invariant-loop-i : goal.invariant-loop-i

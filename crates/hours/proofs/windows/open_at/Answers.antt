@@ -1,9 +1,7 @@
-use Prim.Native.Nat.{◌-◌, ◌≤◌}
 use mathlib.Core.Path.{sym, ◌∙◌}
 use native.Mathlib.Omega.{arith}
 use Rattle.model.specs.Hours.{open_in}
 use Rattle.promises.specs.Answers.{window_at}
-use Rattle.search.specs.Search.{None}
 use Rattle.search.specs.Laws.Search.{none-empty, none_more}
 use Rattle.hours.specs.Laws.Windows.{no-window, some-window}
 use Rattle.hours.proofs.windows.open_at.Goals as goal

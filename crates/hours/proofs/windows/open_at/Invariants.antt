@@ -1,12 +1,8 @@
 -- `windows::open_at` meets its contract. The loop's invariant: no window passed is open. Assumes nothing.
 use Prim.Native.Nat.{◌-◌, ◌≤◌}
-use mathlib.Core.Path.{sym, ◌∙◌}
-use native.Mathlib.Omega.{arith}
 use Rattle.model.specs.Hours.{open_in}
 use Rattle.promises.specs.Answers.{window_at}
 use Rattle.search.specs.Search.{None}
-use Rattle.search.specs.Laws.Search.{none-empty, none_more}
-use Rattle.hours.specs.Laws.Windows.{no-window, some-window}
 use Rattle.hours.proofs.windows.open_at.Given as goal
 
 abbrev pub invariant-loop-i : goal.invariant-loop-i

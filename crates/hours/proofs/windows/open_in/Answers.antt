@@ -1,5 +1,4 @@
 -- `windows::open_in` meets its contract. Assumes nothing.
-use borrow.Author.Rules.{rules}
 use Rattle.promises.specs.Answers.{window_at}
 use Rattle.hours.specs.Laws.Windows.{open-over, open-within}
 use Rattle.hours.proofs.windows.open_in.Goals as goal

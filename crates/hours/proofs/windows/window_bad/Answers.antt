@@ -1,7 +1,6 @@
 -- `windows::window_bad` meets its contract. Assumes nothing.
 use mathlib.Core.Bool.{Bool, ◌||◌}
 use mathlib.Core.Path.{ap₂}
-use borrow.Author.Rules.{rules}
 use lib.Dec.{eqb}
 use Rattle.model.specs.Hours.{window_bad}
 use Rattle.promises.specs.Answers.{window_at}

@@ -1,5 +1,4 @@
 -- `windows::windows_in` meets its contract. Assumes nothing.
-use borrow.Author.Rules.{rules}
 use native.Mathlib.Omega.{arith}
 use Rattle.hours.specs.Laws.Windows.{few-windows, all-windows}
 use Rattle.hours.proofs.windows.windows_in.Goals as goal

@@ -11,7 +11,7 @@ use Rattle.model.specs.Calls.{block_bad}
 use Rattle.model.proofs.Laws.Bool.{both_ways}
 use Rattle.promises.specs.Answers.{outcome_number}
 use Rattle.planning.specs.Kind.{comes}
-use Rattle.planning.specs.Laws.Judge.{judges-by}
+use Rattle.planning.proofs.Laws.Judge.{judges-by}
 use Rattle.planning.proofs.judge.judge.Goals.{else-comes-2-via-else-comes-2, else-comes-2-via-then-comes-2+else-not-zero_past, else-comes-via-else-comes, else-comes-via-then-comes+else-block_bad}
 use Rattle.planning.proofs.judge.judge.Goals as goal
 

@@ -1,7 +1,7 @@
 -- `plan::plan_change` meets its contract. Assumes nothing.
 use borrow.Author.Rules.{rules}
 use Rattle.soundness.specs.Laws.Held.{sound-held, unsound-held, only-unsound}
-use Rattle.planning.specs.Laws.Plan.{plan-unsound}
+use Rattle.planning.proofs.Laws.Plan.{plan-unsound}
 use Rattle.planning.proofs.plan.plan_change.Goals as goal
 
 pub returns-in_default : goal.returns-in_default

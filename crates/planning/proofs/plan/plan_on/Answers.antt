@@ -17,9 +17,9 @@ use Rattle.model.specs.Calls.{change_refusal}
 use Rattle.promises.specs.Layout.{board_in}
 use Rattle.planning.specs.Kind.{call_of, exchange_of}
 use Rattle.planning.specs.Plan.{alike, ReadyRows}
-use Rattle.planning.specs.Laws.Judge.{judged}
-use Rattle.planning.specs.Laws.Notice.{upkeep-counted}
-use Rattle.planning.specs.Laws.Plan.{ready, plan-refused, plan-idle, plan-full}
+use Rattle.planning.proofs.Laws.Judge.{judged}
+use Rattle.planning.proofs.Laws.Notice.{upkeep-counted}
+use Rattle.planning.proofs.Laws.Plan.{ready, plan-refused, plan-idle, plan-full}
 use Rattle.planning.proofs.plan.plan_on.Goals as goal
 
 pub place_of-goes-requires : goal.place_of-goes-requires

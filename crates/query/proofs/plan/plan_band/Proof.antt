@@ -5,7 +5,7 @@ use Rattle.model.specs.Calls.{band_query}
 use Rattle.model.specs.Opening.{query_opens}
 use Rattle.memory.specs.Held.{SoundAt}
 use Rattle.soundness.specs.Laws.Held.{sound-held, unsound-held}
-use Rattle.rows.specs.Laws.Planned.{query-unsound, query-bad}
+use Rattle.rows.proofs.Planned.{query-unsound, query-bad}
 use Rattle.query.specs.Band.{in_band}
 use Rattle.query.specs.Laws.Calls.{band-bad, band-right, band-rows}
 use Rattle.query.specs.Laws.Plan.{found-planned}

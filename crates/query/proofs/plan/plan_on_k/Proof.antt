@@ -8,7 +8,7 @@ use Rattle.model.specs.Calls.{on_k_query}
 use Rattle.model.specs.Opening.{query_opens}
 use Rattle.memory.specs.Held.{SoundAt}
 use Rattle.soundness.specs.Laws.Held.{sound-held, unsound-held}
-use Rattle.rows.specs.Laws.Planned.{query-unsound, query-bad}
+use Rattle.rows.proofs.Planned.{query-unsound, query-bad}
 use Rattle.query.specs.Rule.{Fair}
 use Rattle.query.specs.Unbeaten.{unbeaten}
 use Rattle.query.specs.Laws.Calls.{on-bad, on-right, on-rows}

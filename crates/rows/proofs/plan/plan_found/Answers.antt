@@ -2,7 +2,7 @@
 use mathlib.Core.Path.{sym, subst}
 use borrow.Author.Rules.{rules}
 use Rattle.rows.specs.Planned.{PlansFound}
-use Rattle.rows.specs.Laws.Planned.{found-plans}
+use Rattle.rows.proofs.Planned.{found-plans}
 use Rattle.rows.specs.declared.telling.Telling.{Telling}
 use Rattle.rows.proofs.plan.plan_found.Goals as goal
 

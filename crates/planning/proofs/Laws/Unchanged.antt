@@ -28,8 +28,8 @@ use Rattle.dominance.specs.declared.Move.{Move}
 use Rattle.memory.specs.Held.{SoundRows}
 use Rattle.memory.specs.Laws.Written.{only-refl}
 use Rattle.planning.specs.Change.{Made}
-use Rattle.planning.specs.Laws.Judge.{board-moves}
-use Rattle.planning.specs.Laws.Places.{costs-board}
+use Rattle.planning.proofs.Laws.Judge.{board-moves}
+use Rattle.planning.proofs.Laws.Places.{costs-board}
 
 module _ {c d n : ℕ} {m : List ℕ} (s : SoundRows c d n m) (b : Bytes m) (x : Move) (fit : Fit c d (as_move x)) (on : on_board x.number (board_in m).moves ≡ true)
     (r : equal x.costs (costs_in c d m x.number) ≡ true) (block : ℕ) where

@@ -42,8 +42,8 @@ use Rattle.planning.specs.Kind.{change_of, comes}
 use Rattle.planning.specs.Plan.{ReadyRows, PreparedFor}
 use Rattle.planning.specs.declared.change.Kind.{Kind}
 use Rattle.planning.specs.declared.change.Kind.TheVariants.{Enter, Withdraw, Recost}
-use Rattle.planning.specs.Laws.Judge.{board-moves, judge-size, judge-past, on-board}
-use Rattle.planning.specs.Laws.Places.{entering-moves}
+use Rattle.planning.proofs.Laws.Judge.{board-moves, judge-size, judge-past, on-board}
+use Rattle.planning.proofs.Laws.Places.{entering-moves}
 
 -- The four checks, none of which turns the change down.
 all_pass : (b : calls.Board) (number block : ℕ) (costs : List ℕ) (t : Bool) (k : ℕ)

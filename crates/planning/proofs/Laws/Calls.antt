@@ -12,7 +12,7 @@ use Rattle.memory.specs.Held.{SoundRows}
 use Rattle.upkeep.specs.Change.{moves_after}
 use Rattle.upkeep.specs.declared.exchange.Exchange.{Exchange}
 use Rattle.planning.specs.Change.{notice_by}
-use Rattle.planning.specs.Laws.Judge.{board-moves}
+use Rattle.planning.proofs.Laws.Judge.{board-moves}
 
 -- No check turns it down.
 pub not-refused : {k : ℕ} → k ≡ 0 → refused_with k ≡ accepted

@@ -31,17 +31,17 @@ use Rattle.tree.specs.Withdraw.{PlaceOf}
 use Rattle.upkeep.specs.Change.{UpkeptRows, PlaceRows}
 use Rattle.upkeep.specs.declared.exchange.Upkeep.{Upkeep}
 use Rattle.rows.specs.Planned.{Foreseen, Tells}
-use Rattle.rows.specs.Laws.Planned.{foreseen-unsound, foreseen-refused, foreseen-judged, few-refuses, counted-all, counted_none}
+use Rattle.rows.proofs.Planned.{foreseen-unsound, foreseen-refused, foreseen-judged, few-refuses, counted-all, counted_none}
 use Rattle.rows.specs.declared.telling.Telling.{Telling}
 use Rattle.planning.specs.Kind.{change_of, call_of, comes, coming_of, exchange_of}
 use Rattle.planning.specs.Change.{Other, needed_rows, Made}
 use Rattle.planning.specs.Plan.{alike, ReadyRows, Giveable, Planned, KeepsMoves}
-use Rattle.planning.specs.Laws.Judge.{board-moves}
-use Rattle.planning.specs.Laws.Places.{costs-board}
-use Rattle.planning.specs.Laws.Notice.{left_rows, entered_rows, rows_left, rows-entered, count_left, count-entered, rows-notice, rows-needed}
-use Rattle.planning.specs.Laws.Calls.{not-refused, call-notice}
-use Rattle.planning.specs.Laws.Accepted.{enter-last, recost-on, recost-place, kind-ready, kind-moves, kind-prepared, kind-block}
-use Rattle.planning.specs.Laws.Unchanged.{no-notice, same-made}
+use Rattle.planning.proofs.Laws.Judge.{board-moves}
+use Rattle.planning.proofs.Laws.Places.{costs-board}
+use Rattle.planning.proofs.Laws.Notice.{left_rows, entered_rows, rows_left, rows-entered, count_left, count-entered, rows-notice, rows-needed}
+use Rattle.planning.proofs.Laws.Calls.{not-refused, call-notice}
+use Rattle.planning.proofs.Laws.Accepted.{enter-last, recost-on, recost-place, kind-ready, kind-moves, kind-prepared, kind-block}
+use Rattle.planning.proofs.Laws.Unchanged.{no-notice, same-made}
 use Rattle.planning.specs.declared.change.Change.{Change}
 use Rattle.planning.specs.declared.change.Kind.{Kind}
 use Rattle.planning.specs.declared.change.Kind.TheVariants.{Enter, Withdraw, Recost}

@@ -19,7 +19,7 @@ use Rattle.upkeep.specs.Change.{AskedRows, UpkeptRows, PlaceRows, moves_after}
 use Rattle.upkeep.specs.Laws.Places.{count-le}
 use Rattle.rows.specs.Telling.{told_rows}
 use Rattle.planning.specs.Plan.{leaving_by, entering_by}
-use Rattle.planning.specs.Laws.Told.{left-told, left-number, entered-told, entered-number}
+use Rattle.planning.proofs.Laws.Told.{left-told, left-number, entered-told, entered-number}
 use Rattle.upkeep.specs.declared.exchange.Exchange.{Exchange}
 use Rattle.upkeep.specs.declared.exchange.Upkeep.{Upkeep}
 use Rattle.planning.specs.Change.{needed_rows, Counted, Other, notice_by}
