@@ -2,7 +2,7 @@
 use Rattle.model.specs.Calls.{list}
 use Rattle.memory.specs.Laws.Held.{held-readable}
 use Rattle.soundness.specs.Laws.Held.{sound-held, unsound-held, only-unsound}
-use Rattle.rows.specs.Laws.Planned.{query-unsound}
+use Rattle.rows.proofs.Planned.{query-unsound}
 use Rattle.listing.specs.Laws.List.{list-planned}
 use Rattle.listing.proofs.plan_list.Goals as goal
 

@@ -7,7 +7,7 @@ use Rattle.model.proofs.Laws.Hours.{minute-most}
 use Rattle.promises.specs.Answers.{block_hours, outcome_number}
 use Rattle.promises.specs.Layout.{board_in}
 use Rattle.soundness.specs.Laws.Held.{sound-held, unsound-held, only-unsound}
-use Rattle.rows.specs.Laws.Planned.{query-unsound, query-bad, query-refused}
+use Rattle.rows.proofs.Planned.{query-unsound, query-bad, query-refused}
 use Rattle.hours.specs.Laws.Calls.{minute-refused, hours-refused, hours-right, hours-planned}
 use Rattle.hours.proofs.plan.plan_hours.Goals as goal
 
