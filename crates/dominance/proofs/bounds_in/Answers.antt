@@ -1,8 +1,6 @@
-use Prim.Native.Nat.{◌-◌, ◌≤◌}
 use native.Mathlib.Omega.{arith}
-use Rattle.zorder.specs.Address.{row_costs}
 use Rattle.dominance.specs.Lanes.{bound, is_chosen}
-use Rattle.dominance.specs.Laws.Lanes.{FilledTo, filled_none, filled_more, filled-all}
+use Rattle.dominance.specs.Laws.Lanes.{filled_none, filled_more, filled-all}
 use Rattle.dominance.specs.Laws.Sums.{bit-small}
 use Rattle.dominance.proofs.bounds_in.Goals as goal
 

@@ -1,10 +1,8 @@
 -- `bounds_in` meets its contract, as `bounds_of` does. Assumes nothing.
 use Prim.Native.Nat.{◌-◌, ◌≤◌}
-use native.Mathlib.Omega.{arith}
 use Rattle.zorder.specs.Address.{row_costs}
 use Rattle.dominance.specs.Lanes.{bound, is_chosen}
-use Rattle.dominance.specs.Laws.Lanes.{FilledTo, filled_none, filled_more, filled-all}
-use Rattle.dominance.specs.Laws.Sums.{bit-small}
+use Rattle.dominance.specs.Laws.Lanes.{FilledTo}
 use Rattle.dominance.proofs.bounds_in.Given as goal
 
 abbrev pub invariant-loop-i : goal.invariant-loop-i

@@ -1,12 +1,11 @@
-use Prim.Native.Nat.{ℕ, ◌-◌, ◌≤◌}
+use Prim.Native.Nat.{ℕ}
 use mathlib.Core.Bool.{Bool, cond}
 use mathlib.Core.Path.{ap, ◌∙◌}
 use native.Mathlib.Omega.{arith}
 use lib.Dec.{eqb}
 use lib.ListN.{get_or}
-use Rattle.zorder.specs.Address.{row_costs}
 use Rattle.dominance.specs.Lanes.{bound, is_first}
-use Rattle.dominance.specs.Laws.Lanes.{FilledTo, filled_none, filled_more, filled-all, factor-test}
+use Rattle.dominance.specs.Laws.Lanes.{filled_none, filled_more, filled-all, factor-test}
 use Rattle.dominance.proofs.bounds_of.Goals as goal
 
 pub loop-i-init : goal.loop-i-init

@@ -1,13 +1,8 @@
 -- `bounds_of` meets its contract. The loop's invariant: the places before i are filled. Assumes nothing.
-use Prim.Native.Nat.{ℕ, ◌-◌, ◌≤◌}
-use mathlib.Core.Bool.{Bool, cond}
-use mathlib.Core.Path.{ap, ◌∙◌}
-use native.Mathlib.Omega.{arith}
-use lib.Dec.{eqb}
-use lib.ListN.{get_or}
+use Prim.Native.Nat.{◌-◌, ◌≤◌}
 use Rattle.zorder.specs.Address.{row_costs}
 use Rattle.dominance.specs.Lanes.{bound, is_first}
-use Rattle.dominance.specs.Laws.Lanes.{FilledTo, filled_none, filled_more, filled-all, factor-test}
+use Rattle.dominance.specs.Laws.Lanes.{FilledTo}
 use Rattle.dominance.proofs.bounds_of.Given as goal
 
 abbrev pub invariant-loop-i : goal.invariant-loop-i

@@ -1,7 +1,6 @@
 -- `choose` meets its contract. Assumes nothing.
 use Prim.Native.Nat.{◌-◌, ◌^◌}
 use native.Mathlib.Omega.{arith}
-use borrow.Author.Rules.{rules}
 use Rattle.dominance.specs.Laws.Sums.{times-lt}
 use Rattle.dominance.specs.Laws.Lanes.{chosen-number, chosen-small}
 use Rattle.dominance.proofs.choose.Goals as goal

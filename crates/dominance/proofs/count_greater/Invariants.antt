@@ -1,13 +1,7 @@
 -- `count_greater` meets its contract. The loop's invariant: the costs passed are summed up. Assumes nothing.
-use Prim.Native.Nat.{ℕ, ◌+◌, ◌-◌, ◌*◌, ◌≤◌}
-use mathlib.Core.Bool.{cond}
-use mathlib.Core.Path.{ap, ap₂, ◌∙◌}
-use native.Mathlib.Omega.{arith}
-use lib.ListN.{get_or}
+use Prim.Native.Nat.{◌-◌, ◌≤◌}
 use Rattle.zorder.specs.Address.{row_costs}
-use Rattle.model.specs.Dominance.{less}
-use Rattle.dominance.specs.Sums.{count_less}
-use Rattle.dominance.specs.Laws.Sums.{SumTo, sum-none, sum_more, sum-end, first_of, first_small, at-counted}
+use Rattle.dominance.specs.Laws.Sums.{SumTo, first_of, first_small}
 use Rattle.dominance.proofs.count_greater.Given as goal
 
 abbrev pub invariant-loop-i : goal.invariant-loop-i

@@ -1,7 +1,6 @@
 -- `dominates` meets its contract. Assumes nothing.
 use mathlib.Core.Bool.{Bool, not, ◌&&◌}
 use mathlib.Core.Path.{ap₂, ◌∙◌}
-use borrow.Author.Rules.{rules}
 use Rattle.dominance.specs.Laws.Sums.{exceeds-dominate}
 use Rattle.dominance.proofs.dominates.Goals as goal
 

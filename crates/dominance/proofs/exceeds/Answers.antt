@@ -1,11 +1,11 @@
-use Prim.Native.Nat.{ℕ, ◌-◌, ◌*◌, ◌≤◌}
+use Prim.Native.Nat.{ℕ, ◌*◌}
 use mathlib.Core.Bool.{cond}
 use mathlib.Core.Path.{ap, ap₂, ◌∙◌}
 use native.Mathlib.Omega.{arith}
 use lib.ListN.{get_or}
 use Rattle.zorder.specs.Address.{row_costs}
 use Rattle.model.specs.Dominance.{less, somewhere_less}
-use Rattle.dominance.specs.Laws.Sums.{OrTo, or-none, or-more, or-end, first_of, first_small, at-counted}
+use Rattle.dominance.specs.Laws.Sums.{or-none, or-more, or-end, first_of, first_small, at-counted}
 use Rattle.dominance.proofs.exceeds.Goals as goal
 
 pub loop-i-init : goal.loop-i-init

@@ -1,10 +1,10 @@
-use Prim.Native.Nat.{ℕ, ◌-◌, ◌≤◌}
+use Prim.Native.Nat.{ℕ}
 use mathlib.Core.List.{List}
 use mathlib.Core.Path.{ap, ◌∙◌}
 use native.Mathlib.Omega.{arith}
 use Rattle.zorder.specs.Address.{row_costs}
 use Rattle.model.specs.Dominance.{somewhere_less, at}
-use Rattle.dominance.specs.Laws.Sums.{OrTo, or-none, or-more, or-end, bit_of, bit-small, counted-set}
+use Rattle.dominance.specs.Laws.Sums.{or-none, or-more, or-end, bit_of, bit-small, counted-set}
 use Rattle.dominance.proofs.exceeds_in.Goals as goal
 
 pub loop-i-init : goal.loop-i-init

@@ -1,11 +1,7 @@
 -- `exceeds_in` meets its contract, as `exceeds` does. Assumes nothing.
-use Prim.Native.Nat.{ℕ, ◌-◌, ◌≤◌}
-use mathlib.Core.List.{List}
-use mathlib.Core.Path.{ap, ◌∙◌}
-use native.Mathlib.Omega.{arith}
+use Prim.Native.Nat.{◌-◌, ◌≤◌}
 use Rattle.zorder.specs.Address.{row_costs}
-use Rattle.model.specs.Dominance.{somewhere_less, at}
-use Rattle.dominance.specs.Laws.Sums.{OrTo, or-none, or-more, or-end, bit_of, bit-small, counted-set}
+use Rattle.dominance.specs.Laws.Sums.{OrTo, bit_of, bit-small}
 use Rattle.dominance.proofs.exceeds_in.Given as goal
 
 abbrev pub invariant-loop-i : goal.invariant-loop-i

@@ -1,6 +1,5 @@
 -- `first_factor` meets its contract. Assumes nothing.
 use native.Mathlib.Omega.{arith}
-use borrow.Author.Rules.{rules}
 use Rattle.dominance.specs.Laws.Sums.{first-number}
 use Rattle.dominance.proofs.first_factor.Goals as goal
 

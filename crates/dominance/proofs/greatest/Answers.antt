@@ -1,11 +1,10 @@
-use Prim.Native.Nat.{ℕ, ◌+◌, ◌-◌, ◌≤◌}
+use Prim.Native.Nat.{ℕ, ◌+◌}
 use mathlib.Core.Path.{ap, ◌∙◌}
 use native.Mathlib.Omega.{arith}
 use lib.ListN.{get_or}
-use Rattle.zorder.specs.Address.{row_costs}
 use Rattle.zorder.proofs.Row.{row-costs}
 use Rattle.dominance.specs.Lanes.{greater}
-use Rattle.dominance.specs.Laws.Lanes.{FilledTo, filled_none, filled_more, filled-all, greater-number}
+use Rattle.dominance.specs.Laws.Lanes.{filled_none, filled_more, filled-all, greater-number}
 use Rattle.dominance.proofs.greatest.Goals as goal
 
 pub loop-i-init : goal.loop-i-init

@@ -1,10 +1,8 @@
 -- `hides` meets its contract. Assumes nothing.
-use Prim.Native.Nat.{ℕ}
 use mathlib.Core.Bool.{Bool, not, ◌&&◌, ◌||◌}
 use mathlib.Core.Path.{◌≡◌, sym, ap, ap₂, ◌∙◌}
 use lib.Dec.{ltb}
-use lib.ListN.{length, length-map}
-use borrow.Author.Rules.{rules}
+use lib.ListN.{length}
 use Rattle.zorder.specs.Address.{row_costs}
 use Rattle.model.specs.Dominance.{less, lower_twin, hides}
 use Rattle.dominance.specs.Laws.Sums.{test-number, exceeds-dominate-or-equal}

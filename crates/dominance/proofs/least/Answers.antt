@@ -1,10 +1,9 @@
-use Prim.Native.Nat.{ℕ, ◌-◌, ◌≤◌}
+use Prim.Native.Nat.{ℕ, ◌-◌}
 use mathlib.Core.Path.{ap, ◌∙◌}
 use native.Mathlib.Omega.{arith}
 use lib.ListN.{get_or}
-use Rattle.zorder.specs.Address.{row_costs}
 use Rattle.dominance.specs.Lanes.{lesser}
-use Rattle.dominance.specs.Laws.Lanes.{FilledTo, filled_none, filled_more, filled-all, lesser-number}
+use Rattle.dominance.specs.Laws.Lanes.{filled_none, filled_more, filled-all, lesser-number}
 use Rattle.dominance.proofs.least.Goals as goal
 
 pub loop-i-init : goal.loop-i-init

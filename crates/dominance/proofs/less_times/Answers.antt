@@ -2,7 +2,6 @@
 use Prim.Native.Nat.{◌^◌}
 use mathlib.Core.Path.{◌∙◌}
 use native.Mathlib.Omega.{arith}
-use borrow.Author.Rules.{rules}
 use Rattle.dominance.specs.Laws.Sums.{times-lt, less-times}
 use Rattle.dominance.proofs.less_times.Goals as goal
 

@@ -1,5 +1,5 @@
 -- The blocks of a board by the places of its moves, and what a block given leaves as it was.
-use Rattle.std.specs.Prelude.{ℕ, ◌≤◌, ◌<◌, true, false, List, ◌≡◌, refl, length}
+use Rattle.std.specs.Prelude.{ℕ, ◌≤◌, ◌<◌, true, false, List, ◌≡◌, refl}
 use Rattle.std.proofs.Math.Bool.{Bool, cond}
 use Rattle.std.proofs.Common.{inl, inr, ◌∙◌, subst₂, arith, eqb-true, eq-eqb}
 use Rattle.std.proofs.Math.Path.{sym, ap, subst}

@@ -5,7 +5,7 @@ use mathlib.Core.List.{List}
 use Rattle.std.proofs.Common.{inl, inr, ◌∙◌, arith}
 use Rattle.std.proofs.Math.Path.{ap₂}
 use Rattle.std.proofs.Math.Decide.{dec_lt}
-use Rattle.std.proofs.Math.ListN.{length, set}
+use Rattle.std.proofs.Math.ListN.{set}
 use Rattle.model.proofs.Laws.Bool.{both_ways, or_left, or_right, or-false-left, or-false-right}
 use Rattle.promises.specs.Layout.{word_at, set_word, block_place, cost_place, format_number, size_in, dimension_in, format_in, block_in}
 use Rattle.promises.specs.Written.{in_area, moves_write, load_writes, Only}

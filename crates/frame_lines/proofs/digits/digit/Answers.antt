@@ -1,5 +1,4 @@
 -- `digits::digit` meets its contract. Assumes nothing.
-use borrow.Author.Rules.{rules}
 use borrow.Author.Tests.{lt-ltb, le-ltb}
 use Rattle.frame_lines.specs.Digits.{digit_of}
 use Rattle.frame_lines.proofs.digits.digit.Goals as goal

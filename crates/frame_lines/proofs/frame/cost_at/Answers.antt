@@ -1,5 +1,4 @@
 -- `frame::cost_at` meets its contract. Assumes nothing.
-use borrow.Author.Rules.{rules}
 use borrow.Author.Tests.{lt-ltb, le-ltb}
 use Rattle.frame_lines.specs.Reading.{cost_at}
 use Rattle.frame_lines.proofs.frame.cost_at.Goals as goal

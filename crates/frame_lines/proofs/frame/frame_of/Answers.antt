@@ -1,5 +1,4 @@
 -- `frame::frame_of` meets its contract. Assumes nothing.
-use borrow.Author.Rules.{rules}
 use Prim.Native.Nat.{ℕ}
 use mathlib.Core.List.{List}
 use mathlib.Core.Path.{sym, ap₂, subst, ◌∙◌}

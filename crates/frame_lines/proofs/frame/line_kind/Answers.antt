@@ -1,5 +1,4 @@
 -- `frame::line_kind` meets its contract. Assumes nothing.
-use borrow.Author.Rules.{rules}
 use Prim.Native.Nat.{ℕ}
 use mathlib.Core.Path.{ap, ◌∙◌}
 use Rattle.frame_lines.specs.Reading.{kind_of, line_kind}

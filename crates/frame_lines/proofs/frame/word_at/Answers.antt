@@ -1,5 +1,4 @@
 -- `frame::word_at` meets its contract. Assumes nothing.
-use borrow.Author.Rules.{rules}
 use Prim.Native.Nat.{ℕ, ◌+◌, ◌*◌}
 use mathlib.Core.Path.{ap₂}
 use Rattle.frame_lines.specs.Reading.{word_spelled}

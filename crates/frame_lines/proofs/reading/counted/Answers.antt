@@ -1,5 +1,4 @@
 -- `reading::counted` meets its contract. Assumes nothing.
-use borrow.Author.Rules.{rules}
 use native.Mathlib.Omega.{arith}
 use Rattle.frame_lines.proofs.reading.counted.Goals as goal
 

@@ -1,10 +1,6 @@
-use borrow.Author.Rules.{rules}
-use Prim.Native.Nat.{◌-◌}
 use mathlib.Core.Bool.{true≢false}
 use mathlib.Core.Path.{sym}
 use native.Mathlib.Omega.{arith}
-use lib.ListN.{length}
-use Rattle.frame_lines.specs.Reading.{ReadOn}
 use Rattle.frame_lines.specs.Laws.Lines.{read_none, read_more}
 use Rattle.frame_lines.proofs.reading.read_on.Goals as goal
 

@@ -1,5 +1,4 @@
 -- `text::put_byte` meets its contract. Assumes nothing.
-use borrow.Author.Rules.{rules}
 use native.Mathlib.Omega.{arith}
 use lib.ListN.{length-set}
 use Rattle.frame_lines.specs.Laws.Put.{put_two, put_as}

@@ -1,5 +1,4 @@
 -- `text::put_refusal` meets its contract. Assumes nothing.
-use borrow.Author.Rules.{rules}
 use native.Mathlib.Omega.{arith}
 use Rattle.frame_lines.specs.Laws.Put.{put_one, put_both}
 use Rattle.frame_lines.specs.Laws.Texts.{head-length}

@@ -1,5 +1,4 @@
 -- `text::two_bytes` meets its contract. Assumes nothing.
-use borrow.Author.Rules.{rules}
 use mathlib.Core.Path.{refl}
 use Rattle.frame_lines.proofs.text.two_bytes.Goals as goal
 

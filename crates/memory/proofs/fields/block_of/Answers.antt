@@ -1,7 +1,6 @@
 -- `fields::block_of` meets its contract. Assumes nothing.
 use Prim.Native.Nat.{ℕ}
 use mathlib.Core.Path.{ap}
-use borrow.Author.Rules.{rules}
 use lib.ListN.{get_or}
 use Rattle.promises.specs.Layout.{block_in}
 use Rattle.memory.proofs.fields.block_of.Goals as goal

@@ -1,7 +1,6 @@
 -- `fields::costs_at` meets its contract. Assumes nothing.
 use mathlib.Core.Path.{ap, ◌∙◌}
 use native.Mathlib.Omega.{arith}
-use borrow.Author.Rules.{rules}
 use Rattle.promises.specs.Layout.{costs_in, move_in}
 use Rattle.memory.proofs.fields.costs_at.Goals as goal
 

@@ -1,6 +1,5 @@
 -- `fields::dimension` meets its contract. Assumes nothing.
 use native.Mathlib.Omega.{arith}
-use borrow.Author.Rules.{rules}
 use Rattle.promises.specs.Layout.{dimension_in}
 use Rattle.memory.proofs.fields.dimension.Goals as goal
 

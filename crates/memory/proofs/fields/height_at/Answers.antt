@@ -1,7 +1,6 @@
 -- `fields::height_at` meets its contract. Assumes nothing.
 use Prim.Native.Nat.{ℕ}
 use mathlib.Core.Path.{ap}
-use borrow.Author.Rules.{rules}
 use lib.ListN.{get_or}
 use Rattle.promises.specs.Layout.{height_in}
 use Rattle.memory.proofs.fields.height_at.Goals as goal

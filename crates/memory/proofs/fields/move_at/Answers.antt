@@ -2,7 +2,6 @@
 use Prim.Native.Nat.{ℕ}
 use mathlib.Core.List.{List}
 use mathlib.Core.Path.{ap, ap₂, ◌∙◌}
-use borrow.Author.Rules.{rules}
 use Rattle.model.specs.Moves.{Move}
 use Rattle.promises.specs.Layout.{costs_in, move_in}
 use Rattle.memory.proofs.fields.move_at.Goals as goal

@@ -1,7 +1,6 @@
 -- `fields::number_at` meets its contract. Assumes nothing.
 use Prim.Native.Nat.{ℕ}
 use mathlib.Core.Path.{ap, ◌∙◌}
-use borrow.Author.Rules.{rules}
 use Rattle.promises.specs.Layout.{word_at, number_in}
 use Rattle.memory.proofs.fields.number_at.Goals as goal
 

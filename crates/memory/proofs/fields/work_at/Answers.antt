@@ -1,7 +1,6 @@
 -- `fields::work_at` meets its contract. Assumes nothing.
 use Prim.Native.Nat.{ℕ}
 use mathlib.Core.Path.{ap, ◌∙◌}
-use borrow.Author.Rules.{rules}
 use Rattle.promises.specs.Layout.{word_at, work_in}
 use Rattle.memory.proofs.fields.work_at.Goals as goal
 

@@ -1,15 +1,9 @@
 -- `stores::set_costs` meets its contract. The loop's invariant: storing what is left gives the whole. Assumes nothing.
 use Rattle.zorder.specs.Address.{row_costs}
-use Prim.Native.Nat.{ℕ, ◌+◌, ◌-◌, ◌*◌, ◌≤◌, ◌<◌}
-use mathlib.Core.List.{List}
-use mathlib.Core.Path.{◌≡◌, refl, sym, ap, ◌∙◌}
-use native.Mathlib.Numerals.{add-one}
-use native.Mathlib.Omega.{arith}
-use lib.ListN.{length, get_or, drop, drop_of_length-le}
-use lib.Seq.{drop-cons}
-use Rattle.promises.specs.Layout.{set_word, cost_place}
+use Prim.Native.Nat.{◌-◌, ◌≤◌}
+use mathlib.Core.Path.{◌≡◌}
+use lib.ListN.{length, drop}
 use Rattle.memory.specs.Stores.{set_costs_from, set_costs}
-use Rattle.memory.specs.Laws.Frames.{word-length}
 use Rattle.memory.proofs.stores.set_costs.Given as goal
 
 abbrev pub invariant-loop-j : goal.invariant-loop-j

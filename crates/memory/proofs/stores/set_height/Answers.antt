@@ -1,7 +1,6 @@
 -- `stores::set_height` meets its contract. Assumes nothing.
 use Prim.Native.Nat.{ℕ}
 use mathlib.Core.Path.{ap}
-use borrow.Author.Rules.{rules}
 use lib.ListN.{set}
 use Rattle.memory.specs.Stores.{set_height}
 use Rattle.memory.proofs.stores.set_height.Goals as goal

@@ -1,7 +1,6 @@
 -- `stores::set_number` meets its contract. Assumes nothing.
 use Prim.Native.Nat.{ℕ}
 use mathlib.Core.Path.{ap, ◌∙◌}
-use borrow.Author.Rules.{rules}
 use Rattle.promises.specs.Layout.{set_word}
 use Rattle.memory.specs.Stores.{set_number}
 use Rattle.memory.proofs.stores.set_number.Goals as goal

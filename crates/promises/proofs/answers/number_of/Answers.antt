@@ -1,5 +1,4 @@
 -- `number_of` meets its contract. Assumes nothing.
-use borrow.Author.Rules.{rules}
 use mathlib.Core.Path.{sym, ap}
 use Rattle.promises.specs.Answers.{outcome_number}
 use Rattle.promises.proofs.answers.number_of.Goals as goal

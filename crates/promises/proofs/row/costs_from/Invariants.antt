@@ -1,12 +1,9 @@
 -- `row::costs_from` meets its contract. The loop's invariant: the first j costs are copied. Assumes nothing.
-use Prim.Native.Nat.{ℕ, ◌+◌, ◌-◌, ◌≤◌}
-use mathlib.Core.List.{List, append-nil}
-use mathlib.Core.Path.{◌≡◌, sym, ap, ap₂, ◌∙◌}
-use native.Mathlib.Omega.{arith}
-use lib.ListN.{length, get_or, drop, set, length-drop}
-use lib.Seq.{get_or-drop}
-use Rattle.zorder.specs.Address.{row_costs, padded}
-use Rattle.zorder.proofs.Fill.{filled, filled_none, filled_more, filled-all}
+use Prim.Native.Nat.{◌-◌, ◌≤◌}
+use mathlib.Core.Path.{◌≡◌}
+use lib.ListN.{drop}
+use Rattle.zorder.specs.Address.{row_costs}
+use Rattle.zorder.proofs.Fill.{filled}
 use Rattle.promises.proofs.row.costs_from.Given as goal
 
 abbrev pub invariant-loop-j : goal.invariant-loop-j

@@ -1,23 +1,10 @@
 -- `between::unkept_of` meets its contract. The loop's invariant: from each bit on, what differs so far is 0 where the costs
 -- passed agree from that bit on. Assumes nothing.
-use Prim.Native.Nat.{ℕ, ◌+◌, ◌-◌, ◌/◌, ◌^◌, ◌≤◌, ◌<◌}
+use Prim.Native.Nat.{ℕ, ◌-◌, ◌/◌, ◌^◌, ◌≤◌, ◌<◌}
 use mathlib.Core.List.{List}
 use mathlib.Core.Logic.{◌↔◌}
-use mathlib.Core.Path.{◌≡◌, sym, ap, ◌∙◌}
-use native.Mathlib.Nat.{zero-div, not-suc-le-zero}
-use native.Mathlib.Omega.{arith}
-use borrow.Author.Count.{below_more}
-use lib.Bits.{bit_or, bit_xor, or_lt, xor_lt, or_shr}
-use lib.Count.{count_leading_zeros, leading_le}
-use lib.ListN.{length, get_or, take}
-use lib.Seq.{ext_get_or, get_or-take}
-use Rattle.zorder.specs.Address.{row_costs, address}
-use Rattle.zorder.specs.Between.{unkept_of}
-use Rattle.zorder.proofs.Laws.Address.{Costs, shifted, length-shifted, get_or-shifted, groups-costs-lt}
-use Rattle.zorder.proofs.Laws.Inverse.{agree-iff}
-use Rattle.zorder.proofs.Laws.Region.{unkept-unique}
-use Rattle.zorder.proofs.Bits.{or-zero-iff, shr-eq-iff, shr-zero-iff}
-use Rattle.zorder.proofs.Row.{row-costs, first-costs}
+use mathlib.Core.Path.{◌≡◌}
+use lib.ListN.{get_or}
 use Rattle.zorder.proofs.between.unkept_of.Given as goal
 
 -- The first i costs of two rows agree from bit k on.

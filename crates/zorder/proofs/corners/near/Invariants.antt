@@ -1,11 +1,10 @@
 -- `corners::near` meets its contract. The loop's invariant: the row holds the first i costs of the corner. Assumes nothing.
-use Prim.Native.Nat.{ℕ, ◌≤◌, ◌-◌}
-use mathlib.Core.List.{List, map}
-use mathlib.Core.Path.{◌≡◌, ap, ap₂, ◌∙◌}
-use native.Mathlib.Omega.{arith}
-use lib.ListN.{set, take}
+use Prim.Native.Nat.{◌≤◌, ◌-◌}
+use mathlib.Core.List.{map}
+use mathlib.Core.Path.{◌≡◌}
+use lib.ListN.{take}
 use Rattle.zorder.specs.Region.{zeros_below}
-use Rattle.zorder.proofs.Fill.{filled, filled_none, mapped-more, mapped-all}
+use Rattle.zorder.proofs.Fill.{filled}
 use Rattle.zorder.proofs.corners.near.Given as goal
 
 abbrev pub invariant-loop-i : goal.invariant-loop-i

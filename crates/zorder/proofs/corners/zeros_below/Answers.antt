@@ -2,7 +2,6 @@
 use Prim.Native.Nat.{◌^◌}
 use native.Mathlib.Nat.{div-mul-le_self}
 use native.Mathlib.Omega.{arith}
-use borrow.Author.Rules.{rules}
 use Rattle.zorder.proofs.Laws.Corners.{zeros_below-one}
 use Rattle.zorder.proofs.corners.zeros_below.Goals as goal
 

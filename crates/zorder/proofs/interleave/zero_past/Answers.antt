@@ -1,11 +1,7 @@
-use Prim.Native.Nat.{◌-◌, ◌≤◌}
 use mathlib.Core.Bool.{true, false}
-use mathlib.Core.Path.{◌≡◌, refl, sym, ◌∙◌}
+use mathlib.Core.Path.{refl, sym, ◌∙◌}
 use native.Mathlib.Omega.{arith}
 use borrow.Author.Tests.{eq-eqb, ne_eqb}
-use lib.ListN.{drop}
-use Rattle.zorder.specs.Address.{row_costs}
-use Rattle.zorder.specs.Refusal.{all_zero}
 use Rattle.zorder.proofs.Laws.Refusal.{all-zero-step, all-zero-end}
 use Rattle.zorder.proofs.interleave.zero_past.Goals as goal
 

@@ -1,13 +1,9 @@
 -- `interleave::zero_past` meets its contract. The loop's invariant: what is left to test decides the whole. Assumes nothing.
 use Prim.Native.Nat.{◌-◌, ◌≤◌}
-use mathlib.Core.Bool.{true, false}
-use mathlib.Core.Path.{◌≡◌, refl, sym, ◌∙◌}
-use native.Mathlib.Omega.{arith}
-use borrow.Author.Tests.{eq-eqb, ne_eqb}
+use mathlib.Core.Path.{◌≡◌}
 use lib.ListN.{drop}
 use Rattle.zorder.specs.Address.{row_costs}
 use Rattle.zorder.specs.Refusal.{all_zero}
-use Rattle.zorder.proofs.Laws.Refusal.{all-zero-step, all-zero-end}
 use Rattle.zorder.proofs.interleave.zero_past.Given as goal
 
 abbrev pub invariant-loop-i : goal.invariant-loop-i

@@ -4,7 +4,7 @@ use native.Mathlib.Nat.{one-mul, mul-le-mul}
 use native.Mathlib.Omega.{arith}
 use Rattle.zorder.specs.Address.{row_costs, bit, cost_from_bits}
 use Rattle.zorder.specs.Words.{value}
-use Rattle.zorder.proofs.Digits.{Digits, Whole, digit-in, digits-end}
+use Rattle.zorder.proofs.Digits.{Digits, digit-in, digits-end}
 use Rattle.zorder.proofs.separate.cost_in.Goals.{In-loop-j}
 use Rattle.zorder.proofs.separate.cost_in.Goals as goal
 

@@ -1,12 +1,9 @@
 -- `separate::cost_in` meets its contract. The loop's invariant: c, moved up past the bits to come, with these gives the cost.
 -- Assumes nothing.
-use Prim.Native.Nat.{ℕ, ◌+◌, ◌-◌, ◌*◌, ◌^◌, ◌≤◌, ◌<◌}
-use mathlib.Core.Path.{refl, sym, ap}
-use native.Mathlib.Nat.{one-mul, mul-le-mul}
-use native.Mathlib.Omega.{arith}
-use Rattle.zorder.specs.Address.{row_costs, bit, cost_from_bits}
+use Prim.Native.Nat.{ℕ, ◌≤◌}
+use Rattle.zorder.specs.Address.{cost_from_bits}
 use Rattle.zorder.specs.Words.{value}
-use Rattle.zorder.proofs.Digits.{Digits, Whole, digit-in, digits-end}
+use Rattle.zorder.proofs.Digits.{Whole}
 use Rattle.zorder.proofs.separate.cost_in.Given as goal
 
 abbrev pub invariant-loop-j : goal.invariant-loop-j

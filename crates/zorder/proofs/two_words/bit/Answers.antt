@@ -1,7 +1,6 @@
 -- `two_words::bit` meets its contract. Assumes nothing.
 use mathlib.Core.Path.{◌∙◌}
 use native.Mathlib.Omega.{arith}
-use borrow.Author.Rules.{rules}
 use Rattle.zorder.specs.Words.{value}
 use Rattle.zorder.proofs.TwoWords.{bit-lower, bit-upper}
 use Rattle.zorder.proofs.two_words.bit.Goals as goal

@@ -1,7 +1,6 @@
 -- `two_words::bit_of` meets its contract: a mask of one bit is the remainder by 2. Assumes nothing.
 use Prim.Native.Nat.{◌/◌, ◌^◌}
 use native.Mathlib.Omega.{arith}
-use borrow.Author.Rules.{rules}
 use Rattle.zorder.specs.Address.{bit}
 use Rattle.zorder.proofs.Bits.{and_one}
 use Rattle.zorder.proofs.two_words.bit_of.Goals as goal

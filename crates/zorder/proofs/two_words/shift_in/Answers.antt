@@ -1,6 +1,5 @@
 -- `two_words::shift_in` meets its contract. Assumes nothing.
 use native.Mathlib.Omega.{arith}
-use borrow.Author.Rules.{rules}
 use Rattle.zorder.specs.Words.{value}
 use Rattle.zorder.proofs.TwoWords.{shifted_in}
 use Rattle.zorder.proofs.two_words.shift_in.Goals as goal

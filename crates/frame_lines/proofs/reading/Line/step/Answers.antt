@@ -1,7 +1,6 @@
 -- `reading::Line::step` meets its contract. Assumes nothing.
 use mathlib.Core.Bool.{Bool, ◌&&◌}
 use mathlib.Core.Path.{sym, ap, ◌∙◌}
-use borrow.Author.Rules.{rules}
 use Rattle.frame_lines.specs.Reading.{Stepped}
 use Rattle.frame_lines.specs.Laws.Judged.{stepped}
 use Rattle.frame_lines.proofs.reading.Line.step.Goals as goal
