@@ -1,4 +1,3 @@
--- The version, and runs of the exported calls; then laws.
-pub mod Version
+-- Runs of the exported calls; then laws.
 pub mod Run
 pub mod Laws

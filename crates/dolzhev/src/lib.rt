@@ -8,7 +8,6 @@ mod lists;
 mod load;
 mod preview;
 mod ranked;
-mod version;
 
 pub use calls::{Answer, Move};
 pub use change::{dolzhev_enter, dolzhev_recost, dolzhev_withdraw};
@@ -16,4 +15,3 @@ pub use lists::{dolzhev_band, dolzhev_chosen, dolzhev_hours, dolzhev_list, dolzh
 pub use load::dolzhev_load;
 pub use preview::{dolzhev_preview_enter, dolzhev_preview_recost, dolzhev_preview_withdraw};
 pub use ranked::dolzhev_rank;
-pub use version::dolzhev_version;
