@@ -1,6 +1,5 @@
 // The public calls for C and Rust: rows are structs, a move comes as a struct, and an answer is
-// document 01's number and detail. None has a `requires`: they refuse. Whatever has a reference to
-// rows is proved by a walk of its MIR, by hand.
+// document 01's number and detail. None has a `requires`: they refuse.
 #![tactic(auto)]
 
 mod change;

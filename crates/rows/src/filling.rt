@@ -1,4 +1,4 @@
-// Lent rows filled. Whatever has a reference to rows is proved by a walk of its MIR, by hand.
+// Lent rows filled.
 ghost use Rattle.std.specs.Prelude.{map, ◌≡◌, ◌+◌, ◌<◌, ◌≤◌, length};
 ghost use Rattle.rows.specs.Rows.{row_numbers};
 ghost use Rattle.rows.specs.Telling.{TellingAsked, filled_rows};

@@ -1,5 +1,5 @@
 -- The end of every change: rows that hold the new tree, flags that say who is in its list, and then the count.
-use Rattle.std.specs.Prelude.{ℕ, ◌<◌, ◌≡◌, length}
+use Rattle.std.specs.Prelude.{ℕ, ◌<◌, ◌≡◌}
 use Rattle.std.proofs.Math.Bool.{not}
 use mathlib.Core.List.{List}
 use Rattle.std.proofs.Common.{sym, ◌∙◌, arith}

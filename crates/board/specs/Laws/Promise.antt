@@ -1,5 +1,5 @@
 -- A plan that is told and carried out keeps the promise of its change.
-use Prim.Native.Nat.{ℕ, zero, suc, ◌+◌, ◌<◌}
+use Prim.Native.Nat.{ℕ, zero, suc, ◌<◌}
 use Rattle.std.specs.Prelude.{Bool, true, false, ◌≡◌, get_or}
 use mathlib.Core.List.{List, ◌++◌, map}
 use Rattle.std.proofs.Math.Path.{refl, ap, ap₂}

@@ -1,8 +1,7 @@
 -- `make::carry_out` meets its contract. Assumes nothing.
 use mathlib.Core.Path.{refl, sym, ◌∙◌}
 use native.Mathlib.Omega.{arith}
-use borrow.Author.Rules.{rules}
-use borrow.Author.Tests.{eqb-true, eqb-false, not-true, not-false}
+use borrow.Author.Tests.{eqb-true, eqb-false}
 use Rattle.model.proofs.Laws.Bool.{both_ways}
 use Rattle.board.specs.Laws.CarryOut.{carried-out}
 use Rattle.board.proofs.make.carry_out.Goals as goal

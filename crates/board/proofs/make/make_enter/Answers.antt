@@ -1,7 +1,6 @@
 -- `make::make_enter` meets its contract. Assumes nothing.
 use mathlib.Core.Path.{refl}
 use native.Mathlib.Omega.{arith}
-use borrow.Author.Rules.{rules}
 use Rattle.promises.specs.Run.{Bytes}
 use Rattle.memory.specs.Laws.Written.{flags-written}
 use Rattle.board.specs.Laws.Rows.{flags-asked}

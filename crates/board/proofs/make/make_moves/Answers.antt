@@ -1,6 +1,5 @@
 -- `make::make_moves` meets its contract. Assumes nothing.
 use mathlib.Core.Path.{refl, sym, subst}
-use borrow.Author.Rules.{rules}
 use borrow.Author.Tests.{not-true, not-false}
 use Rattle.dominance.specs.declared.Move.{Move}
 use Rattle.model.proofs.Laws.Bool.{both_ways}

@@ -1,7 +1,6 @@
 -- `make::make_recost` meets its contract. Assumes nothing.
 use mathlib.Core.Path.{refl, sym, subst}
 use native.Mathlib.Omega.{arith}
-use borrow.Author.Rules.{rules}
 use Rattle.promises.specs.Run.{Bytes}
 use Rattle.dominance.specs.Move.{as_move}
 use Rattle.memory.specs.declared.head.Head.{Head}

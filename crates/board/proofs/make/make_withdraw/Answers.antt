@@ -1,6 +1,5 @@
 -- `make::make_withdraw` meets its contract. Assumes nothing.
 use native.Mathlib.Omega.{arith}
-use borrow.Author.Rules.{rules}
 use Rattle.promises.specs.Run.{Bytes}
 use Rattle.board.specs.Laws.Rows.{flags-asked}
 use Rattle.board.specs.Laws.Withdraw.{withdraw-line-asked, withdraw-count-asked, withdraw-made}

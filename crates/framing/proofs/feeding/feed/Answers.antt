@@ -1,5 +1,4 @@
 -- `feeding::feed` meets its contract. Assumes nothing.
-use borrow.Author.Rules.{rules}
 use borrow.Author.Tests.{not-true, not-false}
 use native.Mathlib.Omega.{arith}
 use Rattle.framing.specs.Laws.Feeding.{feeds-none, feeds-line}

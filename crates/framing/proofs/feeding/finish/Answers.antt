@@ -1,6 +1,4 @@
 -- `feeding::finish` meets its contract. Assumes nothing.
-use borrow.Author.Rules.{rules}
-use borrow.Author.Tests.{not-true, not-false}
 use Rattle.framing.specs.Laws.Feeding.{finishes-none, finishes-line}
 use Rattle.framing.proofs.feeding.finish.Goals as goal
 

@@ -1,7 +1,6 @@
 -- `said::put_loaded` meets its contract. Assumes nothing.
 use Prim.Native.Nat.{ℕ}
 use mathlib.Core.Path.{ap}
-use borrow.Author.Rules.{rules}
 use Rattle.frame_lines.specs.Laws.Put.{put_as}
 use Rattle.frame_lines.specs.Text.{refused, answer_text}
 use Rattle.framing.specs.Writing.{load_said}

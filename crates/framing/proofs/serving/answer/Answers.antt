@@ -1,5 +1,4 @@
 -- `serving::answer` meets its contract. Assumes nothing.
-use borrow.Author.Rules.{rules}
 use mathlib.Core.Path.{refl, ap}
 use Rattle.planning.specs.Kind.{change_of}
 use Rattle.planning.specs.declared.change.Kind.TheVariants as change

@@ -1,5 +1,4 @@
 -- `serving::change` meets its contract. Assumes nothing.
-use borrow.Author.Rules.{rules}
 use Rattle.framing.specs.Laws.Serving.{change-room, served-change}
 use Rattle.framing.proofs.serving.change.Goals as goal
 

@@ -1,5 +1,4 @@
 -- `serving::listed` meets its contract. Assumes nothing.
-use borrow.Author.Rules.{rules}
 use Rattle.framing.specs.Laws.Serving.{list-room, served-list}
 use Rattle.framing.proofs.serving.listed.Goals as goal
 

@@ -1,5 +1,4 @@
 -- `serving::loaded` meets its contract. Assumes nothing.
-use borrow.Author.Rules.{rules}
 use mathlib.Core.Path.{sym, ◌∙◌}
 use Rattle.framing.specs.Laws.Serving.{served-load, served-refusal}
 use Rattle.framing.proofs.serving.loaded.Goals as goal

@@ -8,7 +8,6 @@ use Rattle.frame_lines.specs.Laws.Texts.{byte_text-length}
 use Rattle.framing.specs.Laws.Rows.{numbers_more, numbers-length, numbers-all}
 use Rattle.frame_lines.specs.Reading.{most_digits}
 use Rattle.frame_lines.specs.Text.{byte_text, word_text}
-use Rattle.frame_lines.specs.Put.{TextPut}
 use Rattle.framing.proofs.told.put_row.Goals as goal
 
 room-byte : (at long : ℕ) → at + most_digits ≤ long → at + 2 ≤ long

@@ -1,14 +1,9 @@
-use Prim.Native.Nat.{ℕ, ◌+◌, ◌-◌, ◌*◌, ◌≤◌, ◌<◌}
+use Prim.Native.Nat.{ℕ, ◌+◌, ◌-◌, ◌<◌}
 use mathlib.Core.List.{flat_map}
-use mathlib.Core.Path.{◌≡◌, refl}
+use mathlib.Core.Path.{refl}
 use native.Mathlib.Omega.{arith}
-use lib.ListN.{take}
 use Rattle.promises.specs.Answers.{result_row}
 use Rattle.rows.specs.Telling.{position}
-use Rattle.frame_lines.specs.Reading.{most_digits}
-use Rattle.frame_lines.specs.Text.{row_text}
-use Rattle.framing.specs.Writing.{telling_rows}
-use Rattle.frame_lines.specs.Put.{TextPut}
 use Rattle.frame_lines.specs.Laws.Put.{put-none, put_both, put_as}
 use Rattle.framing.specs.Laws.Rows.{row_text-most}
 use Rattle.framing.specs.Laws.Told.{position-more, told_more, told-end}

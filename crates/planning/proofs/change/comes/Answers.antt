@@ -1,5 +1,4 @@
 -- `change::comes` meets its contract. Assumes nothing.
-use borrow.Author.Rules.{rules}
 use mathlib.Core.Path.{sym, ap}
 use Rattle.planning.specs.Kind.{comes}
 use Rattle.planning.proofs.change.comes.Goals as goal

@@ -1,5 +1,4 @@
 -- `change::exchange_of` meets its contract. Assumes nothing.
-use borrow.Author.Rules.{rules}
 use Rattle.planning.proofs.change.exchange_of.Goals as goal
 
 pub returns : goal.returns

@@ -1,5 +1,4 @@
 -- `change::is_new` meets its contract. Assumes nothing.
-use borrow.Author.Rules.{rules}
 use mathlib.Core.Path.{sym, ap}
 use Rattle.planning.specs.Kind.{is_new}
 use Rattle.planning.proofs.change.is_new.Goals as goal

@@ -1,5 +1,4 @@
 -- `foresee::coming_place` meets its contract. Assumes nothing.
-use borrow.Author.Rules.{rules}
 use borrow.Author.Tests.{not-true}
 use native.Mathlib.Omega.{arith}
 use Rattle.model.proofs.Laws.Bool.{both_ways}

@@ -1,10 +1,8 @@
 -- `judge::judge` meets its contract: each check by its answer. Assumes nothing.
 use Prim.Native.Nat.{ℕ}
 use mathlib.Core.Bool.{Bool, true, false, not, cond, ◌&&◌, beq}
-use mathlib.Core.Logic.{⊎_elim}
 use mathlib.Core.Path.{◌≡◌, refl, sym, ap, ap₂, ◌∙◌}
 use native.Mathlib.Omega.{arith}
-use borrow.Author.Rules.{rules}
 use borrow.Author.Tests.{le-leb, lt-leb}
 use Rattle.zorder.specs.Refusal.{refusal, cost_past_bad}
 use Rattle.model.specs.Calls.{block_bad}
@@ -53,10 +51,10 @@ unfolding refusal outcome_number cost_past_bad
 returns-then-not-zero_past c =
     let a = c.args in
     let low : (comes a.x.kind && block_bad a.x.block) ≡ false =
-        elim c.else-comes.branch [
-          else-comes-via-then-comes+else-block_bad w ↦ ap₂ ◌&&◌ (sym c.comes.ensures ∙ w.if-comes.true) (sym w.block_bad.ensures ∙ w.if-block_bad.false)
-        | else-comes-via-else-comes w ↦ ap₂ ◌&&◌ (sym c.comes.ensures ∙ w.if-comes.false) refl
-        ] in
+    elim c.else-comes.branch [
+      | else-comes-via-then-comes+else-block_bad w ↦ ap₂ ◌&&◌ (sym c.comes.ensures ∙ w.if-comes.true) (sym w.block_bad.ensures ∙ w.if-block_bad.false)
+      | else-comes-via-else-comes w ↦ ap₂ ◌&&◌ (sym c.comes.ensures ∙ w.if-comes.false) refl
+    ] in
     judges-by a.h a.x a.on false false true _ (lt-leb a.h.size a.x.number (omega (arith, c.if-h-x.false)))
     low
     (ap₂ ◌&&◌ (sym c.comes-2.ensures ∙ c.if-comes-2.true) (ap not (sym c.zero_past.ensures ∙ c.if-not-zero_past.true)))
@@ -67,15 +65,15 @@ unfolding refusal outcome_number cost_past_bad
 returns-then-is_new-on c =
     let a = c.args in
     let low : (comes a.x.kind && block_bad a.x.block) ≡ false =
-        elim c.else-comes.branch [
-          else-comes-via-then-comes+else-block_bad w ↦ ap₂ ◌&&◌ (sym c.comes.ensures ∙ w.if-comes.true) (sym w.block_bad.ensures ∙ w.if-block_bad.false)
-        | else-comes-via-else-comes w ↦ ap₂ ◌&&◌ (sym c.comes.ensures ∙ w.if-comes.false) refl
-        ] in
+    elim c.else-comes.branch [
+      | else-comes-via-then-comes+else-block_bad w ↦ ap₂ ◌&&◌ (sym c.comes.ensures ∙ w.if-comes.true) (sym w.block_bad.ensures ∙ w.if-block_bad.false)
+      | else-comes-via-else-comes w ↦ ap₂ ◌&&◌ (sym c.comes.ensures ∙ w.if-comes.false) refl
+    ] in
     let passed : (comes a.x.kind && cost_past_bad a.h.dimension a.x.costs) ≡ false =
-        elim c.else-comes-2.branch [
-          else-comes-2-via-then-comes-2+else-not-zero_past w ↦ ap₂ ◌&&◌ (sym c.comes-2.ensures ∙ w.if-comes-2.true) (ap not (sym w.zero_past.ensures ∙ w.if-not-zero_past.false))
-        | else-comes-2-via-else-comes-2 w ↦ ap₂ ◌&&◌ (sym c.comes-2.ensures ∙ w.if-comes-2.false) refl
-        ] in
+    elim c.else-comes-2.branch [
+      | else-comes-2-via-then-comes-2+else-not-zero_past w ↦ ap₂ ◌&&◌ (sym c.comes-2.ensures ∙ w.if-comes-2.true) (ap not (sym w.zero_past.ensures ∙ w.if-not-zero_past.false))
+      | else-comes-2-via-else-comes-2 w ↦ ap₂ ◌&&◌ (sym c.comes-2.ensures ∙ w.if-comes-2.false) refl
+    ] in
     judges-by a.h a.x a.on false false false _ (lt-leb a.h.size a.x.number (omega (arith, c.if-h-x.false))) low passed (sym c.is_new.ensures)
     (passes c.is_new.result a.on c.if-is_new-on.true)
 
@@ -84,15 +82,15 @@ unfolding refusal outcome_number cost_past_bad
 returns-then-on c =
     let a = c.args in
     let low : (comes a.x.kind && block_bad a.x.block) ≡ false =
-        elim c.else-comes.branch [
-          else-comes-via-then-comes+else-block_bad w ↦ ap₂ ◌&&◌ (sym c.comes.ensures ∙ w.if-comes.true) (sym w.block_bad.ensures ∙ w.if-block_bad.false)
-        | else-comes-via-else-comes w ↦ ap₂ ◌&&◌ (sym c.comes.ensures ∙ w.if-comes.false) refl
-        ] in
+    elim c.else-comes.branch [
+      | else-comes-via-then-comes+else-block_bad w ↦ ap₂ ◌&&◌ (sym c.comes.ensures ∙ w.if-comes.true) (sym w.block_bad.ensures ∙ w.if-block_bad.false)
+      | else-comes-via-else-comes w ↦ ap₂ ◌&&◌ (sym c.comes.ensures ∙ w.if-comes.false) refl
+    ] in
     let passed : (comes a.x.kind && cost_past_bad a.h.dimension a.x.costs) ≡ false =
-        elim c.else-comes-2.branch [
-          else-comes-2-via-then-comes-2+else-not-zero_past w ↦ ap₂ ◌&&◌ (sym c.comes-2.ensures ∙ w.if-comes-2.true) (ap not (sym w.zero_past.ensures ∙ w.if-not-zero_past.false))
-        | else-comes-2-via-else-comes-2 w ↦ ap₂ ◌&&◌ (sym c.comes-2.ensures ∙ w.if-comes-2.false) refl
-        ] in
+    elim c.else-comes-2.branch [
+      | else-comes-2-via-then-comes-2+else-not-zero_past w ↦ ap₂ ◌&&◌ (sym c.comes-2.ensures ∙ w.if-comes-2.true) (ap not (sym w.zero_past.ensures ∙ w.if-not-zero_past.false))
+      | else-comes-2-via-else-comes-2 w ↦ ap₂ ◌&&◌ (sym c.comes-2.ensures ∙ w.if-comes-2.false) refl
+    ] in
     judges-by a.h a.x a.on false false false _ (lt-leb a.h.size a.x.number (omega (arith, c.if-h-x.false))) low passed (sym c.is_new.ensures)
     (twice c.is_new.result a.on c.if-is_new-on.false c.if-on.true)
 
@@ -101,14 +99,14 @@ unfolding refusal outcome_number cost_past_bad
 returns-else-on c =
     let a = c.args in
     let low : (comes a.x.kind && block_bad a.x.block) ≡ false =
-        elim c.else-comes.branch [
-          else-comes-via-then-comes+else-block_bad w ↦ ap₂ ◌&&◌ (sym c.comes.ensures ∙ w.if-comes.true) (sym w.block_bad.ensures ∙ w.if-block_bad.false)
-        | else-comes-via-else-comes w ↦ ap₂ ◌&&◌ (sym c.comes.ensures ∙ w.if-comes.false) refl
-        ] in
+    elim c.else-comes.branch [
+      | else-comes-via-then-comes+else-block_bad w ↦ ap₂ ◌&&◌ (sym c.comes.ensures ∙ w.if-comes.true) (sym w.block_bad.ensures ∙ w.if-block_bad.false)
+      | else-comes-via-else-comes w ↦ ap₂ ◌&&◌ (sym c.comes.ensures ∙ w.if-comes.false) refl
+    ] in
     let passed : (comes a.x.kind && cost_past_bad a.h.dimension a.x.costs) ≡ false =
-        elim c.else-comes-2.branch [
-          else-comes-2-via-then-comes-2+else-not-zero_past w ↦ ap₂ ◌&&◌ (sym c.comes-2.ensures ∙ w.if-comes-2.true) (ap not (sym w.zero_past.ensures ∙ w.if-not-zero_past.false))
-        | else-comes-2-via-else-comes-2 w ↦ ap₂ ◌&&◌ (sym c.comes-2.ensures ∙ w.if-comes-2.false) refl
-        ] in
+    elim c.else-comes-2.branch [
+      | else-comes-2-via-then-comes-2+else-not-zero_past w ↦ ap₂ ◌&&◌ (sym c.comes-2.ensures ∙ w.if-comes-2.true) (ap not (sym w.zero_past.ensures ∙ w.if-not-zero_past.false))
+      | else-comes-2-via-else-comes-2 w ↦ ap₂ ◌&&◌ (sym c.comes-2.ensures ∙ w.if-comes-2.false) refl
+    ] in
     judges-by a.h a.x a.on false false false _ (lt-leb a.h.size a.x.number (omega (arith, c.if-h-x.false))) low passed (sym c.is_new.ensures)
     (absent c.is_new.result a.on c.if-is_new-on.false c.if-on.false)

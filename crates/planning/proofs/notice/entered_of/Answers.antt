@@ -1,5 +1,4 @@
 -- `notice::entered_of` meets its contract. Assumes nothing.
-use borrow.Author.Rules.{rules}
 use Rattle.search.specs.declared.search.Among.TheVariants.{Hidden}
 use Rattle.planning.proofs.notice.entered_of.Goals as goal
 

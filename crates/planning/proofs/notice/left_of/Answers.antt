@@ -1,5 +1,4 @@
 -- `notice::left_of` meets its contract. Assumes nothing.
-use borrow.Author.Rules.{rules}
 use Rattle.search.specs.declared.search.Among.TheVariants.{Listed}
 use Rattle.planning.proofs.notice.left_of.Goals as goal
 

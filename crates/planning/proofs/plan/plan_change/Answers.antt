@@ -1,5 +1,4 @@
 -- `plan::plan_change` meets its contract. Assumes nothing.
-use borrow.Author.Rules.{rules}
 use Rattle.soundness.specs.Laws.Held.{sound-held, unsound-held, only-unsound}
 use Rattle.planning.proofs.Laws.Plan.{plan-unsound}
 use Rattle.planning.proofs.plan.plan_change.Goals as goal

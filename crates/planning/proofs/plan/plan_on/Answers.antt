@@ -1,10 +1,8 @@
 -- `plan::plan_on` meets its contract. Assumes nothing.
 use mathlib.Core.Bool.{true, false, cond}
-use mathlib.Core.List.{map-id}
 use mathlib.Core.Path.{◌≡◌, sym, ap, ◌∙◌, subst}
 use native.Mathlib.Omega.{arith}
-use borrow.Author.Rules.{rules}
-use borrow.Author.Tests.{eqb-true, eqb-false, not-true, not-false}
+use borrow.Author.Tests.{eqb-true, eqb-false}
 use Rattle.zorder.specs.Address.{row_costs}
 use Rattle.zorder.proofs.Laws.Address.{Costs}
 use Rattle.zorder.proofs.Row.{row-costs}
@@ -13,10 +11,7 @@ use Rattle.promises.specs.Run.{Bytes}
 use Rattle.memory.specs.Laws.Held.{held-dimension, held-room, held-few, held-readable, held-ordered}
 use Rattle.upkeep.specs.Change.{ChangeAsked, ComingPlace, Upkept}
 use Rattle.upkeep.specs.declared.exchange.Exchange.{Exchange}
-use Rattle.model.specs.Calls.{change_refusal}
-use Rattle.promises.specs.Layout.{board_in}
-use Rattle.planning.specs.Kind.{call_of, exchange_of}
-use Rattle.planning.specs.Plan.{alike, ReadyRows}
+use Rattle.planning.specs.Plan.{alike}
 use Rattle.planning.proofs.Laws.Judge.{judged}
 use Rattle.planning.proofs.Laws.Notice.{upkeep-counted}
 use Rattle.planning.proofs.Laws.Plan.{ready, plan-refused, plan-idle, plan-full}

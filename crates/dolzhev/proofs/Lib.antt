@@ -1,3 +1,0 @@
--- What the walks share.
-pub mod Queried
-pub mod Changed
