@@ -15,7 +15,7 @@ mod change;
 mod dice;
 mod expect;
 mod judge;
-mod nodes;
+mod node_counts;
 mod plain;
 mod rules;
 mod runs;

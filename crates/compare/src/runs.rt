@@ -4,7 +4,7 @@
 use crate::ask::ask;
 use crate::expect::{Call, expect, foreseen};
 use crate::judge::{alike, judged};
-use crate::nodes::opened;
+use crate::node_counts::opened;
 use crate::plain::Plain;
 use crate::table::Table;
 use crate::tally::{Tally, add, count, count_preview};
