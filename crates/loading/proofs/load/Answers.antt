@@ -1,19 +1,14 @@
 -- `load` meets its contract: its checks are those of the definition, in their order. Assumes nothing.
 use Prim.Native.Nat.{ℕ, ◌≤◌}
-use mathlib.Core.List.{map}
-use mathlib.Core.Logic.{⊎_elim}
 use mathlib.Core.Path.{◌≡◌, refl, sym, ◌∙◌}
 use native.Mathlib.Omega.{arith}
-use borrow.Author.Rules.{rules}
-use lib.ListN.{length}
 use Rattle.zorder.specs.Refusal.{cost_count_bad}
 use Rattle.model.specs.Calls.{size_bad, memory_need}
 use Rattle.model.proofs.Laws.Bool.{or_left, or_right}
 use Rattle.model.proofs.Laws.Loading.{size-most}
 use Rattle.model.proofs.Laws.Order.{dimension-most}
-use Rattle.promises.specs.Answers.{input_row, outcome_number}
+use Rattle.promises.specs.Answers.{outcome_number}
 use Rattle.promises.specs.declared.Outcome.TheVariants.{NumberTooLarge, BlockTooLarge, NumberTwice, BadArgument}
-use Rattle.loading.specs.File.{Acceptable}
 use Rattle.loading.proofs.Answering.{InRange, by-verdict, out_of_range, short-memory, row-bad, acceptable, load-accepted}
 use Rattle.loading.proofs.load.Goals.{then-size_bad-via-else-size_bad+then-cost_count_bad, then-size_bad-via-then-size_bad}
 use Rattle.loading.proofs.load.Goals as goal

@@ -1,9 +1,9 @@
-use Prim.Native.Nat.{ℕ, ◌-◌, ◌≤◌}
+use Prim.Native.Nat.{ℕ, ◌-◌}
 use mathlib.Core.List.{[], map}
 use mathlib.Core.Path.{◌≡◌, sym, subst}
 use native.Mathlib.Nat.{le_refl}
 use native.Mathlib.Omega.{arith}
-use lib.ListN.{length, drop}
+use lib.ListN.{drop}
 use Rattle.promises.specs.Answers.{input_row}
 use Rattle.memory.specs.Laws.Frames.{room-over}
 use Rattle.loading.specs.Blocks.{BlocksGiven}

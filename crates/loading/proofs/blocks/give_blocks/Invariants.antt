@@ -1,15 +1,10 @@
 -- `blocks::give_blocks` meets its contract. The loop's invariant is the contract of the rows from the place `left` on. Assumes
 -- nothing.
-use Prim.Native.Nat.{ℕ, ◌-◌, ◌≤◌}
-use mathlib.Core.List.{[], map}
-use mathlib.Core.Path.{◌≡◌, sym, subst}
-use native.Mathlib.Nat.{le_refl}
-use native.Mathlib.Omega.{arith}
+use Prim.Native.Nat.{◌≤◌}
+use mathlib.Core.List.{map}
 use lib.ListN.{length, drop}
 use Rattle.promises.specs.Answers.{input_row}
-use Rattle.memory.specs.Laws.Frames.{room-over}
 use Rattle.loading.specs.Blocks.{BlocksGiven}
-use Rattle.loading.specs.Laws.Blocks.{lent_none, lent-storable, lent-more}
 use Rattle.loading.proofs.blocks.give_blocks.Given as goal
 
 abbrev pub invariant-loop-left : goal.invariant-loop-left

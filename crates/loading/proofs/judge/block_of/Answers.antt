@@ -1,6 +1,5 @@
 -- `judge::block_of` meets its contract. Assumes nothing.
 use mathlib.Core.Path.{refl}
-use borrow.Author.Rules.{rules}
 use Rattle.promises.specs.Answers.{input_row}
 use Rattle.loading.proofs.judge.block_of.Goals as goal
 

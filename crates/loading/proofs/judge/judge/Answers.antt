@@ -1,16 +1,15 @@
-use Rattle.zorder.specs.Address.{row_costs}
-use Prim.Native.Nat.{ℕ, ◌-◌, ◌≤◌, ◌+◌}
+use Prim.Native.Nat.{ℕ}
 use mathlib.Core.Bool.{true, false}
 use mathlib.Core.List.{[]}
-use mathlib.Core.Path.{◌≡◌, refl, sym, ap, ◌∙◌}
+use mathlib.Core.Path.{refl, sym, ap, ◌∙◌}
 use native.Mathlib.Nat.{add_comm}
 use native.Mathlib.Omega.{arith}
 use borrow.Author.Tests.{eq-eqb, ne_eqb, le-leb, lt-leb}
-use lib.ListN.{length, drop, get_or}
+use lib.ListN.{drop, get_or}
 use lib.Seq.{drop-drop}
 use Rattle.zorder.specs.Refusal.{all_zero}
 use Rattle.zorder.proofs.Laws.Refusal.{all-zero-step, all-zero-end}
-use Rattle.loading.proofs.Judging.{Passed, none_passed, too_large, block-bad, past-bad, number-twice, row-passed, all-passed}
+use Rattle.loading.proofs.Judging.{none_passed, too_large, block-bad, past-bad, number-twice, row-passed, all-passed}
 use Rattle.loading.proofs.judge.judge.Goals as goal
 
 pub empty-seen-requires : goal.empty-seen-requires

@@ -1,18 +1,11 @@
 -- `judge::judge` meets its contract. The outer loop's invariant: the rows up to the place have passed. The inner loop's: the
 -- costs left to test decide whether all costs past d are zero. Assumes nothing.
 use Rattle.zorder.specs.Address.{row_costs}
-use Prim.Native.Nat.{ℕ, ◌-◌, ◌≤◌, ◌+◌}
-use mathlib.Core.Bool.{true, false}
-use mathlib.Core.List.{[]}
-use mathlib.Core.Path.{◌≡◌, refl, sym, ap, ◌∙◌}
-use native.Mathlib.Nat.{add_comm}
-use native.Mathlib.Omega.{arith}
-use borrow.Author.Tests.{eq-eqb, ne_eqb, le-leb, lt-leb}
-use lib.ListN.{length, drop, get_or}
-use lib.Seq.{drop-drop}
+use Prim.Native.Nat.{◌-◌, ◌≤◌, ◌+◌}
+use mathlib.Core.Path.{◌≡◌}
+use lib.ListN.{length, drop}
 use Rattle.zorder.specs.Refusal.{all_zero}
-use Rattle.zorder.proofs.Laws.Refusal.{all-zero-step, all-zero-end}
-use Rattle.loading.proofs.Judging.{Passed, none_passed, too_large, block-bad, past-bad, number-twice, row-passed, all-passed}
+use Rattle.loading.proofs.Judging.{Passed}
 use Rattle.loading.proofs.judge.judge.Given as goal
 
 abbrev pub invariant-loop-j : goal.invariant-loop-j

@@ -1,10 +1,9 @@
-use Prim.Native.Nat.{◌-◌}
 use mathlib.Core.Bool.{Bool, not, ◌&&◌}
 use mathlib.Core.Path.{sym, ap}
 use native.Mathlib.Omega.{arith}
 use lib.Dec.{eqb}
 use Rattle.promises.specs.Run.{Bytes}
-use Rattle.nodes.specs.Laws.Corners.{Sought, sought-first, sought-next, sought-found, sought-none}
+use Rattle.nodes.specs.Laws.Corners.{sought-first, sought-next, sought-found, sought-none}
 use Rattle.nodes.proofs.nodes.corner_dominated.Goals as goal
 
 pub next_within-j-requires : goal.next_within-j-requires

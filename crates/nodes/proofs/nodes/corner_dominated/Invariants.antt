@@ -1,12 +1,7 @@
 -- `nodes::corner_dominated` meets its contract. The loop's invariant: no listed move passed but the going one dominates the
 -- corner, and the place found fits. Assumes nothing.
 use Prim.Native.Nat.{◌-◌}
-use mathlib.Core.Bool.{Bool, not, ◌&&◌}
-use mathlib.Core.Path.{sym, ap}
-use native.Mathlib.Omega.{arith}
-use lib.Dec.{eqb}
-use Rattle.promises.specs.Run.{Bytes}
-use Rattle.nodes.specs.Laws.Corners.{Sought, sought-first, sought-next, sought-found, sought-none}
+use Rattle.nodes.specs.Laws.Corners.{Sought}
 use Rattle.nodes.proofs.nodes.corner_dominated.Given as goal
 
 abbrev pub invariant-loop-j : goal.invariant-loop-j

@@ -1,10 +1,8 @@
-use Prim.Native.Nat.{◌+◌, ◌*◌, ◌-◌}
 use native.Mathlib.Omega.{arith}
-use borrow.Author.Tests.{not-true, not-false}
 use Rattle.promises.specs.Run.{Bytes}
 use Rattle.memory.specs.Laws.Held.{held-readable}
 use Rattle.search.specs.Laws.Search.{corners-fewer}
-use Rattle.nodes.specs.Laws.Search.{Searchable, sound-searchable, Searching, search-start, search-few, search-on, search-down, search-leaf, search-end}
+use Rattle.nodes.specs.Laws.Search.{sound-searchable, search-start, search-few, search-on, search-down, search-leaf, search-end}
 use Rattle.nodes.proofs.nodes.next_leaf.Goals as goal
 
 pub level_at-l-requires : goal.level_at-l-requires

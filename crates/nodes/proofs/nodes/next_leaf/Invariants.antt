@@ -2,12 +2,7 @@
 -- present place and level on are all, and the places passed lie under nodes that are not opened. The measure is the rest of the
 -- places, then the level. Assumes nothing.
 use Prim.Native.Nat.{◌+◌, ◌*◌, ◌-◌}
-use native.Mathlib.Omega.{arith}
-use borrow.Author.Tests.{not-true, not-false}
-use Rattle.promises.specs.Run.{Bytes}
-use Rattle.memory.specs.Laws.Held.{held-readable}
-use Rattle.search.specs.Laws.Search.{corners-fewer}
-use Rattle.nodes.specs.Laws.Search.{Searchable, sound-searchable, Searching, search-start, search-few, search-on, search-down, search-leaf, search-end}
+use Rattle.nodes.specs.Laws.Search.{Searchable, Searching}
 use Rattle.nodes.proofs.nodes.next_leaf.Given as goal
 
 abbrev pub invariant-loop-i : goal.invariant-loop-i

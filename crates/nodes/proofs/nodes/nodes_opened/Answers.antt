@@ -1,8 +1,7 @@
-use Prim.Native.Nat.{◌-◌}
 use native.Mathlib.Omega.{arith}
 use Rattle.promises.specs.Run.{Bytes}
 use Rattle.memory.specs.Laws.Held.{held-readable}
-use Rattle.nodes.specs.Laws.Search.{sound-searchable, Counting, counting-none, counting-few, counting-leaf, list-opened}
+use Rattle.nodes.specs.Laws.Search.{sound-searchable, counting-none, counting-few, counting-leaf, list-opened}
 use Rattle.nodes.proofs.nodes.nodes_opened.Goals as goal
 
 pub loop-i-init : goal.loop-i-init

@@ -1,10 +1,5 @@
-use Prim.Native.Nat.{ℕ, ◌+◌, ◌-◌, ◌≤◌}
-use mathlib.Core.Logic.{⊎_elim}
-use mathlib.Core.Path.{◌≡◌}
 use native.Mathlib.Nat.{zero-add}
 use native.Mathlib.Omega.{arith}
-use borrow.Author.Rules.{rules}
-use Rattle.line.specs.Places.{entries_among}
 use Rattle.promises.specs.Layout.{heights_from}
 use Rattle.memory.specs.Laws.Lines.{length-heights_from, get_or-heights_from}
 use Rattle.nodes.specs.Laws.Steps.{entry_here, entry-none, entries-end}

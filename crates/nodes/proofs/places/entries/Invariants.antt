@@ -1,15 +1,9 @@
 -- `places::entries` meets its contract. The loop's invariant: those counted and those from the present place on are all.
 -- Assumes nothing.
 use Prim.Native.Nat.{ℕ, ◌+◌, ◌-◌, ◌≤◌}
-use mathlib.Core.Logic.{⊎_elim}
 use mathlib.Core.Path.{◌≡◌}
-use native.Mathlib.Nat.{zero-add}
-use native.Mathlib.Omega.{arith}
-use borrow.Author.Rules.{rules}
 use Rattle.line.specs.Places.{entries_among}
 use Rattle.promises.specs.Layout.{heights_from}
-use Rattle.memory.specs.Laws.Lines.{length-heights_from, get_or-heights_from}
-use Rattle.nodes.specs.Laws.Steps.{entry_here, entry-none, entries-end}
 use Rattle.nodes.proofs.places.entries.Given as goal
 
 abbrev pub invariant-loop-i : goal.invariant-loop-i

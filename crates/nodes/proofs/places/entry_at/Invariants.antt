@@ -1,10 +1,8 @@
 -- `places::entry_at` meets its contract. The loop's invariant: q is where entry k starts. Assumes nothing.
-use Prim.Native.Nat.{ℕ, ◌-◌, ◌≤◌}
-use mathlib.Core.Path.{◌≡◌, refl, ap, ◌∙◌}
-use native.Mathlib.Omega.{arith}
+use Prim.Native.Nat.{◌-◌, ◌≤◌}
+use mathlib.Core.Path.{◌≡◌}
 use Rattle.line.specs.Places.{entry_among}
 use Rattle.promises.specs.Layout.{heights_from}
-use Rattle.nodes.specs.Laws.Steps.{entry-turn}
 use Rattle.nodes.proofs.places.entry_at.Given as goal
 
 abbrev pub invariant-loop-k : goal.invariant-loop-k

@@ -1,9 +1,5 @@
-use Prim.Native.Nat.{◌+◌, ◌-◌, ◌≤◌, ◌<◌}
-use mathlib.Core.Path.{◌≡◌, sym, ◌∙◌}
+use mathlib.Core.Path.{sym, ◌∙◌}
 use native.Mathlib.Omega.{arith}
-use borrow.Author.Rules.{rules}
-use lib.ListN.{drop}
-use Rattle.line.specs.Places.{lower_among, end_among}
 use Rattle.promises.specs.Layout.{heights_from}
 use Rattle.memory.specs.Laws.Lines.{length-heights_from, get_or-heights_from}
 use Rattle.nodes.specs.Laws.Steps.{end-first, end-here, end_later, end-last}

@@ -1,9 +1,6 @@
-use Prim.Native.Nat.{ℕ, ◌≤◌, ◌<◌}
-use mathlib.Core.Path.{◌≡◌, refl, ◌∙◌}
+use mathlib.Core.Path.{refl, ◌∙◌}
 use native.Mathlib.Nat.{le_refl}
 use native.Mathlib.Omega.{arith}
-use borrow.Author.Rules.{rules}
-use Rattle.line.specs.Places.{start_among}
 use Rattle.promises.specs.Layout.{heights_from}
 use Rattle.memory.specs.Laws.Lines.{get_or-heights_from}
 use Rattle.nodes.specs.Laws.Steps.{start-here, start-earlier, start_first}

@@ -1,14 +1,9 @@
 -- `places::node_start` meets its contract. The loop's invariant: the node that holds the present place starts where the whole
 -- does. Assumes nothing.
 use Prim.Native.Nat.{ℕ, ◌≤◌, ◌<◌}
-use mathlib.Core.Path.{◌≡◌, refl, ◌∙◌}
-use native.Mathlib.Nat.{le_refl}
-use native.Mathlib.Omega.{arith}
-use borrow.Author.Rules.{rules}
+use mathlib.Core.Path.{◌≡◌}
 use Rattle.line.specs.Places.{start_among}
 use Rattle.promises.specs.Layout.{heights_from}
-use Rattle.memory.specs.Laws.Lines.{get_or-heights_from}
-use Rattle.nodes.specs.Laws.Steps.{start-here, start-earlier, start_first}
 use Rattle.nodes.proofs.places.node_start.Given as goal
 
 abbrev pub invariant-loop-s : goal.invariant-loop-s

@@ -1,7 +1,6 @@
 -- `places::side_between` meets its contract: the costs of both rows are those of the line. Assumes nothing.
 use mathlib.Core.Path.{ap₂, ◌∙◌}
 use native.Mathlib.Omega.{arith}
-use borrow.Author.Rules.{rules}
 use Rattle.zorder.specs.Between.{side_of}
 use Rattle.zorder.proofs.Laws.Between.{side-small}
 use Rattle.line.specs.Places.{side_at}

@@ -1,4 +1,4 @@
-use Rattle.std.proofs.Common.{ℕ, suc, ◌≡◌, ◌+◌, ◌-◌, ◌≤◌, ◌<◌, List, map, refl, sym, ap, subst, ◌∙◌, arith}
+use Rattle.std.proofs.Common.{ℕ, suc, ◌≡◌, ◌+◌, ◌-◌, List, map, sym, ap, subst, ◌∙◌, arith}
 use mathlib.Core.Path.{ap₂}
 use lib.ListN.{set}
 use Rattle.rows.specs.Rows.{row_numbers}

@@ -1,5 +1,5 @@
 -- The rows hold what the first rows told put into them, and the place is where the next one is looked for.
-use Rattle.std.proofs.Common.{◌≡◌, ◌+◌, ◌-◌, ◌≤◌, map, length}
+use Rattle.std.proofs.Common.{◌≡◌, ◌-◌, ◌≤◌, map}
 use Rattle.rows.specs.Rows.{row_numbers}
 use Rattle.rows.specs.Telling.{position, filled_rows}
 use Rattle.rows.proofs.filling.fill.Given as goal

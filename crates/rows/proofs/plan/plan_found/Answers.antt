@@ -1,6 +1,5 @@
 -- `plan::plan_found` meets its contract. Assumes nothing.
 use mathlib.Core.Path.{sym, subst}
-use borrow.Author.Rules.{rules}
 use Rattle.rows.specs.Planned.{PlansFound}
 use Rattle.rows.proofs.Planned.{found-plans}
 use Rattle.rows.specs.declared.telling.Telling.{Telling}

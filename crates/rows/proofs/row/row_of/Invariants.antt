@@ -1,13 +1,10 @@
 -- `row::row_of` meets its contract. The loop's invariant: the first j costs are copied. Assumes nothing.
-use Prim.Native.Nat.{ℕ, suc, ◌+◌, ◌-◌, ◌≤◌}
-use mathlib.Core.List.{List, ◌∷◌, append-nil}
-use mathlib.Core.Path.{◌≡◌, sym, ap, ◌∙◌}
-use native.Mathlib.Omega.{arith}
-use borrow.Author.Rules.{rules}
-use lib.ListN.{length, get_or, set, length-map}
-use Rattle.zorder.specs.Address.{row_costs, padded}
-use Rattle.zorder.proofs.Fill.{filled, filled_none, filled_more, filled-all}
-use Rattle.rows.specs.Rows.{move_numbers}
+use Prim.Native.Nat.{◌-◌, ◌≤◌}
+use mathlib.Core.List.{◌∷◌}
+use mathlib.Core.Path.{◌≡◌}
+use lib.ListN.{get_or}
+use Rattle.zorder.specs.Address.{row_costs}
+use Rattle.zorder.proofs.Fill.{filled}
 use Rattle.rows.proofs.row.row_of.Given as goal
 
 abbrev pub invariant-loop-j : goal.invariant-loop-j

@@ -3,8 +3,6 @@
 use mathlib.Core.Bool.{Bool, ◌&&◌}
 use mathlib.Core.Path.{◌≡◌, refl, sym, ap, ◌∙◌}
 use native.Mathlib.Omega.{arith}
-use borrow.Author.Rules.{rules}
-use borrow.Author.Tests.{not-true, not-false}
 use Rattle.search.specs.Search.{looks, looks_at}
 use Rattle.numbers.specs.Set.{in_set}
 use Prim.Native.Nat.{ℕ, ◌≤◌, ◌<◌}

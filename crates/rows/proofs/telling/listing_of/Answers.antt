@@ -1,5 +1,4 @@
 -- `telling::listing_of` meets its contract. Assumes nothing.
-use borrow.Author.Rules.{rules}
 use Rattle.search.specs.declared.search.Among.TheVariants.{All}
 use Rattle.rows.proofs.telling.listing_of.Goals as goal
 

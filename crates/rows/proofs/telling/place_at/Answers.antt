@@ -1,7 +1,6 @@
 -- `telling::place_at` meets its contract. Assumes nothing.
 use mathlib.Core.Path.{sym}
 use native.Mathlib.Omega.{arith}
-use borrow.Author.Rules.{rules}
 use Rattle.rows.specs.Laws.Telling.{place-before, place_after}
 use Rattle.rows.proofs.telling.place_at.Goals as goal
 

@@ -3,7 +3,6 @@ use Prim.Native.Nat.{◌<◌}
 use mathlib.Core.List.{[]}
 use mathlib.Core.Path.{sym, ap, ◌∙◌}
 use native.Mathlib.Omega.{arith}
-use borrow.Author.Rules.{rules}
 use Rattle.rows.specs.Rows.{move_numbers}
 use Rattle.rows.specs.Laws.Telling.{place-below, coming-row, place-row}
 use Rattle.rows.proofs.telling.row_at.Goals as goal

@@ -1,8 +1,7 @@
-use Prim.Native.Nat.{◌-◌}
-use mathlib.Core.Path.{◌≡◌, refl, sym, ap, ◌∙◌}
+use mathlib.Core.Path.{refl, sym, ap, ◌∙◌}
 use native.Mathlib.Numerals.{add-one}
 use native.Mathlib.Omega.{arith}
-use Rattle.rows.specs.Telling.{positions, told_from}
+use Rattle.rows.specs.Telling.{told_from}
 use Rattle.rows.specs.Laws.Telling.{from_told, from-other, from_end, next-told, next-none}
 use Rattle.rows.proofs.telling.told_next.Goals as goal
 

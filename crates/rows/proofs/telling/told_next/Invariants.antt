@@ -1,11 +1,8 @@
 -- `telling::told_next` meets its contract. The loop's invariant: the told positions from the present one on are those from
 -- the first on. Assumes nothing.
 use Prim.Native.Nat.{◌-◌}
-use mathlib.Core.Path.{◌≡◌, refl, sym, ap, ◌∙◌}
-use native.Mathlib.Numerals.{add-one}
-use native.Mathlib.Omega.{arith}
+use mathlib.Core.Path.{◌≡◌}
 use Rattle.rows.specs.Telling.{positions, told_from}
-use Rattle.rows.specs.Laws.Telling.{from_told, from-other, from_end, next-told, next-none}
 use Rattle.rows.proofs.telling.told_next.Given as goal
 
 abbrev pub invariant-loop-j : goal.invariant-loop-j

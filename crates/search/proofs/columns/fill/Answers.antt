@@ -1,6 +1,4 @@
-use Prim.Native.Nat.{ℕ, ◌-◌, ◌≤◌, ◌<◌}
 use native.Mathlib.Omega.{arith}
-use Rattle.search.specs.Columns.{Column}
 use Rattle.search.specs.Laws.Columns.{filled-column}
 use Rattle.search.proofs.columns.fill.Goals as goal
 

@@ -1,8 +1,6 @@
 -- `columns::fill` meets its contract. The loop's invariant: the columns passed are the row. Assumes nothing.
 use Prim.Native.Nat.{ℕ, ◌-◌, ◌≤◌, ◌<◌}
-use native.Mathlib.Omega.{arith}
 use Rattle.search.specs.Columns.{Column}
-use Rattle.search.specs.Laws.Columns.{filled-column}
 use Rattle.search.proofs.columns.fill.Given as goal
 
 abbrev pub invariant-loop-at : goal.invariant-loop-at

@@ -1,12 +1,8 @@
 -- `columns::fits_column` meets its contract. The loop's invariant: no cost passed is greater exactly if the or is 0. Assumes nothing.
-use Prim.Native.Nat.{ℕ, ◌-◌, ◌≤◌}
-use mathlib.Core.Bool.{Bool, cond}
-use mathlib.Core.Path.{◌≡◌, ap, ◌∙◌}
-use native.Mathlib.Omega.{arith}
-use lib.Bits.{bit_or}
+use Prim.Native.Nat.{◌-◌, ◌≤◌}
+use mathlib.Core.Path.{◌≡◌}
 use lib.Dec.{eqb}
 use Rattle.search.specs.Columns.{column_fits}
-use Rattle.search.specs.Laws.Columns.{asked-none, asked-more}
 use Rattle.search.proofs.columns.fits_column.Given as goal
 
 abbrev pub invariant-loop-k : goal.invariant-loop-k

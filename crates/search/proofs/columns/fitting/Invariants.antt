@@ -1,10 +1,7 @@
 -- `columns::fitting` meets its contract. The loop's invariant: the columns passed are counted. Assumes nothing.
 use Prim.Native.Nat.{◌-◌, ◌≤◌}
-use mathlib.Core.Path.{◌≡◌, sym, ap, ◌∙◌}
-use native.Mathlib.Omega.{arith}
-use Rattle.model.proofs.Laws.Basics.{at_most_one}
-use Rattle.search.specs.Columns.{count_to, column_fits, fitting}
-use Rattle.search.specs.Laws.Counts.{count_none, count-more, count_most}
+use mathlib.Core.Path.{◌≡◌}
+use Rattle.search.specs.Columns.{count_to, column_fits}
 use Rattle.search.proofs.columns.fitting.Given as goal
 
 abbrev pub invariant-loop-j : goal.invariant-loop-j

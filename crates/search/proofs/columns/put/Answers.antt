@@ -1,7 +1,5 @@
-use Prim.Native.Nat.{◌-◌, ◌≤◌}
 use native.Mathlib.Omega.{arith}
-use Rattle.zorder.specs.Address.{row_costs}
-use Rattle.search.specs.Laws.Columns.{PutTo, put-none, put-more, put_all}
+use Rattle.search.specs.Laws.Columns.{put-none, put-more, put_all}
 use Rattle.search.proofs.columns.put.Goals as goal
 
 pub loop-k-init : goal.loop-k-init

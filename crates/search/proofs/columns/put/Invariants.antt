@@ -1,8 +1,7 @@
 -- `columns::put` meets its contract. The loop's invariant: the costs passed stand in the column. Assumes nothing.
 use Prim.Native.Nat.{◌-◌, ◌≤◌}
-use native.Mathlib.Omega.{arith}
 use Rattle.zorder.specs.Address.{row_costs}
-use Rattle.search.specs.Laws.Columns.{PutTo, put-none, put-more, put_all}
+use Rattle.search.specs.Laws.Columns.{PutTo}
 use Rattle.search.proofs.columns.put.Given as goal
 
 abbrev pub invariant-loop-k : goal.invariant-loop-k

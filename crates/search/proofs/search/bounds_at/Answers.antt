@@ -2,7 +2,6 @@
 use Prim.Native.Nat.{ℕ}
 use mathlib.Core.List.{List}
 use mathlib.Core.Path.{ap, ◌∙◌}
-use borrow.Author.Rules.{rules}
 use Rattle.zorder.specs.Address.{row_costs}
 use Rattle.dominance.specs.Lanes.{bound, is_first}
 use Rattle.promises.specs.Layout.{tab}

@@ -2,7 +2,6 @@
 use Prim.Native.Nat.{ℕ}
 use mathlib.Core.List.{List}
 use mathlib.Core.Path.{sym, ◌∙◌, subst}
-use borrow.Author.Rules.{rules}
 use Rattle.dominance.specs.Lanes.{Lanes, lesser}
 use Rattle.search.specs.Laws.Search.{corner-least, corner-same}
 use Rattle.search.proofs.search.corner_with.Goals as goal

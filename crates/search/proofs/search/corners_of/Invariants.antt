@@ -1,9 +1,6 @@
 -- `search::corners_of` meets its contract. The loop's invariant: the corners are those of the places passed. Assumes nothing.
-use Prim.Native.Nat.{ℕ, ◌-◌, ◌≤◌}
-use mathlib.Core.Path.{◌≡◌, refl, subst}
-use native.Mathlib.Omega.{arith}
+use Prim.Native.Nat.{◌-◌, ◌≤◌}
 use Rattle.search.specs.Search.{Corners}
-use Rattle.search.specs.Laws.Search.{corners-none, corners-more}
 use Rattle.search.proofs.search.corners_of.Given as goal
 
 abbrev pub invariant-loop-i : goal.invariant-loop-i

@@ -4,7 +4,6 @@ use mathlib.Core.Bool.{not}
 use mathlib.Core.List.{List}
 use mathlib.Core.Path.{sym, ap, ◌∙◌}
 use native.Mathlib.Omega.{arith}
-use borrow.Author.Rules.{rules}
 use Rattle.model.specs.Dominance.{nowhere_greater}
 use Rattle.search.specs.Laws.Search.{fits-within, fits-exceeding, whole_row}
 use Rattle.search.proofs.search.fits_at.Goals as goal

@@ -1,8 +1,7 @@
-use Prim.Native.Nat.{◌-◌, ◌≤◌}
+use Prim.Native.Nat.{◌-◌}
 use native.Mathlib.Omega.{arith}
 use lib.ListN.{get_or}
-use Rattle.zorder.specs.Address.{row_costs}
-use Rattle.dominance.specs.Laws.Lanes.{FilledTo, filled_none, filled_more, filled-all}
+use Rattle.dominance.specs.Laws.Lanes.{filled_none, filled_more, filled-all}
 use Rattle.search.proofs.search.from_above.Goals as goal
 
 pub loop-i-init : goal.loop-i-init

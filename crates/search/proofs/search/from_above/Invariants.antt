@@ -1,9 +1,8 @@
 -- `search::from_above` meets its contract. The loop's invariant: the places before i are filled. Assumes nothing.
 use Prim.Native.Nat.{◌-◌, ◌≤◌}
-use native.Mathlib.Omega.{arith}
 use lib.ListN.{get_or}
 use Rattle.zorder.specs.Address.{row_costs}
-use Rattle.dominance.specs.Laws.Lanes.{FilledTo, filled_none, filled_more, filled-all}
+use Rattle.dominance.specs.Laws.Lanes.{FilledTo}
 use Rattle.search.proofs.search.from_above.Given as goal
 
 abbrev pub invariant-loop-i : goal.invariant-loop-i

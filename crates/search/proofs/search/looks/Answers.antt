@@ -1,7 +1,6 @@
 -- `search::looks` meets its contract. Assumes nothing.
 use mathlib.Core.Bool.{not}
 use mathlib.Core.Path.{sym, ap, ◌∙◌}
-use borrow.Author.Rules.{rules}
 use Rattle.search.specs.Search.{looks}
 use Rattle.search.specs.declared.search.Among.{Among}
 use Rattle.search.proofs.search.looks.Goals as goal

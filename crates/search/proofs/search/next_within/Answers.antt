@@ -1,8 +1,6 @@
-use Prim.Native.Nat.{◌-◌, ◌≤◌}
 use mathlib.Core.Path.{sym, ◌∙◌}
 use native.Mathlib.Omega.{arith}
-use borrow.Author.Tests.{not-false}
-use Rattle.search.specs.Search.{fits, None}
+use Rattle.search.specs.Search.{fits}
 use Rattle.search.specs.Laws.Search.{none-empty, none-join, run-passed}
 use Rattle.search.proofs.search.next_within.Goals as goal
 

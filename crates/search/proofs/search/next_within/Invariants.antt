@@ -1,10 +1,6 @@
 -- `search::next_within` meets its contract. The loop's invariant: none of the places passed fits. Assumes nothing.
 use Prim.Native.Nat.{◌-◌, ◌≤◌}
-use mathlib.Core.Path.{sym, ◌∙◌}
-use native.Mathlib.Omega.{arith}
-use borrow.Author.Tests.{not-false}
 use Rattle.search.specs.Search.{fits, None}
-use Rattle.search.specs.Laws.Search.{none-empty, none-join, run-passed}
 use Rattle.search.proofs.search.next_within.Given as goal
 
 abbrev pub invariant-loop-f : goal.invariant-loop-f

@@ -1,9 +1,6 @@
 -- `search::run_corner` meets its contract. The loop's invariant: the corner is that with the places passed. Assumes nothing.
-use Prim.Native.Nat.{ℕ, ◌+◌, ◌-◌, ◌≤◌}
-use mathlib.Core.Path.{◌≡◌, subst}
-use native.Mathlib.Omega.{arith}
+use Prim.Native.Nat.{◌-◌, ◌≤◌}
 use Rattle.search.specs.Search.{CornerWith}
-use Rattle.search.specs.Laws.Search.{corner-none, corner-join}
 use Rattle.search.proofs.search.run_corner.Given as goal
 
 abbrev pub invariant-loop-j : goal.invariant-loop-j

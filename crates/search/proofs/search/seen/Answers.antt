@@ -1,6 +1,5 @@
 -- `search::seen` meets its contract. Assumes nothing.
 use mathlib.Core.Path.{sym, ap, ◌∙◌}
-use borrow.Author.Rules.{rules}
 use Rattle.search.specs.Search.{seen}
 use Rattle.search.specs.Laws.Search.{lanes-tab}
 use Rattle.search.specs.declared.search.Among.{Among}

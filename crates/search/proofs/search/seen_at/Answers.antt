@@ -1,7 +1,6 @@
 -- `search::seen_at` meets its contract. Assumes nothing.
 use mathlib.Core.Path.{ap, ◌∙◌}
 use native.Mathlib.Omega.{arith}
-use borrow.Author.Rules.{rules}
 use Rattle.zorder.specs.Address.{row_costs}
 use Rattle.promises.specs.Layout.{costs_in}
 use Rattle.search.specs.Search.{seen, seen_at}

@@ -1,7 +1,6 @@
-use Prim.Native.Nat.{◌-◌, ◌≤◌}
 use mathlib.Core.Path.{sym, ◌∙◌}
 use native.Mathlib.Omega.{arith}
-use Rattle.search.specs.Search.{fits, None}
+use Rattle.search.specs.Search.{fits}
 use Rattle.search.specs.Laws.Search.{none-empty, none_more}
 use Rattle.search.proofs.search.within.Goals as goal
 

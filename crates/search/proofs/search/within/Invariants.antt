@@ -1,9 +1,6 @@
 -- `search::within` meets its contract. The loop's invariant: none of the places passed fits. Assumes nothing.
 use Prim.Native.Nat.{◌-◌, ◌≤◌}
-use mathlib.Core.Path.{sym, ◌∙◌}
-use native.Mathlib.Omega.{arith}
 use Rattle.search.specs.Search.{fits, None}
-use Rattle.search.specs.Laws.Search.{none-empty, none_more}
 use Rattle.search.proofs.search.within.Given as goal
 
 abbrev pub invariant-loop-j : goal.invariant-loop-j

@@ -1,7 +1,6 @@
-use Prim.Native.Nat.{ℕ, ◌-◌, ◌≤◌}
+use Prim.Native.Nat.{ℕ}
 use mathlib.Core.Path.{◌≡◌, refl, sym, ◌∙◌, subst}
 use native.Mathlib.Omega.{arith}
-use borrow.Author.Tests.{not-true, not-false}
 use Rattle.model.proofs.Laws.Bool.{both_ways}
 use Rattle.skyline.specs.Chunks.{Unhidden}
 use Rattle.skyline.specs.Laws.Unhidden.{unhidden-none, unhidden-join}

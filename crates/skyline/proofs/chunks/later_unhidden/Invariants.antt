@@ -1,12 +1,6 @@
 -- `chunks::later_unhidden` meets its contract. The loop's invariant: no move of the chunk hides a place passed. Assumes nothing.
-use Prim.Native.Nat.{ℕ, ◌-◌, ◌≤◌}
-use mathlib.Core.Path.{◌≡◌, refl, sym, ◌∙◌, subst}
-use native.Mathlib.Omega.{arith}
-use borrow.Author.Tests.{not-true, not-false}
-use Rattle.model.proofs.Laws.Bool.{both_ways}
+use Prim.Native.Nat.{◌-◌, ◌≤◌}
 use Rattle.skyline.specs.Chunks.{Unhidden}
-use Rattle.skyline.specs.Laws.Unhidden.{unhidden-none, unhidden-join}
-use Rattle.skyline.specs.Laws.Highs.{high-unhidden}
 use Rattle.skyline.proofs.chunks.later_unhidden.Given as goal
 
 abbrev pub invariant-loop-f : goal.invariant-loop-f

@@ -1,10 +1,8 @@
-use Prim.Native.Nat.{ℕ, ◌-◌, ◌≤◌, ◌<◌}
+use Prim.Native.Nat.{ℕ}
 use mathlib.Core.List.{List}
-use mathlib.Core.Logic.{⊎_elim}
 use mathlib.Core.Path.{◌≡◌, sym, subst}
 use native.Mathlib.Omega.{arith}
 use borrow.Author.Tests.{not-true, not-false}
-use lib.ListN.{length}
 use Rattle.promises.specs.Run.{Bytes}
 use Rattle.skyline.specs.Chunks.{Unhidden, Highs}
 use Rattle.skyline.specs.Laws.Unhidden.{unhidden-none, unhidden-chunk, unhidden-right, hidden-wrong}
@@ -65,7 +63,7 @@ loop-from-preserved-else-not-later_unhidden c =
     let next = c.next_chunk-chunk in
     let There : List (List ℕ) → Type 0 = Highs a.h.size a.h.dimension a.m.now a.h.count in
     let there : Highs a.h.size a.h.dimension a.m.now a.h.count c.if-from-eq0.highs =
-        elim c.if-from-eq0.branch [ then-from-eq0 w ↦ subst There (sym w.highs-is) w.put_highs.ensures | else-from-eq0 w ↦ subst There (sym w.highs-is) (own.invariant.3 (omega (arith, w.if-from-eq0.false)) (omega (arith, c.loop-from-test.true))) ] in
+    elim c.if-from-eq0.branch [ then-from-eq0 w ↦ subst There (sym w.highs-is) w.put_highs.ensures | else-from-eq0 w ↦ subst There (sym w.highs-is) (own.invariant.3 (omega (arith, w.if-from-eq0.false)) (omega (arith, c.loop-from-test.true))) ] in
     let n = a.h.count in
     let to = next.result.to in
     let later = c.later_unhidden in (

@@ -1,15 +1,9 @@
 -- `chunks::listed_right` meets its contract. The loop's invariant: no move at a place passed hides a listed one, and once a chunk is
 -- passed the runs have their greatest bounds. Assumes nothing.
-use Prim.Native.Nat.{ℕ, ◌-◌, ◌≤◌, ◌<◌}
-use mathlib.Core.List.{List}
-use mathlib.Core.Logic.{⊎_elim}
-use mathlib.Core.Path.{◌≡◌, sym, subst}
-use native.Mathlib.Omega.{arith}
-use borrow.Author.Tests.{not-true, not-false}
+use Prim.Native.Nat.{◌-◌, ◌≤◌, ◌<◌}
+use mathlib.Core.Path.{◌≡◌}
 use lib.ListN.{length}
-use Rattle.promises.specs.Run.{Bytes}
 use Rattle.skyline.specs.Chunks.{Unhidden, Highs}
-use Rattle.skyline.specs.Laws.Unhidden.{unhidden-none, unhidden-chunk, unhidden-right, hidden-wrong}
 use Rattle.skyline.proofs.chunks.listed_right.Given as goal
 
 abbrev pub invariant-loop-from : goal.invariant-loop-from

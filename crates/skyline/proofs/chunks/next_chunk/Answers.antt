@@ -1,7 +1,7 @@
-use Prim.Native.Nat.{ℕ, ◌+◌, ◌-◌, ◌≤◌, ◌<◌}
+use Prim.Native.Nat.{ℕ, ◌+◌, ◌<◌}
 use mathlib.Core.Bool.{Bool, true, not, ◌&&◌}
 use mathlib.Core.List.{List}
-use mathlib.Core.Logic.{inl, inr, ⊎_elim}
+use mathlib.Core.Logic.{inl, inr}
 use mathlib.Core.Path.{◌≡◌, refl, sym, ap, ◌∙◌, subst}
 use native.Mathlib.Omega.{arith}
 use borrow.Author.Tests.{ltb-true, ltb-false, not-false}
@@ -10,8 +10,8 @@ use Rattle.model.proofs.Laws.Bool.{by_cases, both_ways, and_left, and_right}
 use Rattle.dominance.specs.Lanes.{Lanes, lesser}
 use Rattle.promises.specs.Run.{Bytes}
 use Rattle.search.specs.Search.{seen_at, bounds_at}
-use Rattle.search.specs.Columns.{count_to, Bounds, Put, Filled}
-use Rattle.skyline.specs.Chunks.{listed, Gathered, Unhidden}
+use Rattle.search.specs.Columns.{Bounds, Put, Filled}
+use Rattle.skyline.specs.Chunks.{Gathered}
 use Rattle.skyline.specs.Laws.Chunks.{bounds-past, gathered_none, gathered-same, gathered-more, same_count, more-count, none-fits-before, chunk-grows, chunk-some}
 use Rattle.skyline.specs.Laws.Unhidden.{exceeds-none, columns-none, columns-some, unhidden-none, unhidden-within}
 use Rattle.search.specs.declared.search.Among.TheVariants.{Listed}
@@ -114,27 +114,33 @@ loop-i-preserved c =
       elim c.if-looks_at.branch [ then-looks_at w ↦ omega (arith, w.count-is, free) | else-looks_at w ↦ omega (arith, w.count-is, free) ],
       elim c.if-looks_at.branch [ then-looks_at w ↦ omega (arith, w.count-is, inv.3) | else-looks_at w ↦ omega (arith, w.count-is, inv.3) ],
       elim c.if-looks_at.branch [ then-looks_at w ↦ omega (arith, w.count-is, more-count size m a.from i own.count own.columns own.low inv.0 inv.5 inv.4 (shown ∙ w.if-looks_at.true)) | else-looks_at w ↦ omega (arith, w.count-is, same_count size m a.from i own.count own.columns own.low inv.0 inv.5 inv.4 (shown ∙ w.if-looks_at.false)) ],
-      elim c.if-looks_at.branch [ then-looks_at w ↦ subst (λ (x : List ℕ). Gathered size m a.from (i + 1) x c.if-looks_at.low) (sym w.columns-is)
-          (subst (λ (x : List ℕ). Gathered size m a.from (i + 1) w.put.new.columns x) (sym w.low-is)
-          (gathered-more size m a.from i own.count own.columns own.low inv.0 inv.5 inv.4 (shown ∙ w.if-looks_at.true) free w.if-count-eq0.columns w.put.new.columns w.least-lower.result
-          (elim w.if-count-eq0.branch [
-            then-count-eq0 v ↦ inl (v.if-count-eq0.true, subst (Filled (seen_at Listed size m i)) (sym v.columns-is) (subst (λ (x : List ℕ). Filled x v.fill.new.columns) w.seen_at-costs.ensures v.fill.ensures))
-          | else-count-eq0 v ↦ inr (omega (arith, v.if-count-eq0.false), v.columns-is)
-          ])
-          (subst (λ (x : List ℕ). Put w.if-count-eq0.columns own.count x w.put.new.columns) w.seen_at-costs.ensures w.put.ensures)
-          (subst (λ (x : List ℕ). Lanes (lesser own.low x) w.least-lower.result) w.seen_at-costs.ensures w.least-lower.ensures))) | else-looks_at w ↦ subst (λ (x : List ℕ). Gathered size m a.from (i + 1) x c.if-looks_at.low) (sym w.columns-is)
-          (subst (λ (x : List ℕ). Gathered size m a.from (i + 1) own.columns x) (sym w.low-is)
-          (gathered-same size m a.from i own.count own.columns own.low inv.0 inv.5 inv.4 (shown ∙ w.if-looks_at.false))) ],
+      elim c.if-looks_at.branch [
+        | then-looks_at w ↦ subst (λ (x : List ℕ). Gathered size m a.from (i + 1) x c.if-looks_at.low) (sym w.columns-is)
+            (subst (λ (x : List ℕ). Gathered size m a.from (i + 1) w.put.new.columns x) (sym w.low-is)
+            (gathered-more size m a.from i own.count own.columns own.low inv.0 inv.5 inv.4 (shown ∙ w.if-looks_at.true) free w.if-count-eq0.columns w.put.new.columns w.least-lower.result
+            (elim w.if-count-eq0.branch [
+              | then-count-eq0 v ↦ inl (v.if-count-eq0.true, subst (Filled (seen_at Listed size m i)) (sym v.columns-is) (subst (λ (x : List ℕ). Filled x v.fill.new.columns) w.seen_at-costs.ensures v.fill.ensures))
+              | else-count-eq0 v ↦ inr (omega (arith, v.if-count-eq0.false), v.columns-is)
+            ])
+            (subst (λ (x : List ℕ). Put w.if-count-eq0.columns own.count x w.put.new.columns) w.seen_at-costs.ensures w.put.ensures)
+            (subst (λ (x : List ℕ). Lanes (lesser own.low x) w.least-lower.result) w.seen_at-costs.ensures w.least-lower.ensures)))
+        | else-looks_at w ↦ subst (λ (x : List ℕ). Gathered size m a.from (i + 1) x c.if-looks_at.low) (sym w.columns-is)
+            (subst (λ (x : List ℕ). Gathered size m a.from (i + 1) own.columns x) (sym w.low-is)
+            (gathered-same size m a.from i own.count own.columns own.low inv.0 inv.5 inv.4 (shown ∙ w.if-looks_at.false)))
+      ],
       unhidden-within size d m a.from i inv.6
           (λ t.
-          elim c.if-looks_at.branch [ then-looks_at w ↦ elim w.if-count-exceeds.branch [
-            then-count-exceeds+else-some_fits u ↦ columns-none size d m i w.bounds_at-q.result w.bounds_at-q.ensures a.from i own.columns own.low inv.5 (u.some_fits.ensures.false-says u.if-some_fits.false)
-          | else-count-exceeds u ↦
-              by_cases (ltb 0 own.count)
-              (λ some. exceeds-none size d m i w.bounds_at-q.result w.bounds_at-q.ensures a.from i own.columns own.low inv.5
-              (sym w.exceeds.ensures ∙ not-false w.exceeds.result (ap (λ (b : Bool). b && not w.exceeds.result) (sym some) ∙ u.if-count-exceeds.false)))
-              (λ none. none-fits-before size m a.from i own.count own.columns own.low inv.0 inv.5 inv.4 (omega (arith, ltb-false 0 own.count none)) (bounds_at size d m i))
-          ] | else-looks_at w ↦ both_ways t (shown ∙ w.if-looks_at.false) ]),
+          elim c.if-looks_at.branch [
+            | then-looks_at w ↦ elim w.if-count-exceeds.branch [
+              | then-count-exceeds+else-some_fits u ↦ columns-none size d m i w.bounds_at-q.result w.bounds_at-q.ensures a.from i own.columns own.low inv.5 (u.some_fits.ensures.false-says u.if-some_fits.false)
+              | else-count-exceeds u ↦
+                  by_cases (ltb 0 own.count)
+                  (λ some. exceeds-none size d m i w.bounds_at-q.result w.bounds_at-q.ensures a.from i own.columns own.low inv.5
+                  (sym w.exceeds.ensures ∙ not-false w.exceeds.result (ap (λ (b : Bool). b && not w.exceeds.result) (sym some) ∙ u.if-count-exceeds.false)))
+                  (λ none. none-fits-before size m a.from i own.count own.columns own.low inv.0 inv.5 inv.4 (omega (arith, ltb-false 0 own.count none)) (bounds_at size d m i))
+            ]
+            | else-looks_at w ↦ both_ways t (shown ∙ w.if-looks_at.false)
+          ]),
     )
 
 pub returns : goal.returns

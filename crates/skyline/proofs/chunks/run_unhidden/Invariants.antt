@@ -1,15 +1,6 @@
 -- `chunks::run_unhidden` meets its contract. The loop's invariant: no move of the columns hides a place passed. Assumes nothing.
 use Prim.Native.Nat.{ℕ, ◌-◌, ◌≤◌}
-use mathlib.Core.Logic.{⊎_elim}
-use mathlib.Core.Path.{◌≡◌, refl, sym, ◌∙◌, subst}
-use native.Mathlib.Omega.{arith}
-use borrow.Author.Tests.{not-false}
-use Rattle.model.proofs.Laws.Bool.{both_ways}
-use Rattle.promises.specs.Run.{Bytes}
-use Rattle.search.specs.Columns.{Bounds}
 use Rattle.skyline.specs.Chunks.{Gathered, Unhidden}
-use Rattle.skyline.specs.Laws.Chunks.{bounds-past}
-use Rattle.skyline.specs.Laws.Unhidden.{exceeds-none, columns-none, columns-some, unhidden-none, unhidden-more}
 use Rattle.skyline.proofs.chunks.run_unhidden.Given as goal
 
 abbrev pub invariant-loop-j : goal.invariant-loop-j

@@ -1,7 +1,6 @@
 -- `flags::flags_right` meets its contract. Assumes nothing.
 use mathlib.Core.Bool.{Bool, ◌&&◌}
 use mathlib.Core.Path.{refl, sym, ap, ◌∙◌}
-use borrow.Author.Tests.{not-true, not-false}
 use Rattle.memory.specs.Tests.{listed_right}
 use Rattle.skyline.specs.Laws.Halves.{flags-halves}
 use Rattle.skyline.proofs.flags.flags_right.Goals as goal

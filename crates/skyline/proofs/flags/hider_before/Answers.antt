@@ -3,7 +3,6 @@ use Prim.Native.Nat.{ℕ}
 use mathlib.Core.List.{List}
 use mathlib.Core.Path.{subst}
 use native.Mathlib.Omega.{arith}
-use borrow.Author.Rules.{rules}
 use Rattle.promises.specs.Run.{Bytes}
 use Rattle.search.specs.Search.{ListedSome}
 use Rattle.search.specs.Laws.Hiders.{hidden-at}

@@ -1,6 +1,5 @@
 -- `hiders::fitting_hiders` is safe and ends. Assumes nothing.
 use Prim.Native.Nat.{◌-◌, ◌≤◌}
-use native.Mathlib.Omega.{arith}
 use Rattle.skyline.proofs.hiders.fitting_hiders.Given as goal
 
 abbrev pub invariant-loop-j : goal.invariant-loop-j

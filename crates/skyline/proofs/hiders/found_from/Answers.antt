@@ -1,5 +1,4 @@
 -- `hiders::found_from` meets its contract. Assumes nothing.
-use borrow.Author.Rules.{rules}
 use Rattle.search.specs.Laws.Search.{first_some}
 use Rattle.skyline.proofs.hiders.found_from.Goals as goal
 

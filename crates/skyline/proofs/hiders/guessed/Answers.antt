@@ -1,6 +1,5 @@
 -- `hiders::guessed` meets its contract. Assumes nothing.
 use native.Mathlib.Omega.{arith}
-use borrow.Author.Rules.{rules}
 use Rattle.skyline.proofs.hiders.guessed.Goals as goal
 
 pub returns-then-tried : goal.returns-then-tried

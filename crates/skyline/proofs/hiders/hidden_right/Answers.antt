@@ -1,7 +1,6 @@
-use Prim.Native.Nat.{ℕ, ◌+◌, ◌-◌, ◌≤◌, ◌<◌}
+use Prim.Native.Nat.{ℕ, ◌+◌, ◌<◌}
 use mathlib.Core.Bool.{true}
 use mathlib.Core.List.{List}
-use mathlib.Core.Logic.{⊎_elim}
 use mathlib.Core.Path.{◌≡◌, sym, ◌∙◌, subst}
 use native.Mathlib.Omega.{arith}
 use borrow.Author.Tests.{lt-ltb, le-ltb}
@@ -71,10 +70,18 @@ loop-i-preserved c =
     let For : List (List ℕ) → Type 0 = λ r. ListedCorners a.h a.m.now (own.i + 1) r in (
       omega (arith, inside),
       elim c.if-looks_at.branch [ then-looks_at w ↦ omega (arith, w.at-is, own.invariant) | else-looks_at+then-i-last+else-i-last-2 w ↦ omega (arith, w.at-is, own.invariant) | else-looks_at+else-i-last w ↦ omega (arith, w.at-is, own.invariant) ],
-      elim c.if-looks_at.branch [ then-looks_at w ↦ subst For (sym w.corners-is)
-          (corners-more own.i (own.i + 1) own.corners w.corner_with.result (omega (arith, inside, s.requires.0.rows, s.requires.0.room)) (omega arith) own.invariant.2 w.corner_with.ensures) | else-looks_at+then-i-last+else-i-last-2 w ↦ subst For (sym w.corners-is) (corners-unlooked own.i own.corners (shown ∙ w.if-looks_at.false) own.invariant.2) | else-looks_at+else-i-last w ↦ subst For (sym w.corners-is) (corners-unlooked own.i own.corners (shown ∙ w.if-looks_at.false) own.invariant.2) ],
-      elim c.if-looks_at.branch [ then-looks_at w ↦ hidden-shown a.h.size a.h.dimension a.m.now own.i own.invariant.3 (shown ∙ w.if-looks_at.true) | else-looks_at+then-i-last+else-i-last-2 w ↦ hidden w.bounds_at-q.result w.found_from-last.result w.bounds_at-q.ensures (omega (arith, w.if-i-last-2.false)) w.found_from-last.ensures | else-looks_at+else-i-last w ↦ let l : w.guessed-last.result < own.i = omega (arith, w.if-i-last.false) in
-          hidden w.bounds_at-q.result w.guessed-last.result w.bounds_at-q.ensures l (w.guessed-last.ensures l) ],
+      elim c.if-looks_at.branch [
+        | then-looks_at w ↦ subst For (sym w.corners-is)
+            (corners-more own.i (own.i + 1) own.corners w.corner_with.result (omega (arith, inside, s.requires.0.rows, s.requires.0.room)) (omega arith) own.invariant.2 w.corner_with.ensures)
+        | else-looks_at+then-i-last+else-i-last-2 w ↦ subst For (sym w.corners-is) (corners-unlooked own.i own.corners (shown ∙ w.if-looks_at.false) own.invariant.2)
+        | else-looks_at+else-i-last w ↦ subst For (sym w.corners-is) (corners-unlooked own.i own.corners (shown ∙ w.if-looks_at.false) own.invariant.2)
+      ],
+      elim c.if-looks_at.branch [
+        | then-looks_at w ↦ hidden-shown a.h.size a.h.dimension a.m.now own.i own.invariant.3 (shown ∙ w.if-looks_at.true)
+        | else-looks_at+then-i-last+else-i-last-2 w ↦ hidden w.bounds_at-q.result w.found_from-last.result w.bounds_at-q.ensures (omega (arith, w.if-i-last-2.false)) w.found_from-last.ensures
+        | else-looks_at+else-i-last w ↦ let l : w.guessed-last.result < own.i = omega (arith, w.if-i-last.false) in
+            hidden w.bounds_at-q.result w.guessed-last.result w.bounds_at-q.ensures l (w.guessed-last.ensures l)
+      ],
     )
 
 pub returns : goal.returns

@@ -1,6 +1,5 @@
 -- `hiders::tried` meets its contract. Assumes nothing.
 use mathlib.Core.Path.{refl, sym, ◌∙◌}
-use borrow.Author.Rules.{rules}
 use Rattle.model.proofs.Laws.Bool.{both_ways}
 use Rattle.search.specs.Laws.Search.{tried-some}
 use Rattle.skyline.proofs.hiders.tried.Goals as goal

@@ -1,9 +1,6 @@
 -- `highs::put_highs` meets its contract. The loop's invariant: the rows are those of the places passed. Assumes nothing.
-use Prim.Native.Nat.{ℕ, ◌-◌, ◌≤◌}
-use mathlib.Core.Path.{◌≡◌, subst}
-use native.Mathlib.Omega.{arith}
+use Prim.Native.Nat.{◌-◌, ◌≤◌}
 use Rattle.skyline.specs.Chunks.{Highs}
-use Rattle.skyline.specs.Laws.Highs.{highs-none, highs-more}
 use Rattle.skyline.proofs.highs.put_highs.Given as goal
 
 abbrev pub invariant-loop-i : goal.invariant-loop-i

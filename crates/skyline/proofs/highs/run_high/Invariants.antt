@@ -1,12 +1,6 @@
 -- `highs::run_high` meets its contract. The loop's invariant: the row is that with the places passed. Assumes nothing.
-use Prim.Native.Nat.{ℕ, ◌+◌, ◌-◌, ◌≤◌}
-use mathlib.Core.List.{List}
-use mathlib.Core.Logic.{⊎_elim}
-use mathlib.Core.Path.{◌≡◌, sym, ◌∙◌, subst}
-use native.Mathlib.Omega.{arith}
-use Rattle.dominance.specs.Lanes.{Lanes, greater}
+use Prim.Native.Nat.{◌-◌, ◌≤◌}
 use Rattle.skyline.specs.Chunks.{HighWith}
-use Rattle.skyline.specs.Laws.Highs.{high-none, high_same, high-more}
 use Rattle.skyline.proofs.highs.run_high.Given as goal
 
 abbrev pub invariant-loop-j : goal.invariant-loop-j

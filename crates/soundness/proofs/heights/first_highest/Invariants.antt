@@ -1,11 +1,9 @@
 -- `heights::first_highest` meets its contract. The loop's invariant: the rows passed are lower than the first. Assumes nothing.
-use Prim.Native.Nat.{ℕ, ◌-◌, ◌≤◌}
+use Prim.Native.Nat.{◌-◌, ◌≤◌}
 use mathlib.Core.Bool.{true}
-use mathlib.Core.Path.{◌≡◌, refl, sym, subst}
-use native.Mathlib.Omega.{arith}
-use borrow.Author.Tests.{eqb-true, eqb-false, leb-true, leb-false}
+use mathlib.Core.Path.{◌≡◌}
 use Rattle.memory.specs.Tests.{all_to}
-use Rattle.soundness.specs.Laws.Levels.{lower_next, lower-next, highest-none, highest-found, highest-flat, highest-lost}
+use Rattle.soundness.specs.Laws.Levels.{lower_next}
 use Rattle.soundness.proofs.heights.first_highest.Given as goal
 
 abbrev pub invariant-loop-i : goal.invariant-loop-i

@@ -2,8 +2,8 @@ use Prim.Native.Nat.{ℕ}
 use mathlib.Core.Bool.{true, false}
 use mathlib.Core.Path.{◌≡◌, sym, ap, ◌∙◌}
 use native.Mathlib.Omega.{arith}
-use borrow.Author.Tests.{eqb-true, eqb-false, not-true, not-false}
-use Rattle.line.specs.Heights.{first_highest, counts_at, levels_right, heights_right}
+use borrow.Author.Tests.{eqb-true, eqb-false}
+use Rattle.line.specs.Heights.{first_highest, counts_at, levels_right}
 use Rattle.promises.specs.Layout.{heights_from}
 use Rattle.soundness.specs.Laws.Levels.{heights-none, heights-by, level-right, level-wrong}
 use Rattle.soundness.proofs.heights.heights_right.Goals as goal

@@ -1,13 +1,8 @@
 -- `heights::heights_right` meets its contract. The loop's invariant: the levels that are left give the whole answer.
 -- Assumes nothing.
-use Prim.Native.Nat.{ℕ}
-use mathlib.Core.Bool.{true, false}
-use mathlib.Core.Path.{◌≡◌, sym, ap, ◌∙◌}
-use native.Mathlib.Omega.{arith}
-use borrow.Author.Tests.{eqb-true, eqb-false, not-true, not-false}
-use Rattle.line.specs.Heights.{first_highest, counts_at, levels_right, heights_right}
+use mathlib.Core.Path.{◌≡◌}
+use Rattle.line.specs.Heights.{levels_right, heights_right}
 use Rattle.promises.specs.Layout.{heights_from}
-use Rattle.soundness.specs.Laws.Levels.{heights-none, heights-by, level-right, level-wrong}
 use Rattle.soundness.proofs.heights.heights_right.Given as goal
 
 abbrev pub invariant-loop-l : goal.invariant-loop-l

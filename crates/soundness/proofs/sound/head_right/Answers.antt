@@ -1,8 +1,7 @@
 -- `sound::head_right` meets its contract: each test is one of the definition's. Assumes nothing.
 use mathlib.Core.Path.{sym, ap, ap₂, ◌∙◌}
 use native.Mathlib.Omega.{arith}
-use borrow.Author.Rules.{rules}
-use borrow.Author.Tests.{eqb-true, eq-eqb, not-true, not-false}
+use borrow.Author.Tests.{eqb-true, eq-eqb}
 use lib.Dec.{leb}
 use Rattle.zorder.specs.Refusal.{cost_count_bad}
 use Rattle.model.specs.Calls.{size_bad, memory_need}

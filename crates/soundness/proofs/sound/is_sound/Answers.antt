@@ -1,9 +1,7 @@
 -- `sound::is_sound` meets its contract: the tests decide. Assumes nothing.
-use mathlib.Core.Bool.{Bool, true, false, not}
+use mathlib.Core.Bool.{Bool, true, false}
 use mathlib.Core.Path.{◌≡◌, sym, ◌∙◌}
 use native.Mathlib.Omega.{arith}
-use borrow.Author.Rules.{rules}
-use borrow.Author.Tests.{not-true, not-false}
 use Rattle.promises.specs.Run.{Bytes}
 use Rattle.memory.specs.Laws.Ordered.{right-ordered}
 use Rattle.soundness.specs.Laws.Decide.{head-decides, numbers-decides, order-decides, heights-decides, flags-decides, own_room, own-readable}

@@ -1,10 +1,7 @@
-use Prim.Native.Nat.{◌-◌, ◌≤◌}
-use mathlib.Core.Bool.{true}
-use mathlib.Core.Path.{◌≡◌, sym, ap₂, ◌∙◌}
+use Prim.Native.Nat.{◌-◌}
+use mathlib.Core.Path.{sym, ap₂, ◌∙◌}
 use native.Mathlib.Omega.{arith}
-use borrow.Author.Tests.{not-true, not-false}
 use Rattle.model.specs.Moves.{move_before}
-use Rattle.memory.specs.Tests.{order_right}
 use Rattle.memory.specs.Laws.Turns.{order-none, order-more, order-fail, order-end}
 use Rattle.soundness.proofs.sound.order_right.Goals as goal
 

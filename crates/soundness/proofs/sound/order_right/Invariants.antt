@@ -1,12 +1,8 @@
 -- `sound::order_right` meets its contract. The loop's invariant: the moves passed stand in order. Assumes nothing.
 use Prim.Native.Nat.{◌-◌, ◌≤◌}
 use mathlib.Core.Bool.{true}
-use mathlib.Core.Path.{◌≡◌, sym, ap₂, ◌∙◌}
-use native.Mathlib.Omega.{arith}
-use borrow.Author.Tests.{not-true, not-false}
-use Rattle.model.specs.Moves.{move_before}
+use mathlib.Core.Path.{◌≡◌}
 use Rattle.memory.specs.Tests.{order_right}
-use Rattle.memory.specs.Laws.Turns.{order-none, order-more, order-fail, order-end}
 use Rattle.soundness.proofs.sound.order_right.Given as goal
 
 abbrev pub invariant-loop-i : goal.invariant-loop-i

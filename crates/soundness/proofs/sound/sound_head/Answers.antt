@@ -1,7 +1,5 @@
 -- `sound::sound_head` meets its contract. Assumes nothing.
 use native.Mathlib.Omega.{arith}
-use borrow.Author.Rules.{rules}
-use borrow.Author.Tests.{not-true, not-false}
 use Rattle.model.specs.Calls.{memory_need}
 use Rattle.soundness.specs.Held.{HeldIn}
 use Rattle.soundness.proofs.sound.sound_head.Goals as goal

@@ -1,7 +1,6 @@
 -- `enter::enter_line` meets its contract. Assumes nothing.
 use mathlib.Core.Path.{sym, subst}
 use native.Mathlib.Omega.{arith}
-use borrow.Author.Rules.{rules}
 use Rattle.memory.specs.declared.head.Head.{Head}
 use Rattle.tree.specs.Split.{CascadeAsked, Cascaded}
 use Rattle.tree.specs.Laws.Entered.{holds-ordered, entered-first, put-asked, cascade-asked, entered-more}

@@ -1,6 +1,5 @@
 -- `enter::put_row` meets its contract. Assumes nothing.
 use mathlib.Core.Path.{sym, ◌∙◌}
-use borrow.Author.Rules.{rules}
 use Rattle.tree.specs.Laws.Putting.{put-over, put_under}
 use Rattle.tree.proofs.enter.put_row.Goals as goal
 

@@ -1,7 +1,6 @@
 -- `enter::takes_over` meets its contract. Assumes nothing.
 use Prim.Native.Nat.{◌-◌}
 use native.Mathlib.Omega.{arith}
-use borrow.Author.Rules.{rules}
 use Rattle.dominance.specs.Move.{as_move}
 use Rattle.tree.specs.Laws.Putting.{over_first, over-past, over_none, over-gap}
 use Rattle.tree.proofs.enter.takes_over.Goals as goal

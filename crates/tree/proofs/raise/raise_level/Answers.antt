@@ -1,8 +1,6 @@
-use Prim.Native.Nat.{◌-◌, ◌≤◌}
-use mathlib.Core.Logic.{⊎_elim}
 use mathlib.Core.Path.{sym, ◌∙◌}
 use native.Mathlib.Omega.{arith}
-use Rattle.tree.specs.Laws.Raising.{Raising, raising-none, raising-at, raising-low, raising-same, raising-more, raising-all}
+use Rattle.tree.specs.Laws.Raising.{raising-none, raising-at, raising-low, raising-same, raising-more, raising-all}
 use Rattle.tree.proofs.raise.raise_level.Goals.{else-l-height_at, then-l-height_at, then-starts_group, else-starts_group}
 use Rattle.tree.proofs.raise.raise_level.Goals as goal
 
@@ -19,14 +17,17 @@ loop-i-preserved c =
     let m = a.m.now in (
       omega arith,
       elim c.if-l-height_at.branch [ then-l-height_at w ↦ omega arith | else-l-height_at w ↦ omega arith ],
-      elim c.if-l-height_at.branch [ then-l-height_at w ↦ elim w.if-starts_group.branch [
-            then-starts_group v ↦
+      elim c.if-l-height_at.branch [
+        | then-l-height_at w ↦ elim w.if-starts_group.branch [
+          | then-starts_group v ↦
               raising-at w.j-is (w.m-is ∙ v.m-is ∙ v.set_height.ensures)
               (raising-more a.c a.n a.l a.entries own.i own.j m own.m (omega arith) own.invariant.2 (omega arith) (omega arith) (omega arith) (sym w.starts_group.ensures ∙ v.if-starts_group.true))
           | else-starts_group v ↦
               raising-at w.j-is (w.m-is ∙ v.m-is)
               (raising-same a.c a.n a.l a.entries own.i own.j m own.m (omega arith) own.invariant.2 (omega arith) (omega arith) (sym w.starts_group.ensures ∙ v.if-starts_group.false))
-          ] | else-l-height_at w ↦ raising-at w.j-is w.m-is (raising-low a.c a.n a.l a.entries own.i own.j m own.m (omega arith) own.invariant.2 (omega arith) (omega arith)) ],
+        ]
+        | else-l-height_at w ↦ raising-at w.j-is w.m-is (raising-low a.c a.n a.l a.entries own.i own.j m own.m (omega arith) own.invariant.2 (omega arith) (omega arith))
+      ],
     )
 
 pub shape_of-m : goal.shape_of-m

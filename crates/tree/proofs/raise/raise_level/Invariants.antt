@@ -1,10 +1,7 @@
 -- `raise::raise_level` meets its contract. The loop's invariant: finishing the rows from place i on gives the whole level.
 -- Assumes nothing.
 use Prim.Native.Nat.{◌-◌, ◌≤◌}
-use mathlib.Core.Logic.{⊎_elim}
-use mathlib.Core.Path.{sym, ◌∙◌}
-use native.Mathlib.Omega.{arith}
-use Rattle.tree.specs.Laws.Raising.{Raising, raising-none, raising-at, raising-low, raising-same, raising-more, raising-all}
+use Rattle.tree.specs.Laws.Raising.{Raising}
 use Rattle.tree.proofs.raise.raise_level.Given as goal
 
 abbrev pub invariant-loop-i : goal.invariant-loop-i

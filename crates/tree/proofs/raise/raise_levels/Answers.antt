@@ -1,6 +1,5 @@
 use native.Mathlib.Omega.{arith}
-use borrow.Author.Rules.{rules}
-use Rattle.tree.specs.Laws.Raising.{Levels, levels-none, levels-more, levels-all, levels-few}
+use Rattle.tree.specs.Laws.Raising.{levels-none, levels-more, levels-all, levels-few}
 use Rattle.tree.proofs.raise.raise_levels.Goals as goal
 
 pub loop-entries-init : goal.loop-entries-init

@@ -1,8 +1,6 @@
 -- `raise::raise_levels` meets its contract. The loop's invariant: making the levels from l up gives the whole. Each level has at
 -- most half the entries of the one below, so that there are few. Assumes nothing.
-use native.Mathlib.Omega.{arith}
-use borrow.Author.Rules.{rules}
-use Rattle.tree.specs.Laws.Raising.{Levels, levels-none, levels-more, levels-all, levels-few}
+use Rattle.tree.specs.Laws.Raising.{Levels}
 use Rattle.tree.proofs.raise.raise_levels.Given as goal
 
 abbrev pub invariant-loop-entries : goal.invariant-loop-entries

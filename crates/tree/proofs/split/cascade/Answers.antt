@@ -2,7 +2,7 @@ use Prim.Native.Nat.{suc, ◌+◌}
 use mathlib.Core.Path.{ap, ◌∙◌}
 use native.Mathlib.Numerals.{add-one}
 use native.Mathlib.Omega.{arith}
-use Rattle.tree.specs.Laws.Cascade.{Climbed, climb-first, climb-end, climb-few, climb-nine, climb-more}
+use Rattle.tree.specs.Laws.Cascade.{climb-first, climb-end, climb-few, climb-nine, climb-more}
 use Rattle.tree.proofs.split.cascade.Goals as goal
 
 pub loop-left-init : goal.loop-left-init

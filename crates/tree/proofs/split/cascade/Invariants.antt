@@ -1,10 +1,6 @@
 -- `split::cascade` meets its contract. The loop's invariant: what is left to do from the present line is what was left at
 -- first (`Cascade`). Assumes nothing.
-use Prim.Native.Nat.{suc, ◌+◌}
-use mathlib.Core.Path.{ap, ◌∙◌}
-use native.Mathlib.Numerals.{add-one}
-use native.Mathlib.Omega.{arith}
-use Rattle.tree.specs.Laws.Cascade.{Climbed, climb-first, climb-end, climb-few, climb-nine, climb-more}
+use Rattle.tree.specs.Laws.Cascade.{Climbed}
 use Rattle.tree.proofs.split.cascade.Given as goal
 
 abbrev pub invariant-loop-left : goal.invariant-loop-left

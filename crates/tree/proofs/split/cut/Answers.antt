@@ -1,6 +1,5 @@
 -- `split::cut` meets its contract. Assumes nothing.
 use mathlib.Core.Path.{sym, ◌∙◌}
-use borrow.Author.Rules.{rules}
 use Rattle.tree.specs.Laws.Cascade.{cut_below, cut-root}
 use Rattle.tree.proofs.split.cut.Goals as goal
 

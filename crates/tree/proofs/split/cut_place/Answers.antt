@@ -1,11 +1,10 @@
 use Prim.Native.Nat.{◌+◌, ◌-◌}
-use mathlib.Core.Logic.{⊎_elim}
 use native.Mathlib.Omega.{arith}
 use Rattle.line.specs.Line.{heights_in}
 use Rattle.promises.specs.Layout.{line_from}
 use Rattle.nodes.specs.Laws.Steps.{entry-turn}
 use Rattle.nodes.specs.Laws.Heights.{end_line, entry-line}
-use Rattle.tree.specs.Laws.Cut.{Tried, nine-entry, nine-cut, tried-first, tried-less, tried-more, tried-all}
+use Rattle.tree.specs.Laws.Cut.{nine-entry, nine-cut, tried-first, tried-less, tried-more, tried-all}
 use Rattle.tree.proofs.split.cut_place.Goals.{else-sides-least, then-sides-least}
 use Rattle.tree.proofs.split.cut_place.Goals as goal
 

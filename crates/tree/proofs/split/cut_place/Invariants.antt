@@ -1,13 +1,8 @@
 -- `split::cut_place` meets its contract. The loop's invariant: the cuts before the entries 3 to j are tried (`Cut`).
 -- Assumes nothing.
-use Prim.Native.Nat.{◌+◌, ◌-◌}
-use mathlib.Core.Logic.{⊎_elim}
-use native.Mathlib.Omega.{arith}
-use Rattle.line.specs.Line.{heights_in}
+use Prim.Native.Nat.{◌-◌}
 use Rattle.promises.specs.Layout.{line_from}
-use Rattle.nodes.specs.Laws.Steps.{entry-turn}
-use Rattle.nodes.specs.Laws.Heights.{end_line, entry-line}
-use Rattle.tree.specs.Laws.Cut.{Tried, nine-entry, nine-cut, tried-first, tried-less, tried-more, tried-all}
+use Rattle.tree.specs.Laws.Cut.{Tried}
 use Rattle.tree.proofs.split.cut_place.Given as goal
 
 abbrev pub invariant-loop-j : goal.invariant-loop-j

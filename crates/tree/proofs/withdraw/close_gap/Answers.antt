@@ -1,5 +1,4 @@
 -- `withdraw::close_gap` meets its contract. Assumes nothing.
-use borrow.Author.Rules.{rules}
 use Rattle.tree.specs.Laws.Gap.{closed}
 use Rattle.tree.proofs.withdraw.close_gap.Goals as goal
 

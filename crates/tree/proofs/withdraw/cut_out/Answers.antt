@@ -3,7 +3,6 @@ use Prim.Native.Nat.{ℕ}
 use mathlib.Core.List.{List}
 use mathlib.Core.Path.{sym, ap, ◌∙◌, subst}
 use native.Mathlib.Omega.{arith}
-use borrow.Author.Rules.{rules}
 use Rattle.memory.specs.Stores.{set_height}
 use Rattle.tree.specs.Withdraw.{CutOut}
 use Rattle.tree.specs.Laws.Gap.{cut-none, cut_low, cut_high}

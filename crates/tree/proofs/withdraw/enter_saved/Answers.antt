@@ -1,7 +1,6 @@
-use Prim.Native.Nat.{◌+◌, ◌-◌}
+use Prim.Native.Nat.{◌+◌}
 use mathlib.Core.Path.{◌≡◌, sym, subst}
 use native.Mathlib.Omega.{arith}
-use borrow.Author.Rules.{rules}
 use Rattle.dominance.specs.Move.{as_move}
 use Rattle.memory.specs.declared.head.Head.{Head}
 use Rattle.tree.specs.Enter.{EnterAsked, Entered}

@@ -1,11 +1,6 @@
 -- `withdraw::lower_heights` meets its contract. The loop's invariant: the heights from `to` up to place i are moved down. Assumes nothing.
-use Prim.Native.Nat.{ℕ, ◌+◌, ◌-◌, ◌≤◌}
-use mathlib.Core.Path.{◌≡◌, refl, ap, ◌∙◌, subst}
-use native.Mathlib.Omega.{arith}
-use borrow.Author.Rules.{rules}
-use Rattle.promises.specs.Layout.{height_in}
+use Prim.Native.Nat.{◌+◌, ◌-◌, ◌≤◌}
 use Rattle.tree.specs.Rows.{HeightsMoved}
-use Rattle.tree.specs.Laws.Moving.{height-set, moved_none, moved-above}
 use Rattle.tree.proofs.withdraw.lower_heights.Given as goal
 
 abbrev pub invariant-loop-i : goal.invariant-loop-i

@@ -1,11 +1,6 @@
 -- `withdraw::lower_numbers` meets its contract. The loop's invariant: the numbers from `to` up to place i are moved down. Assumes nothing.
-use Prim.Native.Nat.{ℕ, ◌+◌, ◌-◌, ◌≤◌}
-use mathlib.Core.Path.{◌≡◌, refl, ap, ◌∙◌, subst}
-use native.Mathlib.Omega.{arith}
-use borrow.Author.Rules.{rules}
-use Rattle.promises.specs.Layout.{number_in}
+use Prim.Native.Nat.{◌+◌, ◌-◌, ◌≤◌}
 use Rattle.tree.specs.Rows.{NumbersMoved}
-use Rattle.tree.specs.Laws.Moving.{number-set, moved_none, moved-above}
 use Rattle.tree.proofs.withdraw.lower_numbers.Given as goal
 
 abbrev pub invariant-loop-i : goal.invariant-loop-i

@@ -1,8 +1,5 @@
 -- `withdraw::lower_root` meets its contract. The loop's invariant: what is left of the lowering gives the whole. Assumes nothing.
-use Prim.Native.Nat.{◌-◌}
-use mathlib.Core.Path.{sym, subst}
-use native.Mathlib.Omega.{arith}
-use Rattle.tree.specs.Laws.Lowering.{Lowers, lowers-none, lowers-first, lowers-end, lowers-stop, lowers-more}
+use Rattle.tree.specs.Laws.Lowering.{Lowers}
 use Rattle.tree.proofs.withdraw.lower_root.Given as goal
 
 abbrev pub invariant-loop-top : goal.invariant-loop-top

@@ -1,10 +1,6 @@
-use Prim.Native.Nat.{ℕ, ◌-◌, ◌≤◌, ◌<◌}
-use mathlib.Core.Logic.{◌≢◌}
 use mathlib.Core.Path.{sym, ◌∙◌}
 use native.Mathlib.Omega.{arith}
 use borrow.Author.Count.{below_none, below_more}
-use borrow.Author.Rules.{rules}
-use Rattle.promises.specs.Layout.{number_in}
 use Rattle.tree.specs.Laws.Saving.{place-of}
 use Rattle.tree.proofs.withdraw.place_of.Goals as goal
 

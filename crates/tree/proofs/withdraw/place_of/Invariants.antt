@@ -1,12 +1,7 @@
 -- `withdraw::place_of` meets its contract. The loop's invariant: no row before place p has the number. Assumes nothing.
 use Prim.Native.Nat.{ℕ, ◌-◌, ◌≤◌, ◌<◌}
 use mathlib.Core.Logic.{◌≢◌}
-use mathlib.Core.Path.{sym, ◌∙◌}
-use native.Mathlib.Omega.{arith}
-use borrow.Author.Count.{below_none, below_more}
-use borrow.Author.Rules.{rules}
 use Rattle.promises.specs.Layout.{number_in}
-use Rattle.tree.specs.Laws.Saving.{place-of}
 use Rattle.tree.proofs.withdraw.place_of.Given as goal
 
 abbrev pub invariant-loop-p : goal.invariant-loop-p

@@ -1,5 +1,4 @@
-use Prim.Native.Nat.{◌+◌, ◌-◌, ◌≤◌}
-use mathlib.Core.Logic.{⊎_elim}
+use Prim.Native.Nat.{◌+◌}
 use mathlib.Core.Path.{◌≡◌, sym, ap, ◌∙◌, subst₂}
 use native.Mathlib.Omega.{arith}
 use Rattle.memory.specs.Stores.{set_work}
@@ -19,10 +18,13 @@ loop-i-preserved c =
     let own = c.loop-i in
     let read = c.number_at-other.ensures in (
       omega arith,
-      elim c.if-other-number.branch [ then-other-number w ↦ subst₂ (λ k m. Saving a.c a.from (own.i + 1) a.number k a.m.now m) (sym w.k-is)
-          (sym (w.m-is ∙ w.set_work.ensures ∙ ap (λ v. set_work a.c own.k v own.m) read))
-          (saving-more a.c a.from a.number a.m.now own.i own.k own.m own.invariant.1 (omega arith) (omega arith) (λ e. w.if-other-number.true (read ∙ e))) | else-other-number w ↦ subst₂ (λ k m. Saving a.c a.from (own.i + 1) a.number k a.m.now m) (sym w.k-is) (sym w.m-is)
-          (saving-less a.c a.from a.number a.m.now own.i own.k own.m own.invariant.1 (omega arith) (sym read ∙ w.if-other-number.false)) ],
+      elim c.if-other-number.branch [
+        | then-other-number w ↦ subst₂ (λ k m. Saving a.c a.from (own.i + 1) a.number k a.m.now m) (sym w.k-is)
+            (sym (w.m-is ∙ w.set_work.ensures ∙ ap (λ v. set_work a.c own.k v own.m) read))
+            (saving-more a.c a.from a.number a.m.now own.i own.k own.m own.invariant.1 (omega arith) (omega arith) (λ e. w.if-other-number.true (read ∙ e)))
+        | else-other-number w ↦ subst₂ (λ k m. Saving a.c a.from (own.i + 1) a.number k a.m.now m) (sym w.k-is) (sym w.m-is)
+            (saving-less a.c a.from a.number a.m.now own.i own.k own.m own.invariant.1 (omega arith) (sym read ∙ w.if-other-number.false))
+      ],
     )
 
 pub returns : goal.returns

@@ -1,6 +1,5 @@
-use Prim.Native.Nat.{◌-◌}
 use native.Mathlib.Omega.{arith}
-use Rattle.tree.specs.Laws.Widening.{Widens, widens-first, widens-end, widens-stop, widens-more}
+use Rattle.tree.specs.Laws.Widening.{widens-first, widens-end, widens-stop, widens-more}
 use Rattle.tree.proofs.withdraw.widened.Goals as goal
 
 pub loop-l-init : goal.loop-l-init

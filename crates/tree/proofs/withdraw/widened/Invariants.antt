@@ -1,7 +1,6 @@
 -- `withdraw::widened` meets its contract. The loop's invariant: what is left of the widening gives the whole. Assumes nothing.
 use Prim.Native.Nat.{◌-◌}
-use native.Mathlib.Omega.{arith}
-use Rattle.tree.specs.Laws.Widening.{Widens, widens-first, widens-end, widens-stop, widens-more}
+use Rattle.tree.specs.Laws.Widening.{Widens}
 use Rattle.tree.proofs.withdraw.widened.Given as goal
 
 abbrev pub invariant-loop-l : goal.invariant-loop-l

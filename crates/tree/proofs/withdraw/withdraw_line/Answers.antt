@@ -1,7 +1,6 @@
 -- `withdraw::withdraw_line` meets its contract. Assumes nothing.
 use Prim.Native.Nat.{ℕ}
 use mathlib.Core.Path.{sym, subst}
-use borrow.Author.Rules.{rules}
 use Rattle.memory.specs.declared.head.Head.{Head}
 use Rattle.tree.specs.Withdraw.{Saved, SavedAsked, SavedEntered}
 use Rattle.tree.specs.Laws.Removal.{saved-asked, withdrawn}

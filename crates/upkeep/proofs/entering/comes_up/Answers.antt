@@ -4,7 +4,6 @@ use mathlib.Core.Bool.{Bool, not, ◌&&◌}
 use mathlib.Core.List.{List}
 use mathlib.Core.Path.{◌≡◌, refl, sym, ap, ap₂, ◌∙◌, subst}
 use native.Mathlib.Omega.{arith}
-use borrow.Author.Tests.{not-true, not-false}
 use Rattle.model.specs.Moves.{Move}
 use Rattle.model.specs.Dominance.{hides}
 use Rattle.promises.specs.Layout.{move_in}
@@ -57,8 +56,11 @@ pub hidden_by_others-requires : goal.hidden_by_others-requires
 unfolding Bytes
 hidden_by_others-requires c =
     let a = c.args in
-    let bytes : Bytes a.m.now = λ i. omega (arith, c.shared_slice_known-1.given i) in record { readable = (held-readable c.requires.0.sound, c.requires.1); parted = subst (λ (x : Move). Parted a.h.size a.h.dimension a.h.count a.i x a.m.now) (sym c.move_at-x.ensures)
-          (own-place a.h.size a.h.dimension a.h.count a.m.now c.requires.0.sound bytes a.i c.requires.2) }
+    let bytes : Bytes a.m.now = λ i. omega (arith, c.shared_slice_known-1.given i) in record {
+      readable = (held-readable c.requires.0.sound, c.requires.1);
+      parted = subst (λ (x : Move). Parted a.h.size a.h.dimension a.h.count a.i x a.m.now) (sym c.move_at-x.ensures)
+          (own-place a.h.size a.h.dimension a.h.count a.m.now c.requires.0.sound bytes a.i c.requires.2);
+    }
 
 pub returns : goal.returns
 returns c =

@@ -1,5 +1,4 @@
-use Prim.Native.Nat.{ℕ, ◌-◌, ◌≤◌}
-use mathlib.Core.Logic.{⊎_elim}
+use Prim.Native.Nat.{ℕ}
 use mathlib.Core.Path.{◌≡◌, sym, subst, ◌∙◌}
 use native.Mathlib.Omega.{arith}
 use Rattle.memory.specs.Laws.Held.{held-readable}
@@ -43,8 +42,11 @@ loop-i-preserved c =
     let says = sym c.enters.ensures in (
       omega arith,
       omega arith,
-      elim c.if-enters.branch [ then-enters w ↦ passing-takes a.h.size a.m.now test own.invariant.2 own.invariant.0 (says ∙ w.if-enters.true) w.number_at.result w.number_at.ensures
-          (subst (With own.changed w.number_at.result) (sym w.changed-is) w.add.ensures) w.entered-is | else-enters w ↦ passing-passes a.h.size a.m.now test own.invariant.2 own.invariant.0 (says ∙ w.if-enters.false) w.changed-is w.entered-is ],
+      elim c.if-enters.branch [
+        | then-enters w ↦ passing-takes a.h.size a.m.now test own.invariant.2 own.invariant.0 (says ∙ w.if-enters.true) w.number_at.result w.number_at.ensures
+            (subst (With own.changed w.number_at.result) (sym w.changed-is) w.add.ensures) w.entered-is
+        | else-enters w ↦ passing-passes a.h.size a.m.now test own.invariant.2 own.invariant.0 (says ∙ w.if-enters.false) w.changed-is w.entered-is
+      ],
     )
 
 pub returns : goal.returns

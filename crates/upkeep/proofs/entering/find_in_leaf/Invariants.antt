@@ -1,13 +1,7 @@
 -- `entering::find_in_leaf` meets its contract. The loop's invariant: of the leaf's moves passed those that enter are added.
 -- Assumes nothing.
-use Prim.Native.Nat.{ℕ, ◌-◌, ◌≤◌}
-use mathlib.Core.Logic.{⊎_elim}
-use mathlib.Core.Path.{◌≡◌, sym, subst, ◌∙◌}
-use native.Mathlib.Omega.{arith}
-use Rattle.memory.specs.Laws.Held.{held-readable}
-use Rattle.numbers.specs.Set.{With}
+use Prim.Native.Nat.{◌-◌, ◌≤◌}
 use Rattle.upkeep.specs.Change.{enters_at, Passing}
-use Rattle.upkeep.specs.Laws.Passing.{passing-few, passing-none, passing-takes, passing-passes}
 use Rattle.upkeep.proofs.entering.find_in_leaf.Given as goal
 
 abbrev pub invariant-loop-i : goal.invariant-loop-i

@@ -1,9 +1,8 @@
-use Prim.Native.Nat.{◌-◌}
 use native.Mathlib.Omega.{arith}
-use Rattle.nodes.specs.Laws.Search.{Counting, sound-searchable, counting-none, counting-few, counting-leaf}
+use Rattle.nodes.specs.Laws.Search.{sound-searchable, counting-none, counting-few, counting-leaf}
 use Rattle.promises.specs.Run.{Bytes}
 use Rattle.memory.specs.Laws.Held.{held-readable}
-use Rattle.upkeep.specs.Change.{enters_at, Passing}
+use Rattle.upkeep.specs.Change.{enters_at}
 use Rattle.upkeep.specs.Laws.Passing.{passing-few, passing-none}
 use Rattle.upkeep.specs.Laws.BroughtUp.{leaf-enters, entering-all}
 use Rattle.upkeep.proofs.entering.find_in_leaves.Goals as goal

@@ -1,13 +1,8 @@
 -- `entering::find_in_leaves` meets its contract. The loop's invariant: of the moves passed those that enter are added, and the
 -- nodes opened so far and those still to be opened are all. Assumes nothing.
 use Prim.Native.Nat.{◌-◌}
-use native.Mathlib.Omega.{arith}
-use Rattle.nodes.specs.Laws.Search.{Counting, sound-searchable, counting-none, counting-few, counting-leaf}
-use Rattle.promises.specs.Run.{Bytes}
-use Rattle.memory.specs.Laws.Held.{held-readable}
+use Rattle.nodes.specs.Laws.Search.{Counting}
 use Rattle.upkeep.specs.Change.{enters_at, Passing}
-use Rattle.upkeep.specs.Laws.Passing.{passing-few, passing-none}
-use Rattle.upkeep.specs.Laws.BroughtUp.{leaf-enters, entering-all}
 use Rattle.upkeep.proofs.entering.find_in_leaves.Given as goal
 
 abbrev pub invariant-loop-i : goal.invariant-loop-i

@@ -1,7 +1,6 @@
 -- `exchange::hidden_by_coming` meets its contract. Assumes nothing.
 use mathlib.Core.Bool.{Bool, ◌&&◌}
 use mathlib.Core.Path.{sym, ap, ◌∙◌}
-use borrow.Author.Rules.{rules}
 use Rattle.model.specs.Dominance.{hides}
 use Rattle.dominance.specs.Move.{as_move}
 use Rattle.upkeep.specs.Change.{hidden_by_coming}

@@ -2,7 +2,6 @@
 use Prim.Native.Nat.{◌<◌}
 use mathlib.Core.Path.{sym}
 use native.Mathlib.Omega.{arith}
-use borrow.Author.Rules.{rules}
 use Rattle.promises.specs.Run.{Bytes}
 use Rattle.dominance.specs.Move.{as_move}
 use Rattle.search.specs.Laws.Search.{corners-fewer}

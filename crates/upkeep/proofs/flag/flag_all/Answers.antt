@@ -1,9 +1,9 @@
-use Prim.Native.Nat.{ℕ, ◌-◌, ◌≤◌}
+use Prim.Native.Nat.{ℕ}
 use mathlib.Core.Path.{◌≡◌, refl, subst}
 use native.Mathlib.Omega.{arith}
 use Rattle.search.specs.Laws.Search.{corners-none}
 use Rattle.upkeep.specs.Flag.{Flagged}
-use Rattle.upkeep.proofs.Flagging.{Flagging, flagged-none, flagging-more, stored-frame, readable-kept, ordered-kept}
+use Rattle.upkeep.proofs.Flagging.{flagged-none, flagging-more, stored-frame, readable-kept, ordered-kept}
 use Rattle.upkeep.proofs.flag.flag_all.Goals as goal
 
 pub loop-i-init : goal.loop-i-init
@@ -16,11 +16,14 @@ hider_before-hider-requires c =
     let a = c.args in
     let own = c.loop-i in
     let frame = own.invariant.1.flagged.frame in
-    let rows = c.requires.readable.0.rows in record { readable = (
+    let rows = c.requires.readable.0.rows in record {
+      readable = (
         readable-kept a.h.size a.h.count a.m.now own.m frame rows a.h.dimension c.requires.readable.0,
         ordered-kept a.h.size a.h.count a.m.now own.m frame rows a.h.dimension c.requires.readable.1,
         omega arith,
-      ); listed_corners = own.invariant.1.corners }
+      );
+      listed_corners = own.invariant.1.corners;
+    }
 
 pub number_at-number-requires : goal.number_at-number-requires
 number_at-number-requires c =

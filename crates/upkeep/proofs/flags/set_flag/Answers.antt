@@ -1,7 +1,6 @@
 -- `flags::set_flag` meets its contract. Assumes nothing.
 use mathlib.Core.Path.{sym, ap, ◌∙◌}
 use native.Mathlib.Omega.{arith}
-use borrow.Author.Rules.{rules}
 use Rattle.numbers.specs.Set.{in_set}
 use Rattle.upkeep.specs.Laws.Flags.{flag-stays, flag-changes}
 use Rattle.upkeep.proofs.flags.set_flag.Goals as goal

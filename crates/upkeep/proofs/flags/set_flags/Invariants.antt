@@ -1,11 +1,7 @@
 -- `flags::set_flags` meets its contract. The loop's invariant: the flags of the places passed are set, the others as they
 -- were. Assumes nothing.
-use Prim.Native.Nat.{ℕ, ◌-◌, ◌≤◌}
-use mathlib.Core.Path.{◌≡◌, subst}
-use native.Mathlib.Omega.{arith}
-use Rattle.memory.specs.Laws.Frames.{room-over}
-use Rattle.memory.specs.Laws.Fields.{number-over-flags}
-use Rattle.upkeep.specs.Laws.Flags.{Flagging, flagging-none, flagging-more, flagging-all}
+use Prim.Native.Nat.{◌-◌, ◌≤◌}
+use Rattle.upkeep.specs.Laws.Flags.{Flagging}
 use Rattle.upkeep.proofs.flags.set_flags.Given as goal
 
 abbrev pub invariant-loop-i : goal.invariant-loop-i

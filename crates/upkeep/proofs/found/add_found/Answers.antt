@@ -1,7 +1,6 @@
 -- `found::add_found` meets its contract. Assumes nothing.
 use mathlib.Core.Path.{refl}
 use native.Mathlib.Omega.{arith}
-use borrow.Author.Rules.{rules}
 use Rattle.upkeep.specs.Laws.Passing.{passing-none, passing-takes, passing-passes}
 use Rattle.upkeep.proofs.found.add_found.Goals as goal
 

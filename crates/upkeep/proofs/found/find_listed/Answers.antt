@@ -1,11 +1,9 @@
-use Prim.Native.Nat.{◌-◌, ◌≤◌}
-use mathlib.Core.Logic.{⊎_elim}
 use mathlib.Core.Path.{sym, ap, subst, ◌∙◌}
 use native.Mathlib.Omega.{arith}
 use Rattle.numbers.specs.Set.{With}
 use Rattle.memory.specs.Tests.{is_flagged, is_listed}
 use Rattle.upkeep.specs.Laws.Passing.{passing-few, passing-none, passing-takes, passing-passes}
-use Rattle.upkeep.specs.Laws.Found.{FindsTo, finds-all}
+use Rattle.upkeep.specs.Laws.Found.{finds-all}
 use Rattle.upkeep.proofs.found.find_listed.Goals.{else-is_listed, then-is_listed}
 use Rattle.upkeep.proofs.found.find_listed.Goals as goal
 
@@ -40,8 +38,11 @@ loop-i-preserved c =
     let at = c.number_at-number in
     let says = ap (is_flagged a.h.size a.m.now) (sym at.ensures) ∙ sym c.is_listed.ensures in (
       omega arith,
-      elim c.if-is_listed.branch [ then-is_listed w ↦ passing-takes a.h.size a.m.now (is_listed a.h.size a.m.now) own.invariant.1 (omega arith) (says ∙ w.if-is_listed.true) at.result at.ensures
-          (subst (With own.numbers at.result) (sym w.numbers-is) w.add.ensures) w.count-is | else-is_listed w ↦ passing-passes a.h.size a.m.now (is_listed a.h.size a.m.now) own.invariant.1 (omega arith) (says ∙ w.if-is_listed.false) w.numbers-is w.count-is ],
+      elim c.if-is_listed.branch [
+        | then-is_listed w ↦ passing-takes a.h.size a.m.now (is_listed a.h.size a.m.now) own.invariant.1 (omega arith) (says ∙ w.if-is_listed.true) at.result at.ensures
+            (subst (With own.numbers at.result) (sym w.numbers-is) w.add.ensures) w.count-is
+        | else-is_listed w ↦ passing-passes a.h.size a.m.now (is_listed a.h.size a.m.now) own.invariant.1 (omega arith) (says ∙ w.if-is_listed.false) w.numbers-is w.count-is
+      ],
     )
 
 pub returns : goal.returns

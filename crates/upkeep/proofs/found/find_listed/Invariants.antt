@@ -1,12 +1,7 @@
 -- `found::find_listed` meets its contract. The loop's invariant: of the moves passed the listed ones are found. Assumes nothing.
 use Prim.Native.Nat.{◌-◌, ◌≤◌}
-use mathlib.Core.Logic.{⊎_elim}
-use mathlib.Core.Path.{sym, ap, subst, ◌∙◌}
-use native.Mathlib.Omega.{arith}
-use Rattle.numbers.specs.Set.{With}
-use Rattle.memory.specs.Tests.{is_flagged, is_listed}
-use Rattle.upkeep.specs.Laws.Passing.{passing-few, passing-none, passing-takes, passing-passes}
-use Rattle.upkeep.specs.Laws.Found.{FindsTo, finds-all}
+use Rattle.memory.specs.Tests.{is_flagged}
+use Rattle.upkeep.specs.Laws.Found.{FindsTo}
 use Rattle.upkeep.proofs.found.find_listed.Given as goal
 
 abbrev pub invariant-loop-i : goal.invariant-loop-i

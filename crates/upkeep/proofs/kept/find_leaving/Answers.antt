@@ -1,5 +1,4 @@
-use Prim.Native.Nat.{ℕ, ◌-◌, ◌≤◌}
-use mathlib.Core.Logic.{⊎_elim}
+use Prim.Native.Nat.{ℕ}
 use mathlib.Core.Path.{◌≡◌, sym, subst, ◌∙◌}
 use native.Mathlib.Omega.{arith}
 use Rattle.numbers.specs.Set.{With}
@@ -36,8 +35,11 @@ loop-i-preserved c =
     let test = leaves_at a.h.size a.h.dimension a.k a.m.now in
     let says = sym c.leaves.ensures in (
       omega arith,
-      elim c.if-leaves.branch [ then-leaves w ↦ passing-takes a.h.size a.m.now test own.invariant.1 (omega arith) (says ∙ w.if-leaves.true) w.number_at.result w.number_at.ensures
-          (subst (With own.changed w.number_at.result) (sym w.changed-is) w.add.ensures) w.left-is | else-leaves w ↦ passing-passes a.h.size a.m.now test own.invariant.1 (omega arith) (says ∙ w.if-leaves.false) w.changed-is w.left-is ],
+      elim c.if-leaves.branch [
+        | then-leaves w ↦ passing-takes a.h.size a.m.now test own.invariant.1 (omega arith) (says ∙ w.if-leaves.true) w.number_at.result w.number_at.ensures
+            (subst (With own.changed w.number_at.result) (sym w.changed-is) w.add.ensures) w.left-is
+        | else-leaves w ↦ passing-passes a.h.size a.m.now test own.invariant.1 (omega arith) (says ∙ w.if-leaves.false) w.changed-is w.left-is
+      ],
     )
 
 pub returns : goal.returns

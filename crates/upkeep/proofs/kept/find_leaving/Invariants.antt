@@ -1,12 +1,7 @@
 -- `kept::find_leaving` meets its contract. The loop's invariant: of the moves passed those that leave are added. Assumes
 -- nothing.
-use Prim.Native.Nat.{ℕ, ◌-◌, ◌≤◌}
-use mathlib.Core.Logic.{⊎_elim}
-use mathlib.Core.Path.{◌≡◌, sym, subst, ◌∙◌}
-use native.Mathlib.Omega.{arith}
-use Rattle.numbers.specs.Set.{With}
+use Prim.Native.Nat.{◌-◌, ◌≤◌}
 use Rattle.upkeep.specs.Change.{leaves_at, Passing}
-use Rattle.upkeep.specs.Laws.Passing.{passing-few, passing-none, passing-takes, passing-passes}
 use Rattle.upkeep.proofs.kept.find_leaving.Given as goal
 
 abbrev pub invariant-loop-i : goal.invariant-loop-i
