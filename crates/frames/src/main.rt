@@ -3,7 +3,8 @@
 // `framing::feed`.
 #![tactic(auto)]
 
-ghost use Rattle.std.specs.Prelude.{IfOk};
+ghost use Rattle.std.specs.Prelude.{MatchResult};
+ghost use Rattle.frames.specs.Left.{HoldsSome};
 ghost use Rattle.framing.specs.Serving.{HoldsState, Lent};
 
 use framing::{BYTES, Point, TEXT, feed, finish, start};
@@ -17,7 +18,8 @@ struct Turn {
     more: bool,
 }
 
-// Feeds all of these bytes, and writes the answers to the lines that they end.
+// Feeds all of these bytes, and writes the answers to the lines that they end. An error of writing
+// leaves a state held, as an answer does.
 fn answer_all(
     rt: &impl Print,
     p: Point,
@@ -27,7 +29,7 @@ fn answer_all(
 ) -> io::Result<Point>
     requires holds_state { HoldsState p.dimension m.old }
     requires lent { Lent m.old out.old }
-    ensures { IfOk result (λ q. HoldsState q.dimension m.new) }
+    ensures { MatchResult result (λ q. HoldsState q.dimension m.new) (λ e. HoldsSome m.new) }
 {
     let mut q = p;
     let mut i = 0;
@@ -52,7 +54,7 @@ fn answer_read(
 ) -> io::Result<Turn>
     requires holds_state { HoldsState p.dimension m.old }
     requires lent { Lent m.old out.old }
-    ensures { IfOk result (λ t. HoldsState t.point.dimension m.new) }
+    ensures { MatchResult result (λ t. HoldsState t.point.dimension m.new) (λ e. HoldsSome m.new) }
 {
     let mut buffer = [0u8; 512];
     let n = input.read(&mut buffer)?;

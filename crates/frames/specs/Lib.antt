@@ -1,0 +1,2 @@
+-- What an error of input or output leaves.
+pub mod Left
