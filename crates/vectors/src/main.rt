@@ -18,9 +18,10 @@ mod values;
 mod week;
 mod word;
 
+use std::env::FillError;
 use std::fs::File;
 use std::rt::{Env, Files};
-use std::{env, io};
+use std::{io, str};
 
 // A file that can't be opened is named on standard error, and the next ones are read all the same.
 fn named(rt: &(impl Files + Print + Eprint), name: &str) -> io::Result<()> {
@@ -32,18 +33,27 @@ fn named(rt: &(impl Files + Print + Eprint), name: &str) -> io::Result<()> {
     println!(rt; "{name} {} agree, {} passed by", r.agree, r.passed)
 }
 
-// The file that the argument at place i names.
-fn argument(rt: &(impl Env + Alloc + Files + Print + Eprint), i: usize) -> io::Result<()> {
-    if let Some(name) = env::args(rt)?.nth(i) {
-        named(rt, name.as_str())?;
+// The file that the argument at place i names; says whether there is such an argument. A name that
+// is too long, or no text, opens no file, and the next ones are read all the same.
+fn argument(rt: &(impl Env + Files + Print + Eprint), i: usize) -> io::Result<bool> {
+    let mut name = [0u8; 4096];
+    let n = match rt.arg(i, &mut name) {
+        Ok(n) => n,
+        Err(FillError::TooLong) => 0,
+        Err(FillError::NotPresent) => return Ok(false),
+    };
+    match str::from_utf8(&name[..n]) {
+        Ok(text) => named(rt, text)?,
+        Err(_) => eprintln!(rt; "argument {i} is no text")?,
     }
-    Ok(())
+    Ok(true)
 }
 
 fn main(rt: HostRuntime) -> io::Result<()> {
-    let count = env::args(&rt)?.len();
-    for i in 1..count {
-        argument(&rt, i)?;
+    for i in 1..usize::MAX {
+        if !argument(&rt, i)? {
+            break;
+        }
     }
     Ok(())
 }
