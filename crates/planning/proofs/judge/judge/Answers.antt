@@ -11,7 +11,25 @@ use Rattle.promises.specs.Answers.{outcome_number}
 use Rattle.planning.specs.Kind.{comes}
 use Rattle.planning.proofs.Laws.Judge.{judges-by}
 use Rattle.planning.proofs.judge.judge.Goals.{else-comes-2-via-else-comes-2, else-comes-2-via-then-comes-2+else-not-zero_past, else-comes-via-else-comes, else-comes-via-then-comes+else-block_bad}
+use Rattle.planning.proofs.judge.judge.Goals.{Joined-else-comes, Joined-else-comes-2}
 use Rattle.planning.proofs.judge.judge.Goals as goal
+
+-- Once no block turns the change down, ..
+low : (c : Joined-else-comes) → (comes c.args.x.kind && block_bad c.args.x.block) ≡ false
+low c =
+    elim c.else-comes.branch [
+      | else-comes-via-then-comes+else-block_bad w ↦ ap₂ ◌&&◌ (sym c.comes.ensures ∙ w.if-comes.true) (sym w.block_bad.ensures ∙ w.if-block_bad.false)
+      | else-comes-via-else-comes w ↦ ap₂ ◌&&◌ (sym c.comes.ensures ∙ w.if-comes.false) refl
+    ]
+
+-- .. and no cost past d.
+passed : (c : Joined-else-comes-2) → (comes c.args.x.kind && cost_past_bad c.args.h.dimension c.args.x.costs) ≡ false
+unfolding cost_past_bad
+passed c =
+    elim c.else-comes-2.branch [
+      | else-comes-2-via-then-comes-2+else-not-zero_past w ↦ ap₂ ◌&&◌ (sym c.comes-2.ensures ∙ w.if-comes-2.true) (ap not (sym w.zero_past.ensures ∙ w.if-not-zero_past.false))
+      | else-comes-2-via-else-comes-2 w ↦ ap₂ ◌&&◌ (sym c.comes-2.ensures ∙ w.if-comes-2.false) refl
+    ]
 
 -- The last check: a new number is not on the board, another is.
 passes : (new on : Bool) → not (beq new on) ≡ true → ◌≡◌ {A = ℕ} 0 (cond (cond new on (not on)) (cond new 5 6) 0)
@@ -50,63 +68,31 @@ pub returns-then-not-zero_past : goal.returns-then-not-zero_past
 unfolding refusal outcome_number cost_past_bad
 returns-then-not-zero_past c =
     let a = c.args in
-    let low : (comes a.x.kind && block_bad a.x.block) ≡ false =
-    elim c.else-comes.branch [
-      | else-comes-via-then-comes+else-block_bad w ↦ ap₂ ◌&&◌ (sym c.comes.ensures ∙ w.if-comes.true) (sym w.block_bad.ensures ∙ w.if-block_bad.false)
-      | else-comes-via-else-comes w ↦ ap₂ ◌&&◌ (sym c.comes.ensures ∙ w.if-comes.false) refl
-    ] in
     judges-by a.h a.x a.on false false true _ (lt-leb a.h.size a.x.number (omega (arith, c.if-h-x.false)))
-    low
+    (low (goal.at.returns-then-not-zero_past c).Joined-else-comes)
     (ap₂ ◌&&◌ (sym c.comes-2.ensures ∙ c.if-comes-2.true) (ap not (sym c.zero_past.ensures ∙ c.if-not-zero_past.true)))
     refl refl
 
 pub returns-then-is_new-on : goal.returns-then-is_new-on
-unfolding refusal outcome_number cost_past_bad
+unfolding refusal outcome_number
 returns-then-is_new-on c =
     let a = c.args in
-    let low : (comes a.x.kind && block_bad a.x.block) ≡ false =
-    elim c.else-comes.branch [
-      | else-comes-via-then-comes+else-block_bad w ↦ ap₂ ◌&&◌ (sym c.comes.ensures ∙ w.if-comes.true) (sym w.block_bad.ensures ∙ w.if-block_bad.false)
-      | else-comes-via-else-comes w ↦ ap₂ ◌&&◌ (sym c.comes.ensures ∙ w.if-comes.false) refl
-    ] in
-    let passed : (comes a.x.kind && cost_past_bad a.h.dimension a.x.costs) ≡ false =
-    elim c.else-comes-2.branch [
-      | else-comes-2-via-then-comes-2+else-not-zero_past w ↦ ap₂ ◌&&◌ (sym c.comes-2.ensures ∙ w.if-comes-2.true) (ap not (sym w.zero_past.ensures ∙ w.if-not-zero_past.false))
-      | else-comes-2-via-else-comes-2 w ↦ ap₂ ◌&&◌ (sym c.comes-2.ensures ∙ w.if-comes-2.false) refl
-    ] in
-    judges-by a.h a.x a.on false false false _ (lt-leb a.h.size a.x.number (omega (arith, c.if-h-x.false))) low passed (sym c.is_new.ensures)
+    judges-by a.h a.x a.on false false false _ (lt-leb a.h.size a.x.number (omega (arith, c.if-h-x.false)))
+    (low (goal.at.returns-then-is_new-on c).Joined-else-comes) (passed (goal.at.returns-then-is_new-on c).Joined-else-comes-2) (sym c.is_new.ensures)
     (passes c.is_new.result a.on c.if-is_new-on.true)
 
 pub returns-then-on : goal.returns-then-on
-unfolding refusal outcome_number cost_past_bad
+unfolding refusal outcome_number
 returns-then-on c =
     let a = c.args in
-    let low : (comes a.x.kind && block_bad a.x.block) ≡ false =
-    elim c.else-comes.branch [
-      | else-comes-via-then-comes+else-block_bad w ↦ ap₂ ◌&&◌ (sym c.comes.ensures ∙ w.if-comes.true) (sym w.block_bad.ensures ∙ w.if-block_bad.false)
-      | else-comes-via-else-comes w ↦ ap₂ ◌&&◌ (sym c.comes.ensures ∙ w.if-comes.false) refl
-    ] in
-    let passed : (comes a.x.kind && cost_past_bad a.h.dimension a.x.costs) ≡ false =
-    elim c.else-comes-2.branch [
-      | else-comes-2-via-then-comes-2+else-not-zero_past w ↦ ap₂ ◌&&◌ (sym c.comes-2.ensures ∙ w.if-comes-2.true) (ap not (sym w.zero_past.ensures ∙ w.if-not-zero_past.false))
-      | else-comes-2-via-else-comes-2 w ↦ ap₂ ◌&&◌ (sym c.comes-2.ensures ∙ w.if-comes-2.false) refl
-    ] in
-    judges-by a.h a.x a.on false false false _ (lt-leb a.h.size a.x.number (omega (arith, c.if-h-x.false))) low passed (sym c.is_new.ensures)
+    judges-by a.h a.x a.on false false false _ (lt-leb a.h.size a.x.number (omega (arith, c.if-h-x.false)))
+    (low (goal.at.returns-then-on c).Joined-else-comes) (passed (goal.at.returns-then-on c).Joined-else-comes-2) (sym c.is_new.ensures)
     (twice c.is_new.result a.on c.if-is_new-on.false c.if-on.true)
 
 pub returns-else-on : goal.returns-else-on
-unfolding refusal outcome_number cost_past_bad
+unfolding refusal outcome_number
 returns-else-on c =
     let a = c.args in
-    let low : (comes a.x.kind && block_bad a.x.block) ≡ false =
-    elim c.else-comes.branch [
-      | else-comes-via-then-comes+else-block_bad w ↦ ap₂ ◌&&◌ (sym c.comes.ensures ∙ w.if-comes.true) (sym w.block_bad.ensures ∙ w.if-block_bad.false)
-      | else-comes-via-else-comes w ↦ ap₂ ◌&&◌ (sym c.comes.ensures ∙ w.if-comes.false) refl
-    ] in
-    let passed : (comes a.x.kind && cost_past_bad a.h.dimension a.x.costs) ≡ false =
-    elim c.else-comes-2.branch [
-      | else-comes-2-via-then-comes-2+else-not-zero_past w ↦ ap₂ ◌&&◌ (sym c.comes-2.ensures ∙ w.if-comes-2.true) (ap not (sym w.zero_past.ensures ∙ w.if-not-zero_past.false))
-      | else-comes-2-via-else-comes-2 w ↦ ap₂ ◌&&◌ (sym c.comes-2.ensures ∙ w.if-comes-2.false) refl
-    ] in
-    judges-by a.h a.x a.on false false false _ (lt-leb a.h.size a.x.number (omega (arith, c.if-h-x.false))) low passed (sym c.is_new.ensures)
+    judges-by a.h a.x a.on false false false _ (lt-leb a.h.size a.x.number (omega (arith, c.if-h-x.false)))
+    (low (goal.at.returns-else-on c).Joined-else-comes) (passed (goal.at.returns-else-on c).Joined-else-comes-2) (sym c.is_new.ensures)
     (absent c.is_new.result a.on c.if-is_new-on.false c.if-on.false)
