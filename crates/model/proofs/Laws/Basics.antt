@@ -118,7 +118,7 @@ module _ {A : Type 0} where
 
     pub mem-select : {x : A} {xs : List A} → Memᴰ x xs → p x ≡ true → Memᴰ x (select p xs)
     unfolding select
-    mem-select {xs = []} x6 h = elim x6 [ ]
+    mem-select {xs = []} m h = elim m [ ]
     mem-select {xs = y ∷ ys} (Memᴰ.head e) h = cons_if-head (p y) y (select p ys) e (ap p (sym e) ∙ h)
     mem-select {xs = y ∷ ys} (Memᴰ.tail m) h = cons_if-tail (p y) y (select p ys) (mem-select m h)
 
@@ -151,7 +151,7 @@ module _ {A : Type 0} where
 
     pub any-mem : {x : A} {xs : List A} → Memᴰ x xs → p x ≡ true → any p xs ≡ true
     unfolding any
-    any-mem {xs = []} x6 h = elim x6 [ ]
+    any-mem {xs = []} m h = elim m [ ]
     any-mem {xs = y ∷ ys} (Memᴰ.head e) h = or_left (p y) (any p ys) (ap p (sym e) ∙ h)
     any-mem {xs = y ∷ ys} (Memᴰ.tail m) h = or_right (p y) (any p ys) (any-mem m h)
 

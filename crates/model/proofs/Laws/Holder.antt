@@ -90,7 +90,7 @@ module _ (d : ℕ) where
 
   mem-put-new : {n : Move} {ms : List Move} (held : List Move) → Memᴰ n ms → Memᴰ n (put_all d ms held)
   unfolding put_all
-  mem-put-new {n = n} {ms = []} held x'' = elim x'' [ ]
+  mem-put-new {ms = []} held m = elim m [ ]
   mem-put-new {ms = m ∷ ms} held (Memᴰ.head e) = mem-put-old ms (Memᴰ.cast e (mem-insert-new (move_before d) m held))
   mem-put-new {ms = m ∷ ms} held (Memᴰ.tail k) = mem-put-new (insert_by (move_before d) m held) k
 

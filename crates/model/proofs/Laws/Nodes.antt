@@ -47,7 +47,7 @@ module _ {A : Type 0} where
 module _ {A B : Type 0} (f : A → List B) where
   run-flat_map : {x : A} {xs : List A} → Memᴰ x xs → RunOf (f x) (flat_map f xs)
   unfolding flat_map
-  run-flat_map {xs = []} x3 = elim x3 [ ]
+  run-flat_map {xs = []} m = elim m [ ]
   run-flat_map {xs = y ∷ ys} (Memᴰ.head e) = record { front = []; back = flat_map f ys; joined = ap (λ (z : A). f z ++ flat_map f ys) (sym e) }
   run-flat_map {xs = y ∷ ys} (Memᴰ.tail m) =
       let r = run-flat_map m in

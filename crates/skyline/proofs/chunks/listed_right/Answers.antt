@@ -7,7 +7,18 @@ use Rattle.promises.specs.Run.{Bytes}
 use Rattle.skyline.specs.Chunks.{Unhidden, Highs}
 use Rattle.skyline.specs.Laws.Unhidden.{unhidden-none, unhidden-chunk, unhidden-right, hidden-wrong}
 use Rattle.skyline.proofs.chunks.listed_right.Goals.{else-from-eq0, then-from-eq0}
+use Rattle.skyline.proofs.chunks.listed_right.Goals.{Joined-from-eq0}
 use Rattle.skyline.proofs.chunks.listed_right.Goals as goal
+
+-- The greatest bounds were made for the first chunk, or are there.
+there : (c : Joined-from-eq0) → Highs c.args.h.size c.args.h.dimension c.args.m.now c.args.h.count c.if-from-eq0.highs
+there c =
+    let a = c.args in
+    let There : List (List ℕ) → Type 0 = Highs a.h.size a.h.dimension a.m.now a.h.count in
+    elim c.if-from-eq0.branch [
+      | then-from-eq0 w ↦ subst There (sym w.highs-is) w.put_highs.ensures
+      | else-from-eq0 w ↦ subst There (sym w.highs-is) (c.loop-from.invariant.3 (omega (arith, w.if-from-eq0.false)) (omega (arith, c.loop-from-test.true)))
+    ]
 
 pub loop-from-init : goal.loop-from-init
 loop-from-init c = (omega arith, λ j l g t k z s. absurd (omega arith), c.requires.2, λ l. absurd (omega arith))
@@ -23,7 +34,7 @@ returns-then-not-chunk c =
     let bytes : Bytes a.m.now = λ i. omega (arith, c.shared_slice_known-1.given i) in
     let next = c.next_chunk-chunk in
     sym
-    (hidden-wrong a.h.size a.h.dimension a.h.count a.m.now s.requires.0.dimension bytes s.requires.1
+    (hidden-wrong a.h.size a.h.dimension a.h.count a.m.now c.requires.0.dimension bytes c.requires.1
     (next.ensures.said.false-says (not-true next.result.unhidden c.if-not-chunk.true)))
 
 pub put_highs-requires : goal.put_highs-requires
@@ -32,23 +43,18 @@ put_highs-requires c =
 
 pub later_unhidden-requires : goal.later_unhidden-requires
 later_unhidden-requires c =
-    let a = c.args in
-    let own = c.loop-from in
     let next = c.next_chunk-chunk in
     let unhidden = not-false next.result.unhidden c.if-not-chunk.false in
-    -- The greatest bounds were made for the first chunk, or are there.
-    let There : List (List ℕ) → Type 0 = Highs a.h.size a.h.dimension a.m.now a.h.count in
-    record { readable = (c.requires.0, next.ensures.end); gathered_chunk = (next.ensures.gathered, next.ensures.some unhidden); highs = elim c.if-from-eq0.branch [ then-from-eq0 w ↦ subst There (sym w.highs-is) w.put_highs.ensures | else-from-eq0 w ↦ subst There (sym w.highs-is) (own.invariant.3 (omega (arith, w.if-from-eq0.false)) (omega (arith, c.loop-from-test.true))) ] }
+    record { readable = (c.requires.0, next.ensures.end); gathered_chunk = (next.ensures.gathered, next.ensures.some unhidden); highs = there (goal.at.later_unhidden-requires c).Joined-from-eq0 }
 
 pub returns-then-not-later_unhidden : goal.returns-then-not-later_unhidden
 unfolding Bytes
 returns-then-not-later_unhidden c =
-    let s = c in
-    let a = s.args in
+    let a = c.args in
     let bytes : Bytes a.m.now = λ i. omega (arith, c.shared_slice_known-1.given i) in
     let later = c.later_unhidden in
     sym
-    (hidden-wrong a.h.size a.h.dimension a.h.count a.m.now s.requires.0.dimension bytes s.requires.1
+    (hidden-wrong a.h.size a.h.dimension a.h.count a.m.now c.requires.0.dimension bytes c.requires.1
     (later.ensures.false-says (c.if-not-later_unhidden.true)))
 
 pub loop-from-smaller-else-not-later_unhidden : goal.loop-from-smaller-else-not-later_unhidden
@@ -61,9 +67,7 @@ loop-from-preserved-else-not-later_unhidden c =
     let a = c.args in
     let own = c.loop-from in
     let next = c.next_chunk-chunk in
-    let There : List (List ℕ) → Type 0 = Highs a.h.size a.h.dimension a.m.now a.h.count in
-    let there : Highs a.h.size a.h.dimension a.m.now a.h.count c.if-from-eq0.highs =
-    elim c.if-from-eq0.branch [ then-from-eq0 w ↦ subst There (sym w.highs-is) w.put_highs.ensures | else-from-eq0 w ↦ subst There (sym w.highs-is) (own.invariant.3 (omega (arith, w.if-from-eq0.false)) (omega (arith, c.loop-from-test.true))) ] in
+    let high = there (goal.at.loop-from-preserved-else-not-later_unhidden c).Joined-from-eq0 in
     let n = a.h.count in
     let to = next.result.to in
     let later = c.later_unhidden in (
@@ -71,8 +75,8 @@ loop-from-preserved-else-not-later_unhidden c =
       unhidden-chunk a.h.size a.h.dimension a.m.now n own.from to own.invariant.1
           (next.ensures.said.true-says (not-false next.result.unhidden c.if-not-chunk.false))
           (subst (λ (z : ℕ). Unhidden a.h.size a.h.dimension a.m.now z to to n) next.ensures.starts (later.ensures.true-says (c.if-not-later_unhidden.false))),
-      there.runs,
-      λ _ _. there,
+      high.runs,
+      λ _ _. high,
     )
 
 -- The chunk goes to the last place.
@@ -106,5 +110,5 @@ returns c =
     let bytes : Bytes a.m.now = λ i. omega (arith, c.shared_slice_known-1.given i) in
     let all : own.from ≡ a.h.count = omega arith in
     sym
-    (unhidden-right a.h.size a.h.dimension a.h.count a.m.now s.requires.0.dimension bytes s.requires.1
+    (unhidden-right a.h.size a.h.dimension a.h.count a.m.now c.requires.0.dimension bytes c.requires.1
     (subst (λ (z : ℕ). Unhidden a.h.size a.h.dimension a.m.now 0 z 0 a.h.count) all own.invariant.1))

@@ -36,8 +36,7 @@ found_from-last-requires c = record { readable = (c.requires.0, omega (arith, c.
 pub returns-then-i-last-2 : goal.returns-then-i-last-2
 unfolding Bytes looks_at looks is_listed
 returns-then-i-last-2 c =
-    let s = c in
-    let a = s.args in
+    let a = c.args in
     let own = c.loop-i in
     let inside : own.i < a.h.count = omega (arith, c.loop-i-test.true) in
     let bytes : Bytes a.m.now = λ k. omega (arith, c.shared_slice_known-1.given k) in
@@ -45,7 +44,7 @@ returns-then-i-last-2 c =
     let some = subst (λ (q : List ℕ). ListedSome a.h a.m.now q own.i found.result) c.bounds_at-q.ensures found.ensures in
     sym
     (hidden-fail a.h.size a.h.dimension a.m.now a.h.count own.i inside (sym c.looks_at.ensures ∙ c.if-looks_at.false)
-    (hidden-at a.h.size a.h.dimension a.m.now s.requires.0.dimension bytes a.h.count s.requires.1 own.i found.result inside some
+    (hidden-at a.h.size a.h.dimension a.m.now c.requires.0.dimension bytes a.h.count c.requires.1 own.i found.result inside some
     ∙ le-ltb found.result own.i (omega (arith, c.if-i-last-2.true))))
 
 pub seen_at-requires : goal.seen_at-requires
