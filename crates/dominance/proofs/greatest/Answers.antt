@@ -13,9 +13,8 @@ loop-i-init c = let a = c.args in (omega arith, filled_none (greater a.p a.q) a.
 -- The greater of two costs is a cost.
 pub overflow_add-row : goal.overflow_add-row
 overflow_add-row c =
-    let s = c.before.before.before in
     let i = c.loop-i.i in
-    omega (arith, c.over.ensures, (row-costs {cs = s.args.p} s.well_formed.0).small i, (row-costs {cs = s.args.q} s.well_formed.1.0).small i)
+    omega (arith, c.over.ensures, (row-costs {cs = c.args.p} c.well_formed.0).small i, (row-costs {cs = c.args.q} c.well_formed.1.0).small i)
 
 pub loop-i-preserved : goal.loop-i-preserved
 loop-i-preserved c =

@@ -1,26 +1,16 @@
 -- `hides` meets its contract. Assumes nothing.
 use mathlib.Core.Bool.{Bool, not, ◌&&◌, ◌||◌}
-use mathlib.Core.Path.{◌≡◌, sym, ap, ap₂, ◌∙◌}
+use mathlib.Core.Path.{sym, ap, ap₂, ◌∙◌}
 use lib.Dec.{ltb}
-use lib.ListN.{length}
-use Rattle.zorder.specs.Address.{row_costs}
 use Rattle.model.specs.Dominance.{less, lower_twin, hides}
 use Rattle.dominance.specs.Laws.Sums.{test-number, exceeds-dominate-or-equal}
-use Rattle.dominance.proofs.hides.Goals.{Start}
 use Rattle.dominance.proofs.hides.Goals as goal
 
 -- An array in a struct has its length.
-count-p : (c : Start) → length c.args.p.costs ≡ row_costs
-count-p c = c.well_formed.1.0.1.1.1.0.1.0.1
-
-count-q : (c : Start) → length c.args.q.costs ≡ row_costs
-count-q c = c.well_formed.1.1.0.1.1.1.0.1.0.1
-
 pub returns : goal.returns
 unfolding hides lower_twin less
 returns c =
-    let start = c.before.before.before.before.before in
-    let a = start.args in
+    let a = c.args in
     let lower = ap (ltb 0) c.less-lower.ensures ∙ test-number (ltb a.p.number a.q.number) in
     ap₂ (λ (s t : Bool). not s && t) c.exceeds.ensures (ap₂ ◌||◌ lower c.exceeds-2.ensures)
-    ∙ exceeds-dominate-or-equal a.d a.p.costs a.q.costs (ltb a.p.number a.q.number) (count-p start ∙ sym (count-q start))
+    ∙ exceeds-dominate-or-equal a.d a.p.costs a.q.costs (ltb a.p.number a.q.number) (c.well_formed.1.0.1.1.1.0.1.0.1 ∙ sym c.well_formed.1.1.0.1.1.1.0.1.0.1)

@@ -12,9 +12,8 @@ next_within-j-requires c = let asked = c.requires in record { readable = (asked.
 pub loop-j-init : goal.loop-j-init
 unfolding Bytes
 loop-j-init c =
-    let s = c.before.before.before in
-    let a = s.args in
-    sought-first a.h.size a.h.dimension a.goes a.i a.m.now a.near c.bounds_of-q.result s.requires.readable.0.dimension
+    let a = c.args in
+    sought-first a.h.size a.h.dimension a.goes a.i a.m.now a.near c.bounds_of-q.result c.requires.readable.0.dimension
     (λ k. omega (arith, c.shared_slice_known-1.given k)) (omega arith) c.bounds_of-q.ensures c.next_within-j.result c.next_within-j.ensures
 
 pub number_at-requires : goal.number_at-requires
@@ -28,16 +27,15 @@ costs_of-costs-requires c =
 pub returns-then-j-goes : goal.returns-then-j-goes
 unfolding Bytes
 returns-then-j-goes c =
-    let s = c.before.before.before.before.before.before.before.before.before in
-    let a = s.args in
+    let a = c.args in
     let own = c.loop-j in
     let q = c.bounds_of-q in
     let number = c.number_at in
     let costs = c.costs_of-costs in
     let less = c.exceeds in
     sym
-    (sought-found a.h.size a.h.dimension a.goes a.i a.m.now a.near q.result s.requires.readable.0.dimension
-    (λ k. omega (arith, c.shared_slice_known-1.given k)) (omega (arith, s.well_formed)) q.ensures own.j own.invariant
+    (sought-found a.h.size a.h.dimension a.goes a.i a.m.now a.near q.result c.requires.readable.0.dimension
+    (λ k. omega (arith, c.shared_slice_known-1.given k)) (omega (arith, c.well_formed)) q.ensures own.j own.invariant
     number.result number.ensures costs.result costs.ensures (not (eqb own.j a.goes) && less.result) (ap (λ (t : Bool). not (eqb own.j a.goes) && t) less.ensures) c.loop-j-test.true c.if-j-goes.true)
 
 pub next_within-j-requires-in-loop-j : goal.next_within-j-requires-in-loop-j
@@ -48,15 +46,14 @@ next_within-j-requires-in-loop-j c =
 pub loop-j-preserved : goal.loop-j-preserved
 unfolding Bytes
 loop-j-preserved c =
-    let s = c.before.before.before.before.before.before.before.before.before.before in
-    let a = s.args in
+    let a = c.args in
     let own = c.loop-j in
     let q = c.bounds_of-q in
     let number = c.number_at in
     let costs = c.costs_of-costs in
     let less = c.exceeds in
-    sought-next a.h.size a.h.dimension a.goes a.i a.m.now a.near q.result s.requires.readable.0.dimension
-    (λ k. omega (arith, c.shared_slice_known-1.given k)) (omega (arith, s.well_formed)) q.ensures own.j own.invariant
+    sought-next a.h.size a.h.dimension a.goes a.i a.m.now a.near q.result c.requires.readable.0.dimension
+    (λ k. omega (arith, c.shared_slice_known-1.given k)) (omega (arith, c.well_formed)) q.ensures own.j own.invariant
     number.result number.ensures costs.result costs.ensures (not (eqb own.j a.goes) && less.result) (ap (λ (t : Bool). not (eqb own.j a.goes) && t) less.ensures) c.if-j-goes.false c.next_within-j-in-loop-j.result c.next_within-j-in-loop-j.ensures
 
 pub returns : goal.returns

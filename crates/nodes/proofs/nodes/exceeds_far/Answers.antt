@@ -17,8 +17,7 @@ returns-then-h-goes c =
 
 pub costs_of-going-requires : goal.costs_of-going-requires
 costs_of-going-requires c =
-    let start = c.before.before.before.before in
-    (start.requires.room, omega (arith, c.number_at.ensures, start.requires.numbers start.args.goes (omega arith)), start.requires.dimension)
+    (c.requires.room, omega (arith, c.number_at.ensures, c.requires.numbers c.args.goes (omega arith)), c.requires.dimension)
 
 pub returns : goal.returns
 returns c =

@@ -11,10 +11,9 @@ level_at-l-requires c = let asked = held-readable c.requires.sound_at.0 in (aske
 pub loop-i-init : goal.loop-i-init
 unfolding Bytes
 loop-i-init c =
-    let start = c.before.before in
-    let a = start.args in
-    let s = sound-searchable a.h.size a.h.dimension a.h.count a.m.now start.requires.sound_at.0 (λ j. omega (arith, c.shared_slice_known-1.given j)) in
-    (s, search-start s a.goes a.from start.requires.nodes_from c.level_at-l.result c.level_at-l.ensures)
+    let a = c.args in
+    let s = sound-searchable a.h.size a.h.dimension a.h.count a.m.now c.requires.sound_at.0 (λ j. omega (arith, c.shared_slice_known-1.given j)) in
+    (s, search-start s a.goes a.from c.requires.nodes_from c.level_at-l.result c.level_at-l.ensures)
 
 pub node_end-e-requires : goal.node_end-e-requires
 node_end-e-requires c = let s = c.loop-i.invariant.0 in (s.readable.room, s.readable.rows, omega arith)
@@ -22,8 +21,7 @@ node_end-e-requires c = let s = c.loop-i.invariant.0 in (s.readable.room, s.read
 pub opens-requires : goal.opens-requires
 opens-requires c =
     let f = c.node_end-e.ensures in
-    let start = c.before.before.before.before.before in
-    record { readable = (c.loop-i.invariant.0.readable, f.after, f.within); listed_corners = corners-fewer (omega arith) start.requires.sound_at.1 }
+    record { readable = (c.loop-i.invariant.0.readable, f.after, f.within); listed_corners = corners-fewer (omega arith) c.requires.sound_at.1 }
 
 pub level_at-l-requires-then-not-opens : goal.level_at-l-requires-then-not-opens
 level_at-l-requires-then-not-opens c = let s = c.loop-i.invariant.0 in (s.readable.room, s.readable.rows)

@@ -7,9 +7,8 @@ use Rattle.nodes.proofs.nodes.nodes_opened.Goals as goal
 pub loop-i-init : goal.loop-i-init
 unfolding Bytes
 loop-i-init c =
-    let start = c.before.before in
-    let a = start.args in
-    counting-none (sound-searchable a.h.size a.h.dimension a.h.count a.m.now start.requires (λ j. omega (arith, c.shared_slice_known-1.given j)))
+    let a = c.args in
+    counting-none (sound-searchable a.h.size a.h.dimension a.h.count a.m.now c.requires (λ j. omega (arith, c.shared_slice_known-1.given j)))
 
 pub next_leaf-leaf-requires : goal.next_leaf-leaf-requires
 next_leaf-leaf-requires c =
@@ -18,11 +17,10 @@ next_leaf-leaf-requires c =
 pub overflow_add-opened : goal.overflow_add-opened
 unfolding Bytes
 overflow_add-opened c =
-    let start = c.before.before.before.before.before.before.before in
-    let a = start.args in
+    let a = c.args in
     let own = c.loop-i in
     let leaf = c.next_leaf-leaf in
-    let s = sound-searchable a.h.size a.h.dimension a.h.count a.m.now start.requires (λ j. omega (arith, c.shared_slice_known-1.given j)) in
+    let s = sound-searchable a.h.size a.h.dimension a.h.count a.m.now c.requires (λ j. omega (arith, c.shared_slice_known-1.given j)) in
     omega (arith, counting-few s own.opened own.i leaf.result own.invariant leaf.ensures, s.readable.rows, s.readable.room.1)
 
 pub loop-i-smaller : goal.loop-i-smaller

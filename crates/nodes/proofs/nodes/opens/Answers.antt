@@ -8,15 +8,13 @@ use Rattle.nodes.proofs.nodes.opens.Goals as goal
 
 pub costs_of-first-requires : goal.costs_of-first-requires
 costs_of-first-requires c =
-    let start = c.before.before in
-    let rows = start.requires.readable.0 in
-    (rows.room, omega (arith, c.number_at.ensures, rows.numbers start.args.i (omega arith)), rows.dimension)
+    let rows = c.requires.readable.0 in
+    (rows.room, omega (arith, c.number_at.ensures, rows.numbers c.args.i (omega arith)), rows.dimension)
 
 pub costs_of-last-requires : goal.costs_of-last-requires
 costs_of-last-requires c =
-    let start = c.before.before.before.before in
-    let rows = start.requires.readable.0 in
-    (rows.room, omega (arith, c.number_at-2.ensures, rows.numbers (start.args.e - 1) (omega arith)), rows.dimension)
+    let rows = c.requires.readable.0 in
+    (rows.room, omega (arith, c.number_at-2.ensures, rows.numbers (c.args.e - 1) (omega arith)), rows.dimension)
 
 pub returns-then-exceeds_far : goal.returns-then-exceeds_far
 returns-then-exceeds_far c =

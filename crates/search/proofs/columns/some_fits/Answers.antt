@@ -5,9 +5,8 @@ use Rattle.search.proofs.columns.some_fits.Goals as goal
 
 pub returns-then-d-le4 : goal.returns-then-d-le4
 returns-then-d-le4 c =
-    let s = c.before.before in
-    let a = s.args in
-    fits_said a.columns.now a.q (omega arith) 4 c.fitting.result c.fitting.ensures (omega arith) (λ k l. s.requires k (omega (arith, c.if-d-le4.true)))
+    let a = c.args in
+    fits_said a.columns.now a.q (omega arith) 4 c.fitting.result c.fitting.ensures (omega arith) (λ k l. c.requires k (omega (arith, c.if-d-le4.true)))
 
 pub returns : goal.returns
 returns c =

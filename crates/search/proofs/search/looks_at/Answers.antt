@@ -5,7 +5,7 @@ use Rattle.search.specs.Search.{looks, looks_at}
 use Rattle.search.proofs.search.looks_at.Goals as goal
 
 pub looks-requires : goal.looks-requires
-looks-requires c = let s = c.before.before in (s.requires.0.room, omega (arith, c.number_at.ensures, s.requires.0.numbers s.args.i s.requires.1))
+looks-requires c = (c.requires.0.room, omega (arith, c.number_at.ensures, c.requires.0.numbers c.args.i c.requires.1))
 
 pub returns : goal.returns
 unfolding looks_at
@@ -14,4 +14,4 @@ returns c =
     c.looks.ensures ∙ ap (looks a.among a.h.size a.m.now) c.number_at.ensures
 
 pub number_at-requires : goal.number_at-requires
-number_at-requires c = let s = c.before in (s.requires.0.room, omega (arith, s.requires.0.rows, s.requires.1))
+number_at-requires c = (c.requires.0.room, omega (arith, c.requires.0.rows, c.requires.1))

@@ -39,14 +39,13 @@ loop-f-preserved-else-j-e c =
 -- Its corner says that it need not be.
 pub loop-f-preserved : goal.loop-f-preserved
 loop-f-preserved c =
-    let s = c.before.before.before.before.before.before.before in
-    let a = s.args in
+    let a = c.args in
     let own = c.loop-f in
     let e = c.run_end-e.result in (
       omega arith,
       omega arith,
       none-join (fits a.among a.h.size a.m.now a.q) a.i own.f e own.invariant.2
-          (run-passed a.among a.h.size a.m.now a.q a.to own.f e a.corners.now s.requires.corners (omega arith) (omega arith) (omega arith)
+          (run-passed a.among a.h.size a.m.now a.q a.to own.f e a.corners.now c.requires.corners (omega arith) (omega arith) (omega arith)
           (sym c.exceeds.ensures ∙ c.if-not-exceeds.false)),
     )
 

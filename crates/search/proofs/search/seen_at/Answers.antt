@@ -8,7 +8,7 @@ use Rattle.search.proofs.search.seen_at.Goals as goal
 
 pub costs_of-requires : goal.costs_of-requires
 costs_of-requires c =
-    let s = c.before.before in (s.requires.0.room, omega (arith, c.number_at.ensures, s.requires.0.numbers s.args.i s.requires.1), omega arith)
+    (c.requires.0.room, omega (arith, c.number_at.ensures, c.requires.0.numbers c.args.i c.requires.1), omega arith)
 
 pub returns : goal.returns
 unfolding seen_at

@@ -39,14 +39,13 @@ loop-f-preserved-else-not-run_unhidden c =
 -- The run is passed by.
 pub loop-f-preserved : goal.loop-f-preserved
 loop-f-preserved c =
-    let s = c.before.before.before.before.before.before.before.before in
-    let a = s.args in
+    let a = c.args in
     let own = c.loop-f in
     let e = c.run_end-e in (
       omega (arith, own.invariant, e.ensures),
       omega (arith, e.ensures),
       unhidden-join a.h.size a.h.dimension a.m.now a.chunk.from a.chunk.to a.chunk.to own.f e.result own.invariant.2
-          (high-unhidden a.chunk.from a.chunk.to a.h.count own.f e.result a.columns.now a.chunk.low a.highs.now s.requires.gathered_chunk.0 s.requires.highs e.ensures.2 e.ensures.1
+          (high-unhidden a.chunk.from a.chunk.to a.h.count own.f e.result a.columns.now a.chunk.low a.highs.now c.requires.gathered_chunk.0 c.requires.highs e.ensures.2 e.ensures.1
           (sym c.exceeds.ensures ∙ c.if-not-exceeds.false)),
     )
 

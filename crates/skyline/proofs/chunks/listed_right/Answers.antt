@@ -29,8 +29,7 @@ next_chunk-chunk-requires c = (c.requires.0, omega arith)
 pub returns-then-not-chunk : goal.returns-then-not-chunk
 unfolding Bytes
 returns-then-not-chunk c =
-    let s = c.before.before.before.before.before.before.before in
-    let a = s.args in
+    let a = c.args in
     let bytes : Bytes a.m.now = λ i. omega (arith, c.shared_slice_known-1.given i) in
     let next = c.next_chunk-chunk in
     sym
@@ -104,8 +103,7 @@ loop-from-preserved c =
 pub returns : goal.returns
 unfolding Bytes
 returns c =
-    let s = c.before.before.before in
-    let a = s.args in
+    let a = c.args in
     let own = c.loop-from in
     let bytes : Bytes a.m.now = λ i. omega (arith, c.shared_slice_known-1.given i) in
     let all : own.from ≡ a.h.count = omega arith in

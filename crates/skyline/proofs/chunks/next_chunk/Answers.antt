@@ -39,14 +39,12 @@ loop-i-init c =
 
 pub looks_at-requires : goal.looks_at-requires
 looks_at-requires c =
-    let s = c.before.before.before in
-    (s.requires.0, inside c.loop-i.i s.args.h.count _ c.loop-i-test.true)
+    (c.requires.0, inside c.loop-i.i c.args.h.count _ c.loop-i-test.true)
 
 pub bounds_at-q-requires : goal.bounds_at-q-requires
 bounds_at-q-requires c =
-    let s = c.before.before.before.before.before in
     let own = c.loop-i in
-    (s.requires.0, inside own.i s.args.h.count _ c.loop-i-test.true)
+    (c.requires.0, inside own.i c.args.h.count _ c.loop-i-test.true)
 
 pub some_fits-requires : goal.some_fits-requires
 some_fits-requires c =
@@ -57,8 +55,7 @@ some_fits-requires c =
 pub returns-then-some_fits : goal.returns-then-some_fits
 unfolding Bytes
 returns-then-some_fits c =
-    let s = c.before.before.before.before.before.before.before.before.before.before.before in
-    let a = s.args in
+    let a = c.args in
     let own = c.loop-i in
     let bounds = c.bounds_at-q in
     let bytes : Bytes a.m.now = λ k. omega (arith, c.shared_slice_known-1.given k) in
@@ -82,9 +79,8 @@ returns-then-some_fits c =
 
 pub seen_at-costs-requires : goal.seen_at-costs-requires
 seen_at-costs-requires c =
-    let s = c.before.before.before.before.before.before.before.before in
     let own = c.loop-i in
-    (s.requires.0, inside own.i s.args.h.count _ c.loop-i-test.true)
+    (c.requires.0, inside own.i c.args.h.count _ c.loop-i-test.true)
 
 pub put-requires : goal.put-requires
 put-requires c =
@@ -146,12 +142,11 @@ loop-i-preserved c =
 pub returns : goal.returns
 returns c =
     let own = c.loop-i in
-    let s = c.before.before.before in
     record {
       starts = refl;
-      more = λ _. chunk-grows s.args.from s.args.h.count own.i own.count s.requires.1 own.invariant.3 c.loop-i-test.false;
+      more = λ _. chunk-grows c.args.from c.args.h.count own.i own.count c.requires.1 own.invariant.3 c.loop-i-test.false;
       end = own.invariant.1;
       gathered = own.invariant.5;
-      some = λ _ l. omega (arith, own.invariant.4, chunk-some s.args.h.count own.i own.count c.loop-i-test.false l);
+      some = λ _ l. omega (arith, own.invariant.4, chunk-some c.args.h.count own.i own.count c.loop-i-test.false l);
       said = record { true-says = λ _. own.invariant.6; false-says = λ e. both_ways refl e };
     }

@@ -29,8 +29,7 @@ some_fits-requires c =
 pub returns-then-some_fits : goal.returns-then-some_fits
 unfolding Bytes
 returns-then-some_fits c =
-    let s = c.before.before.before.before.before.before.before.before.before.before.before in
-    let x = s.args in
+    let x = c.args in
     let own = c.loop-j in
     let bounds = c.bounds_at-q in
     let bytes : Bytes x.m.now = λ i. omega (arith, c.shared_slice_known-1.given i) in
@@ -38,8 +37,8 @@ returns-then-some_fits c =
       true-says = λ e. both_ways e refl;
       false-says = λ _.
           columns-some x.h.size x.h.dimension x.m.now own.j bounds.result bounds.ensures x.chunk.from x.chunk.to x.columns.now x.chunk.low
-          s.requires.gathered_chunk.0 bytes s.requires.gathered_chunk.1 (omega (arith, s.requires.readable, own.invariant)) x.h.count
-          (omega (arith, s.requires.readable, c.loop-j-test.true))
+          c.requires.gathered_chunk.0 bytes c.requires.gathered_chunk.1 (omega (arith, c.requires.readable, own.invariant)) x.h.count
+          (omega (arith, c.requires.readable, c.loop-j-test.true))
           (sym c.looks_at.ensures ∙ c.if-looks_at.true)
           (c.some_fits.ensures.true-says c.if-some_fits.true);
     }
@@ -62,13 +61,12 @@ loop-j-preserved c =
 
 pub returns : goal.returns
 returns c =
-    let s = c.before.before.before.before in
-    let x = s.args in
+    let x = c.args in
     let own = c.loop-j in
     let all : own.j ≡ x.to = omega arith in
     record {
       true-says = λ _.
           subst (Unhidden x.h.size x.h.dimension x.m.now x.chunk.from x.chunk.to x.i) all
-          (own.invariant.2 x.chunk.from x.chunk.to s.requires.gathered_chunk.0);
+          (own.invariant.2 x.chunk.from x.chunk.to c.requires.gathered_chunk.0);
       false-says = λ e. both_ways refl e;
     }

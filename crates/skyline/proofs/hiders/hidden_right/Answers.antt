@@ -53,8 +53,7 @@ seen_at-requires c = (c.requires.0, omega (arith, c.loop-i-test.true, c.if-i-las
 pub loop-i-preserved : goal.loop-i-preserved
 unfolding Bytes looks_at looks is_listed
 loop-i-preserved c =
-    let s = c.before.before.before.before.before in
-    let a = s.args in
+    let a = c.args in
     let own = c.loop-i in
     let inside : own.i < a.h.count = omega (arith, c.loop-i-test.true) in
     let bytes : Bytes a.m.now = λ k. omega (arith, c.shared_slice_known-1.given k) in
@@ -63,7 +62,7 @@ loop-i-preserved c =
     → hidden_right a.h.size a.h.dimension (own.i + 1) a.m.now ≡ true =
     λ q r e l some.
     hidden-more a.h.size a.h.dimension a.m.now own.i own.invariant.3
-    (hidden-at a.h.size a.h.dimension a.m.now s.requires.0.dimension bytes a.h.count s.requires.1 own.i r inside
+    (hidden-at a.h.size a.h.dimension a.m.now c.requires.0.dimension bytes a.h.count c.requires.1 own.i r inside
     (subst (λ (x : List ℕ). ListedSome a.h a.m.now x own.i r) e some)
     ∙ lt-ltb r own.i l) in
     let For : List (List ℕ) → Type 0 = λ r. ListedCorners a.h a.m.now (own.i + 1) r in (
@@ -71,7 +70,7 @@ loop-i-preserved c =
       elim c.if-looks_at.branch [ then-looks_at w ↦ omega (arith, w.at-is, own.invariant) | else-looks_at+then-i-last+else-i-last-2 w ↦ omega (arith, w.at-is, own.invariant) | else-looks_at+else-i-last w ↦ omega (arith, w.at-is, own.invariant) ],
       elim c.if-looks_at.branch [
         | then-looks_at w ↦ subst For (sym w.corners-is)
-            (corners-more own.i (own.i + 1) own.corners w.corner_with.result (omega (arith, inside, s.requires.0.rows, s.requires.0.room)) (omega arith) own.invariant.2 w.corner_with.ensures)
+            (corners-more own.i (own.i + 1) own.corners w.corner_with.result (omega (arith, inside, c.requires.0.rows, c.requires.0.room)) (omega arith) own.invariant.2 w.corner_with.ensures)
         | else-looks_at+then-i-last+else-i-last-2 w ↦ subst For (sym w.corners-is) (corners-unlooked own.i own.corners (shown ∙ w.if-looks_at.false) own.invariant.2)
         | else-looks_at+else-i-last w ↦ subst For (sym w.corners-is) (corners-unlooked own.i own.corners (shown ∙ w.if-looks_at.false) own.invariant.2)
       ],

@@ -1,6 +1,6 @@
 -- `corners::region` meets its contract: its checks are those of the definition, in their order, and the corners' costs are the
 -- first address's costs with their last bits filled. Assumes nothing.
-use Prim.Native.Nat.{ℕ, suc, ◌*◌, ◌%◌, ◌^◌, ◌≤◌}
+use Prim.Native.Nat.{ℕ, suc, ◌*◌, ◌%◌, ◌^◌}
 use mathlib.Core.Bool.{Bool, true, false, ◌||◌}
 use mathlib.Core.List.{List, map}
 use mathlib.Core.Path.{◌≡◌, refl, sym, ap, ap₂, ◌∙◌}
@@ -8,7 +8,7 @@ use native.Mathlib.Omega.{arith}
 use lib.Dec.{ltb}
 use lib.ListN.{take}
 use lib.Pow.{pow_mono}
-use Rattle.zorder.specs.Address.{row_costs, costs_of, padded}
+use Rattle.zorder.specs.Address.{costs_of, padded}
 use Rattle.zorder.specs.Promise.{RegionPromise, RefusedRegion, number_of}
 use Rattle.zorder.specs.Refusal.{or_zero, or_zeros, cost_count_bad, address_bad, region_refusal, refusal}
 use Rattle.zorder.specs.Region.{unkept, zeros_below, ones_below, near_corner, far_corner, side}
@@ -21,7 +21,6 @@ use Rattle.zorder.specs.Words.{value}
 use Rattle.zorder.proofs.Laws.Refusal.{count-right, address-right}
 use Rattle.zorder.proofs.Checks.{three-checks, no-detail}
 use Rattle.zorder.proofs.Row.{take-padded}
-use Rattle.zorder.proofs.corners.region.Goals.{After-unkept-u, Else-cost_count_bad, Else-too_large, Else-too_large-2}
 use Rattle.zorder.proofs.corners.region.Goals.{then-too_large-via-then-too_large, then-too_large-via-else-too_large+then-too_large-2, then-too_large-via-else-too_large+else-too_large-2+then-below}
 use Rattle.zorder.proofs.corners.region.Goals as goal
 
@@ -78,35 +77,21 @@ passed : (d a b : ℕ) → cost_count_bad d ≡ false → (address_bad d a || ad
 unfolding region_refusal refusal
 passed d a b right good ordered = three-checks false false false right good ordered
 
--- What the checks passed at each place tell.
-right-count : (c : Else-cost_count_bad) → cost_count_bad c.args.d ≡ false
-right-count c = sym c.cost_count_bad.ensures ∙ c.if-cost_count_bad.false
-
-first_good : (c : Else-too_large) → address_bad c.args.d (value c.args.a) ≡ false
-first_good c = sym c.too_large.ensures ∙ c.if-too_large.false
-
-second-good : (c : Else-too_large-2) → address_bad c.args.d (value c.args.b) ≡ false
-second-good c = sym c.too_large-else-too_large.ensures ∙ c.if-too_large-2.false
-
-right-at : (c : After-unkept-u) → c.args.d ≤ row_costs
-right-at c = (count-right c.args.d (right-count c.before.before.before.before.before.before.before)).1
-
 pub returns-then-cost_count_bad : goal.returns-then-cost_count_bad
 returns-then-cost_count_bad c =
-    let s = c.before.before in
-    let a = s.args in
-    bad-count a.d (value a.a) (value a.b) c.refused.result (sym s.cost_count_bad.ensures ∙ c.if-cost_count_bad.true) c.refused.ensures
+    let a = c.args in
+    bad-count a.d (value a.a) (value a.b) c.refused.result (sym c.cost_count_bad.ensures ∙ c.if-cost_count_bad.true) c.refused.ensures
 
 pub too_large-requires : goal.too_large-requires
-too_large-requires c = (count-right c.args.d (right-count c)).1
+too_large-requires c = (count-right c.args.d (sym c.cost_count_bad.ensures ∙ c.if-cost_count_bad.false)).1
 
 pub too_large-requires-else-too_large : goal.too_large-requires-else-too_large
-too_large-requires-else-too_large c = (count-right c.args.d (right-count c.before.before)).1
+too_large-requires-else-too_large c = (count-right c.args.d (sym c.cost_count_bad.ensures ∙ c.if-cost_count_bad.false)).1
 
 pub returns-then-too_large : goal.returns-then-too_large
 returns-then-too_large c =
     let a = c.args in
-    let right = right-count c.before.before.before in
+    let right = sym c.cost_count_bad.ensures ∙ c.if-cost_count_bad.false in
     let R = c.refused-then-too_large.ensures in
     let first = sym c.too_large.ensures in
     let large = bad-large a.d (value a.a) (value a.b) c.refused-then-too_large.result right R in
@@ -121,45 +106,42 @@ returns-then-too_large c =
 
 pub unkept-u-requires : goal.unkept-u-requires
 unkept-u-requires c =
-    let s = c.before.before.before.before in
-    let a = s.args in
-    let right = count-right a.d (right-count s.before.before) in
-    let below = address-right a.d (value a.a) (first_good s) in
-    let also = address-right a.d (value a.b) (second-good c.before.before) in
+    let a = c.args in
+    let right = count-right a.d (sym c.cost_count_bad.ensures ∙ c.if-cost_count_bad.false) in
+    let below = address-right a.d (value a.a) (sym c.too_large.ensures ∙ c.if-too_large.false) in
+    let also = address-right a.d (value a.b) (sym c.too_large-else-too_large.ensures ∙ c.if-too_large-2.false) in
     (omega arith, right.1, below, also)
 
 pub separated-costs-requires : goal.separated-costs-requires
-separated-costs-requires c = right-at c
+separated-costs-requires c = (count-right c.args.d (sym c.cost_count_bad.ensures ∙ c.if-cost_count_bad.false)).1
 
 pub near-requires : goal.near-requires
-near-requires c = (right-at c.before, c.unkept-u.ensures.1)
+near-requires c = ((count-right c.args.d (sym c.cost_count_bad.ensures ∙ c.if-cost_count_bad.false)).1, c.unkept-u.ensures.1)
 
 pub far-requires : goal.far-requires
-far-requires c = (right-at c.before.before, c.unkept-u.ensures.1)
+far-requires c = ((count-right c.args.d (sym c.cost_count_bad.ensures ∙ c.if-cost_count_bad.false)).1, c.unkept-u.ensures.1)
 
 pub returns : goal.returns
 returns c =
-    let u = c.before.before.before in
-    let e = u.before.before.before in
-    let a = e.args in
+    let a = c.args in
     accepted
     a.d
     (value a.a)
     (value a.b)
-    u.unkept-u.result
+    c.unkept-u.result
     c.separated-costs.result
-    u.unkept-u.ensures.0
+    c.unkept-u.ensures.0
     c.separated-costs.ensures
     c.near.result
     c.far.result
-    (1 * 2 ^ u.unkept-u.result % 2 ^ 32)
+    (1 * 2 ^ c.unkept-u.result % 2 ^ 32)
     c.near.ensures
     c.far.ensures
-    (omega (arith, pow_mono u.unkept-u.ensures.1))
+    (omega (arith, pow_mono c.unkept-u.ensures.1))
     (passed
     a.d
     (value a.a)
     (value a.b)
-    (right-count e.before.before.before.before)
-    (ap₂ ◌||◌ (first_good e.before.before) (second-good e))
-    (sym u.below.ensures ∙ u.if-below.false))
+    (sym c.cost_count_bad.ensures ∙ c.if-cost_count_bad.false)
+    (ap₂ ◌||◌ (sym c.too_large.ensures ∙ c.if-too_large.false) (sym c.too_large-else-too_large.ensures ∙ c.if-too_large-2.false))
+    (sym c.below.ensures ∙ c.if-below.false))

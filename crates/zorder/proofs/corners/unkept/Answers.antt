@@ -44,11 +44,10 @@ counted d a b some few f h =
 -- The number counted, at the place where it is.
 counted-here : (c : After-leading_zeros-zeros) → Counted c.args.d (value c.args.a) (value c.args.b) c.leading_zeros-zeros.result
 counted-here c =
-    let s = c.before.before in
-    let a = s.args in
+    let a = c.args in
     subst (Counted a.d (value a.a) (value a.b))
     (sym (c.leading_zeros-zeros.ensures ∙ ap (count_leading_zeros 128) c.xor.ensures))
-    (counted a.d (value a.a) (value a.b) s.requires.0 s.requires.1 s.requires.2 s.requires.3)
+    (counted a.d (value a.a) (value a.b) c.requires.0 c.requires.1 c.requires.2 c.requires.3)
 
 pub overflow_sub-result-2 : goal.overflow_sub-result-2
 overflow_sub-result-2 c = (counted-here c).room

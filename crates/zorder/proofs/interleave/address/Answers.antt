@@ -15,7 +15,6 @@ use Rattle.zorder.specs.declared.Verdict.TheVariants.{Accepted, BadCostCount, Ba
 use Rattle.zorder.proofs.Laws.Refusal.{count-right}
 use Rattle.zorder.proofs.Laws.Words.{words-value}
 use Rattle.zorder.proofs.Checks.{two-checks, no-detail}
-use Rattle.zorder.proofs.interleave.address.Goals.{Else-cost_count_bad}
 use Rattle.zorder.proofs.interleave.address.Goals as goal
 
 module _ (d : ℕ) (costs : List ℕ) where
@@ -41,36 +40,31 @@ module _ (d : ℕ) (costs : List ℕ) where
     unfolding number_of or_zero address_refusal refusal cost_past_bad
     accepted good a told = promised Accepted a (two-checks false false right (ap not good)) told
 
-right-count : (c : Else-cost_count_bad) → cost_count_bad c.args.d ≡ false
-right-count c = sym c.cost_count_bad.ensures ∙ c.if-cost_count_bad.false
-
 pub returns-then-cost_count_bad : goal.returns-then-cost_count_bad
 returns-then-cost_count_bad c =
     let a = c.args in
     bad-count a.d a.costs (sym c.cost_count_bad.ensures ∙ c.if-cost_count_bad.true)
 
 pub zero_past-requires : goal.zero_past-requires
-zero_past-requires c = (count-right c.args.d (right-count c)).1
+zero_past-requires c = (count-right c.args.d (sym c.cost_count_bad.ensures ∙ c.if-cost_count_bad.false)).1
 
 pub interleaved-requires : goal.interleaved-requires
 interleaved-requires c =
-    let right = count-right c.args.d (right-count c.before.before) in
+    let right = count-right c.args.d (sym c.cost_count_bad.ensures ∙ c.if-cost_count_bad.false) in
     (omega arith, right.1)
 
 pub returns-then-zero_past : goal.returns-then-zero_past
 returns-then-zero_past c =
-    let s = c.before.before.before in
-    let a = s.args in
+    let a = c.args in
     accepted
     a.d
     a.costs
-    (right-count s)
+    (sym c.cost_count_bad.ensures ∙ c.if-cost_count_bad.false)
     (sym c.zero_past.ensures ∙ c.if-zero_past.true)
     c.interleaved.result
     (sym (words-value c.interleaved.result (omega arith)) ∙ ap words_of c.interleaved.ensures)
 
 pub returns : goal.returns
 returns c =
-    let s = c.before.before in
-    let a = s.args in
-    bad-past a.d a.costs (right-count s) (sym c.zero_past.ensures ∙ c.if-zero_past.false)
+    let a = c.args in
+    bad-past a.d a.costs (sym c.cost_count_bad.ensures ∙ c.if-cost_count_bad.false) (sym c.zero_past.ensures ∙ c.if-zero_past.false)

@@ -12,7 +12,6 @@ use Rattle.zorder.specs.declared.Verdict.TheVariants.{Accepted, BadCostCount, Ba
 use Rattle.zorder.proofs.Laws.Refusal.{count-right}
 use Rattle.zorder.specs.Words.{value}
 use Rattle.zorder.proofs.Checks.{two-checks, no-detail}
-use Rattle.zorder.proofs.separate.costs.Goals.{Else-cost_count_bad}
 use Rattle.zorder.proofs.separate.costs.Goals as goal
 
 module _ (d a : ℕ) where
@@ -38,34 +37,29 @@ module _ (d a : ℕ) where
     unfolding number_of or_zeros costs_refusal refusal
     accepted good cs told = promised Accepted cs (two-checks false false right good) told
 
-right-count : (c : Else-cost_count_bad) → cost_count_bad c.args.d ≡ false
-right-count c = sym c.cost_count_bad.ensures ∙ c.if-cost_count_bad.false
-
 pub returns-then-cost_count_bad : goal.returns-then-cost_count_bad
 returns-then-cost_count_bad c =
     let a = c.args in
     bad-count a.d (value a.address) (sym c.cost_count_bad.ensures ∙ c.if-cost_count_bad.true)
 
 pub too_large-requires : goal.too_large-requires
-too_large-requires c = (count-right c.args.d (right-count c)).1
+too_large-requires c = (count-right c.args.d (sym c.cost_count_bad.ensures ∙ c.if-cost_count_bad.false)).1
 
 pub returns-then-too_large : goal.returns-then-too_large
 returns-then-too_large c =
-    let s = c.before.before in
-    let a = s.args in
-    bad-address a.d (value a.address) (right-count s) (sym c.too_large.ensures ∙ c.if-too_large.true)
+    let a = c.args in
+    bad-address a.d (value a.address) (sym c.cost_count_bad.ensures ∙ c.if-cost_count_bad.false) (sym c.too_large.ensures ∙ c.if-too_large.true)
 
 pub separated-requires : goal.separated-requires
-separated-requires c = (count-right c.args.d (right-count c.before.before)).1
+separated-requires c = (count-right c.args.d (sym c.cost_count_bad.ensures ∙ c.if-cost_count_bad.false)).1
 
 pub returns : goal.returns
 returns c =
-    let s = c.before.before.before in
-    let a = s.args in
+    let a = c.args in
     accepted
     a.d
     (value a.address)
-    (right-count s)
+    (sym c.cost_count_bad.ensures ∙ c.if-cost_count_bad.false)
     (sym c.too_large.ensures ∙ c.if-too_large.false)
     c.separated.result
     c.separated.ensures
