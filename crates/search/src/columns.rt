@@ -24,10 +24,8 @@ pub fn fits_column(columns: &[u16; CELLS], w: usize, j: usize, q: [u16; COSTS]) 
     ensures { result ≡ cond (spec.column_fits w columns.now q j) 1 0 }
 {
     let mut worse: u16 = 0;
-    let mut k = 0;
-    while k < w {
+    for k in 0..w {
         worse = worse | over(columns[COLUMNS * k + j], q[k]);
-        k += 1;
     }
     zero(worse)
 }
@@ -39,10 +37,8 @@ fn fitting(columns: &[u16; CELLS], w: usize, q: [u16; COSTS]) -> u16
     ensures { result ≡ spec.fitting w columns.now q }
 {
     let mut fitting: u16 = 0;
-    let mut j = 0;
-    while j < COLUMNS {
+    for j in 0..COLUMNS {
         fitting += fits_column(columns, w, j, q);
-        j += 1;
     }
     fitting
 }
@@ -65,10 +61,8 @@ pub fn put(columns: &mut [u16; CELLS], at: usize, costs: [u16; COSTS])
 {
     // As a slice its length is known to proofs.
     let cells: &mut [u16] = columns;
-    let mut k = 0;
-    while k < COSTS {
+    for k in 0..COSTS {
         cells[COLUMNS * k + at] = costs[k];
-        k += 1;
     }
 }
 
@@ -76,9 +70,7 @@ pub fn put(columns: &mut [u16; CELLS], at: usize, costs: [u16; COSTS])
 pub fn fill(columns: &mut [u16; CELLS], costs: [u16; COSTS])
     ensures { spec.Filled costs columns.new }
 {
-    let mut at = 0;
-    while at < COLUMNS {
+    for at in 0..COLUMNS {
         put(columns, at, costs);
-        at += 1;
     }
 }

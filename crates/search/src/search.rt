@@ -3,11 +3,12 @@
 // the run is, and the run is passed by.
 ghost use Rattle.std.specs.Prelude.{◌≡◌, ◌+◌, ◌-◌, ◌*◌, ◌/◌, ◌≤◌, ◌<◌, get_or};
 ghost use Rattle.dominance.specs.Lanes.{Lanes};
-ghost use Rattle.memory.specs.Room.{Room, Readable};
+ghost use Rattle.memory.specs.Room.{Room};
 ghost use Rattle.search.specs.Search as spec;
 
 use dominance::{bounds_of, exceeds, least};
-use memory::{Head, block_of, costs_of, is_listed, number_at};
+use memory::{Board, block_of, is_listed};
+use std::array;
 use zorder::COSTS;
 
 pub const RUN: usize = 64;
@@ -55,13 +56,7 @@ fn lack(cost: u16) -> u16
 fn from_above(costs: [u16; COSTS]) -> [u16; COSTS]
     ensures { Lanes (λ i. 65535 - get_or costs i 0) result }
 {
-    let mut row = costs;
-    let mut i = 0;
-    while i < COSTS {
-        row[i] = lack(costs[i]);
-        i += 1;
-    }
-    row
+    costs.map(lack)
 }
 
 // Gives costs as a search sees them.
@@ -69,66 +64,55 @@ pub fn seen(among: Among, costs: [u16; COSTS]) -> [u16; COSTS]
     ensures { result ≡ spec.seen among costs }
 {
     match among {
-        Among::All => costs,
-        Among::Listed => costs,
         Among::Hidden => from_above(costs),
-        Among::InBlocks(_) => costs,
+        Among::All | Among::Listed | Among::InBlocks(_) => costs,
     }
 }
 
 // Gives all words of the row, also those past d, which the bounds of what is looked for leave out.
-pub fn seen_at(m: &[u8], h: Head, i: usize, among: Among) -> [u16; COSTS]
-    requires { Readable h m.now × (i < h.count) }
-    ensures { result ≡ spec.seen_at among h.size m.now i }
+pub fn seen_at(b: &Board, i: usize, among: Among) -> [u16; COSTS]
+    requires { i < b.now.head.count }
+    ensures { result ≡ spec.seen_at among b.now.head.size b.now.bytes.now i }
 {
-    seen(among, costs_of(m, h.size, COSTS, number_at(m, h.size, i)))
+    seen(among, b.words_of(b.number_at(i)))
 }
 
 // Says whether a search looks at the move at place i.
-pub fn looks_at(m: &[u8], h: Head, i: usize, among: Among) -> bool
-    requires { Readable h m.now × (i < h.count) }
-    ensures { result ≡ spec.looks_at among h.size m.now i }
+pub fn looks_at(b: &Board, i: usize, among: Among) -> bool
+    requires { i < b.now.head.count }
+    ensures { result ≡ spec.looks_at among b.now.head.size b.now.bytes.now i }
 {
-    looks(m, h.size, number_at(m, h.size, i), among)
+    looks(b.bytes, b.head.size, b.number_at(i), among)
 }
 
 // Gives what a move before place i that hides the one there is nowhere greater than.
-pub fn bounds_at(m: &[u8], h: Head, i: usize) -> [u16; COSTS]
-    requires { Readable h m.now × (i < h.count) }
-    ensures { result ≡ spec.bounds_at h.size h.dimension m.now i }
+pub fn bounds_at(b: &Board, i: usize) -> [u16; COSTS]
+    requires { i < b.now.head.count }
+    ensures { result ≡ spec.bounds_at b.now.head.size b.now.head.dimension b.now.bytes.now i }
 {
-    bounds_of(h.dimension, seen_at(m, h, i, Among::Listed))
+    bounds_of(b.head.dimension, seen_at(b, i, Among::Listed))
 }
 
 // Gives a corner with the move at place i, if the search looks at it.
-pub fn corner_with(m: &[u8], h: Head, i: usize, among: Among, low: [u16; COSTS]) -> [u16; COSTS]
-    requires { Readable h m.now × (i < h.count) }
-    ensures { spec.CornerWith among h.size m.now i (i + 1) low result }
+pub fn corner_with(b: &Board, i: usize, among: Among, low: [u16; COSTS]) -> [u16; COSTS]
+    requires { i < b.now.head.count }
+    ensures { spec.CornerWith among b.now.head.size b.now.bytes.now i (i + 1) low result }
 {
-    if looks_at(m, h, i, among) {
-        return least(low, seen_at(m, h, i, among));
+    if looks_at(b, i, among) {
+        return least(low, seen_at(b, i, among));
     }
     low
 }
 
 // A corner with the moves from place i up to `to`: kept in registers until the run is through.
-fn run_corner(
-    m: &[u8],
-    h: Head,
-    i: usize,
-    to: usize,
-    among: Among,
-    low: [u16; COSTS],
-) -> [u16; COSTS]
-    requires { Readable h m.now × (i ≤ to) × (to ≤ h.count) }
-    ensures { spec.CornerWith among h.size m.now i to low result }
+fn run_corner(b: &Board, i: usize, to: usize, among: Among, low: [u16; COSTS]) -> [u16; COSTS]
+    requires { (i ≤ to) × (to ≤ b.now.head.count) }
+    ensures { spec.CornerWith among b.now.head.size b.now.bytes.now i to low result }
 {
     let mut corner = low;
-    let mut j = i;
-    while j < to {
-        let lower = corner_with(m, h, j, among, corner);
+    for j in i..to {
+        let lower = corner_with(b, j, among, corner);
         corner = lower;
-        j += 1;
     }
     corner
 }
@@ -139,21 +123,20 @@ pub fn run_end(i: usize, to: usize) -> usize
     ensures { (i < result) × (result ≤ to) × (result ≤ 64 * (i / 64) + 64) }
 {
     let end = RUN * (i / RUN) + RUN;
-    if end < to { end } else { to }
+    end.min(to)
 }
 
 // Makes the corner of each run, 65535 in every cost where none of its moves is looked at.
-pub fn corners_of(m: &[u8], h: Head, among: Among) -> [[u16; COSTS]; RUNS]
-    requires { Readable h m.now }
-    ensures { spec.Corners among h.size m.now h.count result }
+pub fn corners_of(b: &Board, among: Among) -> [[u16; COSTS]; RUNS]
+    ensures { spec.Corners among b.now.head.size b.now.bytes.now b.now.head.count result }
 {
-    let n = h.count;
+    let n = b.head.count;
     let mut corners = [[65535u16; COSTS]; RUNS];
     let mut i = 0;
     while i < n {
         let e = run_end(i, n);
         let low = corners[i / RUN];
-        corners[i / RUN] = run_corner(m, h, i, e, among, low);
+        corners[i / RUN] = run_corner(b, i, e, among, low);
         i = e;
     }
     corners
@@ -161,51 +144,48 @@ pub fn corners_of(m: &[u8], h: Head, among: Among) -> [[u16; COSTS]; RUNS]
 
 // Says whether the search looks at the move at place i, and that is nowhere greater than q. Most
 // moves are greater: the costs are asked first.
-pub fn fits_at(m: &[u8], h: Head, i: usize, among: Among, q: [u16; COSTS]) -> bool
-    requires { Readable h m.now × (i < h.count) }
-    ensures { result ≡ spec.fits among h.size m.now q i }
+pub fn fits_at(b: &Board, i: usize, among: Among, q: [u16; COSTS]) -> bool
+    requires { i < b.now.head.count }
+    ensures { result ≡ spec.fits among b.now.head.size b.now.bytes.now q i }
 {
-    if exceeds(COSTS, seen_at(m, h, i, among), q) {
+    if exceeds(COSTS, seen_at(b, i, among), q) {
         return false;
     }
-    looks_at(m, h, i, among)
+    looks_at(b, i, among)
 }
 
 // The first place from i up to `to` that fits; `to` if none does.
-fn within(m: &[u8], h: Head, i: usize, to: usize, among: Among, q: [u16; COSTS]) -> usize
-    requires { Readable h m.now × (i ≤ to) × (to ≤ h.count) }
-    ensures { spec.First (spec.fits among h.size m.now q) i to result }
+fn within(b: &Board, i: usize, to: usize, among: Among, q: [u16; COSTS]) -> usize
+    requires { (i ≤ to) × (to ≤ b.now.head.count) }
+    ensures { spec.First (spec.fits among b.now.head.size b.now.bytes.now q) i to result }
 {
-    let mut j = i;
-    while j < to {
-        if fits_at(m, h, j, among, q) {
+    for j in i..to {
+        if fits_at(b, j, among, q) {
             return j;
         }
-        j += 1;
     }
-    j
+    to
 }
 
 // Finds the same as `within`, run by run.
 pub fn next_within(
-    m: &[u8],
-    h: Head,
+    b: &Board,
     i: usize,
     to: usize,
     among: Among,
     corners: &[[u16; COSTS]; RUNS],
     q: [u16; COSTS],
 ) -> usize
-    requires readable { Readable h m.now × (i ≤ to) × (to ≤ h.count) }
-    requires corners { spec.Corners among h.size m.now to corners.now }
-    ensures { spec.First (spec.fits among h.size m.now q) i to result }
+    requires places { (i ≤ to) × (to ≤ b.now.head.count) }
+    requires corners { spec.Corners among b.now.head.size b.now.bytes.now to corners.now }
+    ensures { spec.First (spec.fits among b.now.head.size b.now.bytes.now q) i to result }
 {
     let mut f = i;
     while f < to {
         let e = run_end(f, to);
         let low = corners[f / RUN];
         if !exceeds(COSTS, low, q) {
-            let j = within(m, h, f, e, among, q);
+            let j = within(b, f, e, among, q);
             if j < e {
                 return j;
             }
@@ -213,6 +193,38 @@ pub fn next_within(
         f = e;
     }
     f
+}
+
+// A board with the corners of its runs for one kind of search.
+#[derive(Clone, Copy)]
+pub struct Index<'a> {
+    pub board: Board<'a>,
+    pub among: Among,
+    pub corners: [[u16; COSTS]; RUNS],
+    ghost indexed: { spec.Corners among board.head.size board.bytes.now board.head.count corners },
+}
+
+impl<'a> Index<'a> {
+    // Makes the corner of each run.
+    pub fn new(b: &Board<'a>, among: Among) -> Self
+        ensures board { result.board ≡ b.now }
+        ensures among { result.among ≡ among }
+    {
+        Index {
+            board: *b,
+            among,
+            corners: corners_of(b, among),
+        }
+    }
+
+    // Finds the first place from i up to `to` that fits; `to` if none does.
+    pub fn next_within(&self, i: usize, to: usize, q: [u16; COSTS]) -> usize
+        requires { (i ≤ to) × (to ≤ self.now.board.head.count) }
+        ensures { spec.First (spec.fits self.now.among self.now.board.head.size
+            self.now.board.bytes.now q) i to result }
+    {
+        next_within(&self.board, i, to, self.among, &self.corners, q)
+    }
 }
 
 // Gives the place that is tried first in the next search: the one found, if one was.

@@ -3,13 +3,13 @@ use Rattle.search.specs.Laws.Columns.{filled-column}
 use Rattle.search.proofs.columns.fill.Goals as goal
 
 pub loop-at-init : goal.loop-at-init
-loop-at-init c = (omega arith, λ t l. absurd (omega arith))
+loop-at-init c = λ t l. absurd (omega arith)
 
 pub loop-at-preserved : goal.loop-at-preserved
 loop-at-preserved c =
     let a = c.args in
     let own = c.loop-at in
-    (omega arith, filled-column a.costs own.columns _ own.at (omega arith) own.invariant.1 c.put.ensures)
+    filled-column a.costs own.columns _ own.at (omega arith) own.invariant c.put.ensures
 
 pub returns : goal.returns
-returns c = λ t l. c.loop-at.invariant.1 t (omega arith)
+returns c = λ t l. c.loop-at.invariant t (omega arith)

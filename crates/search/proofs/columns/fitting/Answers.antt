@@ -6,7 +6,7 @@ use Rattle.search.specs.Laws.Counts.{count_none, count-more, count_most}
 use Rattle.search.proofs.columns.fitting.Goals as goal
 
 pub loop-j-init : goal.loop-j-init
-loop-j-init c = let a = c.args in (omega arith, sym (count_none (column_fits a.w a.columns.now a.q)))
+loop-j-init c = let a = c.args in sym (count_none (column_fits a.w a.columns.now a.q))
 
 pub overflow_add-fitting : goal.overflow_add-fitting
 overflow_add-fitting c =
@@ -20,7 +20,7 @@ loop-j-preserved c =
     let a = c.args in
     let own = c.loop-j in
     let test = column_fits a.w a.columns.now a.q in
-    (omega arith, omega (arith, own.invariant.1, c.fits_column-fitting.ensures, count-more test own.j))
+    omega (arith, own.invariant, c.fits_column-fitting.ensures, count-more test own.j)
 
 pub returns : goal.returns
 unfolding fitting
@@ -28,7 +28,7 @@ returns c =
     let a = c.args in
     let own = c.loop-j in
     let all : own.j ≡ 64 = omega arith in
-    own.invariant.1 ∙ ap (count_to (column_fits a.w a.columns.now a.q)) all
+    own.invariant ∙ ap (count_to (column_fits a.w a.columns.now a.q)) all
 
 pub fits_column-fitting-requires : goal.fits_column-fitting-requires
-fits_column-fitting-requires c = (omega arith, omega arith)
+fits_column-fitting-requires c = omega arith

@@ -13,4 +13,4 @@ pub returns : goal.returns
 unfolding bounds_at
 returns c =
     let a = c.args in
-    lanes-tab c.bounds_of.ensures ∙ ap (λ (x : List ℕ). tab (bound (is_first a.h.dimension) x) row_costs) c.seen_at.ensures
+    lanes-tab c.bounds_of.ensures ∙ ap (λ (x : List ℕ). tab (bound (is_first a.b.now.head.dimension) x) row_costs) c.seen_at.ensures

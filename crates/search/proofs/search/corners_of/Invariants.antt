@@ -4,7 +4,7 @@ use Rattle.search.specs.Search.{Corners}
 use Rattle.search.proofs.search.corners_of.Given as goal
 
 abbrev pub invariant-loop-i : goal.invariant-loop-i
-invariant-loop-i l = (l.i ≤ l.n) × Corners l.among l.h.size l.m l.i l.corners
+invariant-loop-i l = (l.i ≤ l.n) × Corners l.among l.b.head.size l.b.bytes.now l.i l.corners
 
 abbrev pub decreases-loop-i : goal.decreases-loop-i
 decreases-loop-i l = l.n - l.i

@@ -12,7 +12,7 @@ pub returns-then-exceeds : goal.returns-then-exceeds
 returns-then-exceeds c =
     let a = c.args in
     let row = c.seen_at in
-    sym (fits-exceeding a.among a.h.size a.m.now a.q a.i
+    sym (fits-exceeding a.among a.b.now.head.size a.b.now.bytes.now a.q a.i
     (sym (ap (λ (l : List ℕ). nowhere_greater l a.q) row.ensures)
     ∙ sym (whole_row row.result a.q (omega arith) (omega arith))
     ∙ sym (ap not c.exceeds.ensures)
@@ -23,7 +23,7 @@ returns c =
     let a = c.args in
     let row = c.seen_at in
     c.looks_at.ensures
-    ∙ sym (fits-within a.among a.h.size a.m.now a.q a.i
+    ∙ sym (fits-within a.among a.b.now.head.size a.b.now.bytes.now a.q a.i
     (sym (ap (λ (l : List ℕ). nowhere_greater l a.q) row.ensures)
     ∙ sym (whole_row row.result a.q (omega arith) (omega arith))
     ∙ sym (ap not c.exceeds.ensures)

@@ -7,12 +7,6 @@ use Rattle.search.proofs.search.next_within.Goals as goal
 pub loop-f-init : goal.loop-f-init
 loop-f-init c = (omega arith, omega arith, none-empty _ _)
 
-pub run_end-e-requires : goal.run_end-e-requires
-run_end-e-requires c = let asked = c.requires.readable.0 in omega (arith, asked.rows, asked.room)
-
-pub within-j-requires : goal.within-j-requires
-within-j-requires c = (c.requires.readable.0, omega arith, omega arith)
-
 pub returns-then-j-e : goal.returns-then-j-e
 returns-then-j-e c =
     let a = c.args in
@@ -21,7 +15,7 @@ returns-then-j-e c =
     record {
       from = omega arith;
       to = omega arith;
-      passed = none-join (fits a.among a.h.size a.m.now a.q) a.i own.f w.result own.invariant.2 w.ensures.passed;
+      passed = none-join (fits a.among a.b.now.head.size a.b.now.bytes.now a.q) a.i own.f w.result own.invariant.2 w.ensures.passed;
       found = λ l. w.ensures.found c.if-j-e.true;
     }
 
@@ -33,7 +27,7 @@ loop-f-preserved-else-j-e c =
     let e = c.run_end-e.result in (
       omega arith,
       omega arith,
-      none-join (fits a.among a.h.size a.m.now a.q) a.i own.f e own.invariant.2 (λ k l g. c.within-j.ensures.passed k l (omega arith)),
+      none-join (fits a.among a.b.now.head.size a.b.now.bytes.now a.q) a.i own.f e own.invariant.2 (λ k l g. c.within-j.ensures.passed k l (omega arith)),
     )
 
 -- Its corner says that it need not be.
@@ -44,16 +38,10 @@ loop-f-preserved c =
     let e = c.run_end-e.result in (
       omega arith,
       omega arith,
-      none-join (fits a.among a.h.size a.m.now a.q) a.i own.f e own.invariant.2
-          (run-passed a.among a.h.size a.m.now a.q a.to own.f e a.corners.now c.requires.corners (omega arith) (omega arith) (omega arith)
+      none-join (fits a.among a.b.now.head.size a.b.now.bytes.now a.q) a.i own.f e own.invariant.2
+          (run-passed a.among a.b.now.head.size a.b.now.bytes.now a.q a.to own.f e a.corners.now c.requires.corners (omega arith) (omega arith) (omega arith)
           (sym c.exceeds.ensures ∙ c.if-not-exceeds.false)),
     )
 
 pub returns : goal.returns
 returns c = record { from = omega arith; to = omega arith; passed = c.loop-f.invariant.2; found = λ l. absurd (omega arith) }
-
-pub offset_bounds-corners-f : goal.offset_bounds-corners-f
-offset_bounds-corners-f c = let asked = c.requires.readable.0 in omega (arith, asked.rows, asked.room)
-
-pub bounds-corners-f : goal.bounds-corners-f
-bounds-corners-f c = let asked = c.requires.readable.0 in omega (arith, asked.rows, asked.room)

@@ -8,9 +8,6 @@ use Rattle.search.proofs.search.run_corner.Goals as goal
 pub loop-j-init : goal.loop-j-init
 loop-j-init c = (omega arith, omega arith, corner-none _ _)
 
-pub corner_with-lower-requires : goal.corner_with-lower-requires
-corner_with-lower-requires c = (c.requires.0, omega arith)
-
 pub loop-j-preserved : goal.loop-j-preserved
 loop-j-preserved c =
     let own = c.loop-j in
@@ -22,4 +19,4 @@ returns c =
     let own = c.loop-j in
     let a = c.args in
     let all : own.j ≡ a.to = omega arith in
-    subst (λ (n : ℕ). CornerWith a.among a.h.size a.m.now a.i n a.low own.corner) all own.invariant.2
+    subst (λ (n : ℕ). CornerWith a.among a.b.now.head.size a.b.now.bytes.now a.i n a.low own.corner) all own.invariant.2

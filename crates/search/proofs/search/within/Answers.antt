@@ -7,9 +7,6 @@ use Rattle.search.proofs.search.within.Goals as goal
 pub loop-j-init : goal.loop-j-init
 loop-j-init c = (omega arith, omega arith, none-empty _ _)
 
-pub fits_at-requires : goal.fits_at-requires
-fits_at-requires c = (c.requires.0, omega arith)
-
 pub returns-then-fits_at : goal.returns-then-fits_at
 returns-then-fits_at c =
     let own = c.loop-j in
@@ -21,8 +18,8 @@ loop-j-preserved c =
     let a = c.args in (
       omega arith,
       omega arith,
-      none_more (fits a.among a.h.size a.m.now a.q) a.i own.j own.invariant.2 (sym c.fits_at.ensures ∙ c.if-fits_at.false),
+      none_more (fits a.among a.b.now.head.size a.b.now.bytes.now a.q) a.i own.j own.invariant.2 (sym c.fits_at.ensures ∙ c.if-fits_at.false),
     )
 
 pub returns : goal.returns
-returns c = record { from = omega arith; to = omega arith; passed = c.loop-j.invariant.2; found = λ l. absurd (omega arith) }
+returns c = record { from = omega arith; to = omega arith; passed = λ k f g. c.loop-j.invariant.2 k f (omega arith); found = λ l. absurd (omega arith) }

@@ -1,10 +1,7 @@
 -- `search::within` meets its contract. The loop's invariant: none of the places passed fits. Assumes nothing.
-use Prim.Native.Nat.{◌-◌, ◌≤◌}
+use Prim.Native.Nat.{◌≤◌}
 use Rattle.search.specs.Search.{fits, None}
 use Rattle.search.proofs.search.within.Given as goal
 
 abbrev pub invariant-loop-j : goal.invariant-loop-j
-invariant-loop-j l = (l.i ≤ l.j) × (l.j ≤ l.to) × None (fits l.among l.h.size l.m l.q) l.i l.j
-
-abbrev pub decreases-loop-j : goal.decreases-loop-j
-decreases-loop-j l = l.to - l.j
+invariant-loop-j l = (l.i ≤ l.j) × (l.j ≤ l.to) × None (fits l.among l.b.head.size l.b.bytes.now l.q) l.i l.j
