@@ -1,6 +1,6 @@
 // A board in lent memory, for its readers: the bytes with their head, which says how they are read.
 // Writers have the bytes and C alone.
-ghost use Rattle.std.specs.Prelude.{◌≡◌, ◌<◌, eqb};
+ghost use Rattle.std.specs.Prelude.{◌≡◌, ◌<◌, ℕ, eqb, get_or};
 ghost use Rattle.dominance.specs.Move.{as_move};
 ghost use Rattle.promises.specs.Layout.{number_in, height_in, flag_in, block_in, costs_in, move_in};
 ghost use Rattle.memory.specs.Room.{Readable};
@@ -16,6 +16,7 @@ pub struct Board<'a> {
     pub bytes: &'a [u8],
     pub head: Head,
     ghost readable: { Readable head bytes.now },
+    ghost fits: { (i : ℕ) → get_or bytes.now i 0 < 256 },
 }
 
 impl<'a> Board<'a> {

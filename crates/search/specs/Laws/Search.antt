@@ -194,3 +194,7 @@ run-passed a c m q n f e corners h wide end room over k l g =
   where
     same : k / 64 ≡ f / 64
     same = omega arith
+
+-- What a search among moves of a kind finds, by the kind's other name.
+pub first-among : {a a' : Among} (c : ℕ) (m q : List ℕ) {i n r : ℕ} → a ≡ a' → First (fits a c m q) i n r → First (fits a' c m q) i n r
+first-among c m q {i} {n} {r} e f = subst (λ (b : Among). First (fits b c m q) i n r) e f

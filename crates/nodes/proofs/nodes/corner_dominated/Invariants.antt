@@ -5,7 +5,7 @@ use Rattle.nodes.specs.Laws.Corners.{Sought}
 use Rattle.nodes.proofs.nodes.corner_dominated.Given as goal
 
 abbrev pub invariant-loop-j : goal.invariant-loop-j
-invariant-loop-j l = Sought l.h.size l.h.dimension l.goes l.i l.m l.near l.q l.j
+invariant-loop-j l = Sought l.listed.board.head.size l.listed.board.head.dimension l.goes l.i l.listed.board.bytes.now l.near l.q l.j
 
 abbrev pub decreases-loop-j : goal.decreases-loop-j
 decreases-loop-j l = l.i - l.j

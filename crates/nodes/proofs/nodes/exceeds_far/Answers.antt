@@ -10,14 +10,10 @@ use Rattle.model.specs.Dominance.{somewhere_less}
 use Rattle.nodes.specs.Laws.Corners.{within_all, within-going}
 use Rattle.nodes.proofs.nodes.exceeds_far.Goals as goal
 
-pub returns-then-h-goes : goal.returns-then-h-goes
-returns-then-h-goes c =
+pub returns-then-b-goes : goal.returns-then-b-goes
+returns-then-b-goes c =
     let a = c.args in
-    ap not (sym (within_all a.h.size a.h.dimension a.goes a.h.count a.m.now (far_of a.h.dimension a.first a.last) (omega (arith, c.if-h-goes.true))))
-
-pub costs_of-going-requires : goal.costs_of-going-requires
-costs_of-going-requires c =
-    (c.requires.room, omega (arith, c.number_at.ensures, c.requires.numbers c.args.goes (omega arith)), c.requires.dimension)
+    ap not (sym (within_all a.b.now.head.size a.b.now.head.dimension a.goes a.b.now.head.count a.b.now.bytes.now (far_of a.b.now.head.dimension a.first a.last) (omega (arith, c.if-b-goes.true))))
 
 pub returns : goal.returns
 returns c =
@@ -25,6 +21,6 @@ returns c =
     let number = c.number_at in
     let far = c.far_of in
     c.exceeds.ensures
-    ∙ ap (λ (q : List ℕ). somewhere_less (take a.h.dimension q) (take a.h.dimension c.costs_of-going.result)) far.ensures
-    ∙ within-going a.h.size a.h.dimension a.goes a.h.count a.m.now (far_of a.h.dimension a.first a.last)
-    (omega (arith, c.if-h-goes.false)) number.ensures c.costs_of-going.ensures
+    ∙ ap (λ (q : List ℕ). somewhere_less (take a.b.now.head.dimension q) (take a.b.now.head.dimension c.costs_of-going.result)) far.ensures
+    ∙ within-going a.b.now.head.size a.b.now.head.dimension a.goes a.b.now.head.count a.b.now.bytes.now (far_of a.b.now.head.dimension a.first a.last)
+    (omega (arith, c.if-b-goes.false)) number.ensures.0 c.costs_of-going.ensures

@@ -1,30 +1,14 @@
 use native.Mathlib.Omega.{arith}
 use Rattle.promises.specs.Run.{Bytes}
-use Rattle.memory.specs.Laws.Held.{held-readable}
-use Rattle.search.specs.Laws.Search.{corners-fewer}
 use Rattle.nodes.specs.Laws.Search.{sound-searchable, search-start, search-few, search-on, search-down, search-leaf, search-end}
 use Rattle.nodes.proofs.nodes.next_leaf.Goals as goal
-
-pub level_at-l-requires : goal.level_at-l-requires
-level_at-l-requires c = let asked = held-readable c.requires.sound_at.0 in (asked.room, asked.rows)
 
 pub loop-i-init : goal.loop-i-init
 unfolding Bytes
 loop-i-init c =
     let a = c.args in
-    let s = sound-searchable a.h.size a.h.dimension a.h.count a.m.now c.requires.sound_at.0 (λ j. omega (arith, c.shared_slice_known-1.given j)) in
+    let s = sound-searchable a.listed.now.board.head.size a.listed.now.board.head.dimension a.listed.now.board.head.count a.listed.now.board.bytes.now c.requires.sound_at a.listed.now.board.fits in
     (s, search-start s a.goes a.from c.requires.nodes_from c.level_at-l.result c.level_at-l.ensures)
-
-pub node_end-e-requires : goal.node_end-e-requires
-node_end-e-requires c = let s = c.loop-i.invariant.0 in (s.readable.room, s.readable.rows, omega arith)
-
-pub opens-requires : goal.opens-requires
-opens-requires c =
-    let f = c.node_end-e.ensures in
-    record { readable = (c.loop-i.invariant.0.readable, f.after, f.within); listed_corners = corners-fewer (omega arith) c.requires.sound_at.1 }
-
-pub level_at-l-requires-then-not-opens : goal.level_at-l-requires-then-not-opens
-level_at-l-requires-then-not-opens c = let s = c.loop-i.invariant.0 in (s.readable.room, s.readable.rows)
 
 pub loop-i-preserved-then-not-opens : goal.loop-i-preserved-then-not-opens
 loop-i-preserved-then-not-opens c =

@@ -7,7 +7,7 @@ use Rattle.nodes.proofs.nodes.next_leaf.Given as goal
 
 abbrev pub invariant-loop-i : goal.invariant-loop-i
 invariant-loop-i l =
-    Searchable l.h.size l.h.dimension l.n l.m × Searching l.h.size l.h.dimension l.goes l.n l.m l.from l.opened l.i l.l
+    Searchable l.listed.board.head.size l.listed.board.head.dimension l.n l.listed.board.bytes.now × Searching l.listed.board.head.size l.listed.board.head.dimension l.goes l.n l.listed.board.bytes.now l.from l.opened l.i l.l
 
 abbrev pub decreases-loop-i : goal.decreases-loop-i
 decreases-loop-i l = (l.n - l.i) * 256 + l.l

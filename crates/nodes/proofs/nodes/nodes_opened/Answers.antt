@@ -1,18 +1,25 @@
+use mathlib.Core.Path.{subst}
 use native.Mathlib.Omega.{arith}
 use Rattle.promises.specs.Run.{Bytes}
-use Rattle.memory.specs.Laws.Held.{held-readable}
+use Rattle.memory.specs.declared.board.Board.{Board}
+use Rattle.nodes.specs.Search.{LeafFrom}
 use Rattle.nodes.specs.Laws.Search.{sound-searchable, counting-none, counting-few, counting-leaf, list-opened}
+use Rattle.nodes.proofs.nodes.nodes_opened.Goals.{After-next_leaf-leaf}
 use Rattle.nodes.proofs.nodes.nodes_opened.Goals as goal
+
+-- The index is of this board.
+pub leaf_found :
+    (c : After-next_leaf-leaf)
+    → LeafFrom c.args.b.now.head c.args.b.now.head.count c.args.b.now.bytes.now c.loop-i.i c.next_leaf-leaf.result
+leaf_found c =
+    let n = c.args.b.now.head.count in
+    subst (λ (b : Board). LeafFrom b.head n b.bytes.now c.loop-i.i c.next_leaf-leaf.result) c.new-listed.ensures.board c.next_leaf-leaf.ensures
 
 pub loop-i-init : goal.loop-i-init
 unfolding Bytes
 loop-i-init c =
     let a = c.args in
-    counting-none (sound-searchable a.h.size a.h.dimension a.h.count a.m.now c.requires (λ j. omega (arith, c.shared_slice_known-1.given j)))
-
-pub next_leaf-leaf-requires : goal.next_leaf-leaf-requires
-next_leaf-leaf-requires c =
-    record { sound_at = (c.requires, c.corners_of-corners.ensures); nodes_from = c.loop-i.invariant.start }
+    counting-none (sound-searchable a.b.now.head.size a.b.now.head.dimension a.b.now.head.count a.b.now.bytes.now c.requires c.args.b.now.fits)
 
 pub overflow_add-opened : goal.overflow_add-opened
 unfolding Bytes
@@ -20,23 +27,22 @@ overflow_add-opened c =
     let a = c.args in
     let own = c.loop-i in
     let leaf = c.next_leaf-leaf in
-    let s = sound-searchable a.h.size a.h.dimension a.h.count a.m.now c.requires (λ j. omega (arith, c.shared_slice_known-1.given j)) in
-    omega (arith, counting-few s own.opened own.i leaf.result own.invariant leaf.ensures, s.readable.rows, s.readable.room.1)
+    let s = sound-searchable a.b.now.head.size a.b.now.head.dimension a.b.now.head.count a.b.now.bytes.now c.requires c.args.b.now.fits in
+    omega (arith, counting-few s own.opened own.i leaf.result own.invariant (leaf_found (goal.at.overflow_add-opened c).After-next_leaf-leaf), s.readable.rows, s.readable.room.1)
 
 pub loop-i-smaller : goal.loop-i-smaller
-loop-i-smaller c = omega (arith, c.next_leaf-leaf.ensures.next.further (omega arith), c.next_leaf-leaf.ensures.after.within)
+loop-i-smaller c =
+    let leaf = leaf_found (goal.at.loop-i-smaller c).After-next_leaf-leaf in
+    omega (arith, leaf.next.further (omega arith), leaf.after.within)
 
 pub loop-i-preserved : goal.loop-i-preserved
 loop-i-preserved c =
     let own = c.loop-i in
     let leaf = c.next_leaf-leaf in
-    counting-leaf own.opened own.i leaf.result own.invariant leaf.ensures
+    counting-leaf own.opened own.i leaf.result own.invariant (leaf_found (goal.at.loop-i-preserved c).After-next_leaf-leaf)
 
 pub returns : goal.returns
 unfolding Bytes
 returns c =
     let own = c.loop-i in
-    list-opened c.requires (λ j. omega (arith, c.shared_slice_known-1.given j)) own.opened own.i own.invariant (omega arith)
-
-pub corners_of-corners-requires : goal.corners_of-corners-requires
-corners_of-corners-requires c = held-readable c.requires
+    list-opened c.requires c.args.b.now.fits own.opened own.i own.invariant (omega arith)

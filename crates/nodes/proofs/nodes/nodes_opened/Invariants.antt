@@ -5,7 +5,7 @@ use Rattle.nodes.specs.Laws.Search.{Counting}
 use Rattle.nodes.proofs.nodes.nodes_opened.Given as goal
 
 abbrev pub invariant-loop-i : goal.invariant-loop-i
-invariant-loop-i l = Counting l.h.size l.h.dimension l.n l.n l.m l.opened l.i
+invariant-loop-i l = Counting l.b.head.size l.b.head.dimension l.n l.n l.b.bytes.now l.opened l.i
 
 abbrev pub decreases-loop-i : goal.decreases-loop-i
 decreases-loop-i l = l.n - l.i
