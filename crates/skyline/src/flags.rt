@@ -7,38 +7,34 @@ ghost use Rattle.memory.specs.Tests as tests;
 
 use crate::chunks::listed_right;
 use crate::hiders::{found_from, hidden_right};
-use memory::Head;
+use memory::Board;
 use search::{CELLS, RUNS, bounds_at};
 use zorder::COSTS;
 
 // Gives a place before i with a listed move that hides the one at i, `last` if that does; i if
 // there is none. An earlier move that is nowhere greater hides: of equal costs the lower number
 // stands first.
-pub fn hider_before(
-    m: &[u8],
-    h: Head,
-    i: usize,
-    last: usize,
-    corners: &[[u16; COSTS]; RUNS],
-) -> usize
-    requires readable { Readable h m.now × InOrder h m.now × (i < h.count) }
-    requires listed_corners { search.ListedCorners h m.now i corners.now }
-    ensures { tests.hidden_at h.size h.dimension m.now i ≡ ltb result i }
+pub fn hider_before(b: &Board, i: usize, last: usize, corners: &[[u16; COSTS]; RUNS]) -> usize
+    requires place { InOrder b.now.head b.now.bytes.now × (i < b.now.head.count) }
+    requires listed_corners { search.ListedCorners b.now.head b.now.bytes.now i corners.now }
+    ensures { tests.hidden_at b.now.head.size b.now.head.dimension b.now.bytes.now i ≡ ltb result
+        i }
 {
-    found_from(m, h, i, last, corners, bounds_at(m, h, i))
+    found_from(b, i, last, corners, bounds_at(b, i))
 }
 
 // Every move that is not listed is hidden, and no listed one.
-pub fn flags_right(m: &[u8], h: Head) -> bool
-    requires { Readable h m.now × InOrder h m.now }
-    ensures { result ≡ tests.flags_right h.size h.dimension h.count m.now }
+pub fn flags_right(b: &Board) -> bool
+    requires { InOrder b.now.head b.now.bytes.now }
+    ensures { result ≡ tests.flags_right b.now.head.size b.now.head.dimension b.now.head.count
+        b.now.bytes.now }
 {
     // Working space that the halves share, one after the other: 1 KB each would be twice that.
     let mut rows = [[65535u16; COSTS]; RUNS];
     let mut columns = [65535u16; CELLS];
-    if !hidden_right(m, h, &mut rows, &mut columns) {
+    if !hidden_right(b, &mut rows, &mut columns) {
         return false;
     }
     rows = [[0u16; COSTS]; RUNS];
-    listed_right(m, h, &mut rows, &mut columns)
+    listed_right(b, &mut rows, &mut columns)
 }

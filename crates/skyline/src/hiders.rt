@@ -5,7 +5,7 @@ ghost use Rattle.memory.specs.Room.{Readable, InOrder};
 ghost use Rattle.search.specs.Search as search;
 ghost use Rattle.memory.specs.Tests as tests;
 
-use memory::Head;
+use memory::Board;
 use search::{
     Among, CELLS, RUN, RUNS, bounds_at, corner_with, fits_at, fits_column, looks_at, next_within,
     put, seen_at,
@@ -17,10 +17,8 @@ const HIDERS: usize = 8;
 // Of the first eight columns those that are nowhere greater than q, a bit for each.
 fn fitting_hiders(columns: &[u16; CELLS], q: [u16; COSTS]) -> u16 {
     let mut fitting: u16 = 0;
-    let mut j = 0;
-    while j < HIDERS {
+    for j in 0..HIDERS {
         fitting = fitting | (fits_column(columns, COSTS, j, q) << (j as u16));
-        j += 1;
     }
     fitting
 }
@@ -33,12 +31,12 @@ fn guess(columns: &[u16; CELLS], places: &[usize; HIDERS], q: [u16; COSTS]) -> u
 }
 
 // Whether place k is before i, and its move listed and nowhere greater than q.
-fn tried(m: &[u8], h: Head, k: usize, i: usize, q: [u16; COSTS]) -> bool
-    requires { Readable h m.now × (i < h.count) }
-    ensures { result ≡ true → search.ListedSome h m.now q i k }
+fn tried(b: &Board, k: usize, i: usize, q: [u16; COSTS]) -> bool
+    requires { i < b.now.head.count }
+    ensures { result ≡ true → search.ListedSome b.now.head b.now.bytes.now q i k }
 {
     if k < i {
-        return fits_at(m, h, k, Among::Listed, q);
+        return fits_at(b, k, Among::Listed, q);
     }
     false
 }
@@ -46,22 +44,21 @@ fn tried(m: &[u8], h: Head, k: usize, i: usize, q: [u16; COSTS]) -> bool
 // A place before i with a listed move that is nowhere greater than q, of the last hiders; i if none
 // of those tried is.
 fn guessed(
-    m: &[u8],
-    h: Head,
+    b: &Board,
     i: usize,
     last: usize,
     columns: &[u16; CELLS],
     places: &[usize; HIDERS],
     q: [u16; COSTS],
 ) -> usize
-    requires { Readable h m.now × (i < h.count) }
-    ensures { result < i → search.ListedSome h m.now q i result }
+    requires { i < b.now.head.count }
+    ensures { result < i → search.ListedSome b.now.head b.now.bytes.now q i result }
 {
-    if tried(m, h, last, i, q) {
+    if tried(b, last, i, q) {
         return last;
     }
     let other = guess(columns, places, q);
-    if tried(m, h, other, i, q) {
+    if tried(b, other, i, q) {
         return other;
     }
     i
@@ -70,58 +67,55 @@ fn guessed(
 // Gives a place before i with a listed move that is nowhere greater than q, `first` if that is one;
 // i if there is none.
 pub(crate) fn found_from(
-    m: &[u8],
-    h: Head,
+    b: &Board,
     i: usize,
     first: usize,
     corners: &[[u16; COSTS]; RUNS],
     q: [u16; COSTS],
 ) -> usize
-    requires readable { Readable h m.now × (i < h.count) }
-    requires listed_corners { search.ListedCorners h m.now i corners.now }
-    ensures { search.ListedSome h m.now q i result }
+    requires place { i < b.now.head.count }
+    requires listed_corners { search.ListedCorners b.now.head b.now.bytes.now i corners.now }
+    ensures { search.ListedSome b.now.head b.now.bytes.now q i result }
 {
-    if tried(m, h, first, i, q) {
+    if tried(b, first, i, q) {
         return first;
     }
-    next_within(m, h, 0, i, Among::Listed, corners, q)
+    next_within(b, 0, i, Among::Listed, corners, q)
 }
 
 // The two arrays are working space: corners as of no place, and columns of any content.
 pub(crate) fn hidden_right(
-    m: &[u8],
-    h: Head,
+    b: &Board,
     corners: &mut [[u16; COSTS]; RUNS],
     columns: &mut [u16; CELLS],
 ) -> bool
-    requires { Readable h m.now × InOrder h m.now × (length corners.old ≡ 64) }
-    ensures { result ≡ tests.hidden_right h.size h.dimension h.count m.now }
+    requires { InOrder b.now.head b.now.bytes.now × (length corners.old ≡ 64) }
+    ensures { result ≡ tests.hidden_right b.now.head.size b.now.head.dimension b.now.head.count
+        b.now.bytes.now }
 {
-    let n = h.count;
+    let n = b.head.count;
     let mut places = [0usize; HIDERS];
     let mut at = 0;
     let mut last = 0;
     let mut nearest = 0;
-    let mut i = 0;
-    while i < n {
-        if looks_at(m, h, i, Among::Listed) {
+    for i in 0..n {
+        if looks_at(b, i, Among::Listed) {
             let low = corners[i / RUN];
-            corners[i / RUN] = corner_with(m, h, i, Among::Listed, low);
+            corners[i / RUN] = corner_with(b, i, Among::Listed, low);
             nearest = i;
         } else {
-            let q = bounds_at(m, h, i);
-            last = guessed(m, h, i, last, columns, &places, q);
+            let q = bounds_at(b, i);
+            last = guessed(b, i, last, columns, &places, q);
             if i <= last {
-                last = found_from(m, h, i, nearest, corners, q);
+                last = found_from(b, i, nearest, corners, q);
                 if i <= last {
                     return false;
                 }
                 places[at] = last;
-                put(columns, at, seen_at(m, h, last, Among::Listed));
+                put(columns, at, seen_at(b, last, Among::Listed));
                 at = (at + 1) % HIDERS;
             }
         }
-        i += 1;
     }
     true
 }

@@ -10,17 +10,7 @@ use Rattle.skyline.proofs.chunks.later_unhidden.Goals as goal
 pub loop-f-init : goal.loop-f-init
 loop-f-init c =
     let a = c.args in
-    (omega arith, omega (arith, c.requires.readable), unhidden-none a.h.size a.h.dimension a.m.now a.chunk.from a.chunk.to a.chunk.to)
-
-pub run_end-e-requires : goal.run_end-e-requires
-run_end-e-requires c = let asked = c.requires.readable.0 in omega (arith, asked.rows, asked.room)
-
-pub run_unhidden-requires : goal.run_unhidden-requires
-run_unhidden-requires c =
-    let asked = c.requires in
-    let own = c.loop-f in
-    let e = c.run_end-e in
-    record { readable = (asked.readable.0, own.invariant.0, omega (arith, e.ensures), omega (arith, e.ensures)); gathered_chunk = (asked.gathered_chunk.0, asked.gathered_chunk.1 (omega (arith, own.invariant, e.ensures))) }
+    (omega arith, omega (arith, c.requires.place), unhidden-none a.b.now.head.size a.b.now.head.dimension a.b.now.bytes.now a.chunk.from a.chunk.to a.chunk.to)
 
 pub returns-then-not-run_unhidden : goal.returns-then-not-run_unhidden
 returns-then-not-run_unhidden c = record { true-says = λ e. both_ways e refl; false-says = λ _. c.run_unhidden.ensures.false-says (c.if-not-run_unhidden.true) }
@@ -32,7 +22,7 @@ loop-f-preserved-else-not-run_unhidden c =
     let e = c.run_end-e in (
       omega (arith, own.invariant, e.ensures),
       omega (arith, e.ensures),
-      unhidden-join a.h.size a.h.dimension a.m.now a.chunk.from a.chunk.to a.chunk.to own.f e.result own.invariant.2
+      unhidden-join a.b.now.head.size a.b.now.head.dimension a.b.now.bytes.now a.chunk.from a.chunk.to a.chunk.to own.f e.result own.invariant.2
           (c.run_unhidden.ensures.true-says (c.if-not-run_unhidden.false)),
     )
 
@@ -44,8 +34,8 @@ loop-f-preserved c =
     let e = c.run_end-e in (
       omega (arith, own.invariant, e.ensures),
       omega (arith, e.ensures),
-      unhidden-join a.h.size a.h.dimension a.m.now a.chunk.from a.chunk.to a.chunk.to own.f e.result own.invariant.2
-          (high-unhidden a.chunk.from a.chunk.to a.h.count own.f e.result a.columns.now a.chunk.low a.highs.now c.requires.gathered_chunk.0 c.requires.highs e.ensures.2 e.ensures.1
+      unhidden-join a.b.now.head.size a.b.now.head.dimension a.b.now.bytes.now a.chunk.from a.chunk.to a.chunk.to own.f e.result own.invariant.2
+          (high-unhidden a.chunk.from a.chunk.to a.b.now.head.count own.f e.result a.columns.now a.chunk.low a.highs.now c.requires.gathered_chunk.0 c.requires.highs e.ensures.2 e.ensures.1
           (sym c.exceeds.ensures ∙ c.if-not-exceeds.false)),
     )
 
@@ -53,14 +43,8 @@ pub returns : goal.returns
 returns c =
     let a = c.args in
     let own = c.loop-f in
-    let all : own.f ≡ a.h.count = omega arith in
+    let all : own.f ≡ a.b.now.head.count = omega arith in
     record {
-      true-says = λ _. subst (λ (e : ℕ). Unhidden a.h.size a.h.dimension a.m.now a.chunk.from a.chunk.to a.chunk.to e) all own.invariant.2;
+      true-says = λ _. subst (λ (e : ℕ). Unhidden a.b.now.head.size a.b.now.head.dimension a.b.now.bytes.now a.chunk.from a.chunk.to a.chunk.to e) all own.invariant.2;
       false-says = λ e. both_ways refl e;
     }
-
-pub offset_bounds-highs-f : goal.offset_bounds-highs-f
-offset_bounds-highs-f c = let asked = c.requires.readable.0 in omega (arith, asked.rows, asked.room)
-
-pub bounds-highs-f : goal.bounds-highs-f
-bounds-highs-f c = let asked = c.requires.readable.0 in omega (arith, asked.rows, asked.room)

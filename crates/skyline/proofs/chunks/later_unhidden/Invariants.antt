@@ -5,7 +5,7 @@ use Rattle.skyline.proofs.chunks.later_unhidden.Given as goal
 
 abbrev pub invariant-loop-f : goal.invariant-loop-f
 invariant-loop-f l =
-    (l.chunk.to ≤ l.f) × (l.f ≤ l.n) × Unhidden l.h.size l.h.dimension l.m l.chunk.from l.chunk.to l.chunk.to l.f
+    (l.chunk.to ≤ l.f) × (l.f ≤ l.n) × Unhidden l.b.head.size l.b.head.dimension l.b.bytes.now l.chunk.from l.chunk.to l.chunk.to l.f
 
 abbrev pub decreases-loop-f : goal.decreases-loop-f
 decreases-loop-f l = l.n - l.f

@@ -11,49 +11,36 @@ use Rattle.skyline.proofs.chunks.listed_right.Goals.{Joined-from-eq0}
 use Rattle.skyline.proofs.chunks.listed_right.Goals as goal
 
 -- The greatest bounds were made for the first chunk, or are there.
-there : (c : Joined-from-eq0) → Highs c.args.h.size c.args.h.dimension c.args.m.now c.args.h.count c.if-from-eq0.highs
+there : (c : Joined-from-eq0) → Highs c.args.b.now.head.size c.args.b.now.head.dimension c.args.b.now.bytes.now c.args.b.now.head.count c.if-from-eq0.highs
 there c =
     let a = c.args in
-    let There : List (List ℕ) → Type 0 = Highs a.h.size a.h.dimension a.m.now a.h.count in
+    let There : List (List ℕ) → Type 0 = Highs a.b.now.head.size a.b.now.head.dimension a.b.now.bytes.now a.b.now.head.count in
     elim c.if-from-eq0.branch [
       | then-from-eq0 w ↦ subst There (sym w.highs-is) w.put_highs.ensures
       | else-from-eq0 w ↦ subst There (sym w.highs-is) (c.loop-from.invariant.3 (omega (arith, w.if-from-eq0.false)) (omega (arith, c.loop-from-test.true)))
     ]
 
 pub loop-from-init : goal.loop-from-init
-loop-from-init c = (omega arith, λ j l g t k z s. absurd (omega arith), c.requires.2, λ l. absurd (omega arith))
-
-pub next_chunk-chunk-requires : goal.next_chunk-chunk-requires
-next_chunk-chunk-requires c = (c.requires.0, omega arith)
+loop-from-init c = (omega arith, λ j l g t k z s. absurd (omega arith), c.requires.1, λ l. absurd (omega arith))
 
 pub returns-then-not-chunk : goal.returns-then-not-chunk
 unfolding Bytes
 returns-then-not-chunk c =
     let a = c.args in
-    let bytes : Bytes a.m.now = λ i. omega (arith, c.shared_slice_known-1.given i) in
+    let bytes : Bytes a.b.now.bytes.now = c.args.b.now.fits in
     let next = c.next_chunk-chunk in
     sym
-    (hidden-wrong a.h.size a.h.dimension a.h.count a.m.now c.requires.0.dimension bytes c.requires.1
+    (hidden-wrong a.b.now.head.size a.b.now.head.dimension a.b.now.head.count a.b.now.bytes.now c.args.b.now.readable.dimension bytes c.requires.0
     (next.ensures.said.false-says (not-true next.result.unhidden c.if-not-chunk.true)))
-
-pub put_highs-requires : goal.put_highs-requires
-put_highs-requires c =
-    (c.requires.0, c.loop-from.invariant.2)
-
-pub later_unhidden-requires : goal.later_unhidden-requires
-later_unhidden-requires c =
-    let next = c.next_chunk-chunk in
-    let unhidden = not-false next.result.unhidden c.if-not-chunk.false in
-    record { readable = (c.requires.0, next.ensures.end); gathered_chunk = (next.ensures.gathered, next.ensures.some unhidden); highs = there (goal.at.later_unhidden-requires c).Joined-from-eq0 }
 
 pub returns-then-not-later_unhidden : goal.returns-then-not-later_unhidden
 unfolding Bytes
 returns-then-not-later_unhidden c =
     let a = c.args in
-    let bytes : Bytes a.m.now = λ i. omega (arith, c.shared_slice_known-1.given i) in
+    let bytes : Bytes a.b.now.bytes.now = c.args.b.now.fits in
     let later = c.later_unhidden in
     sym
-    (hidden-wrong a.h.size a.h.dimension a.h.count a.m.now c.requires.0.dimension bytes c.requires.1
+    (hidden-wrong a.b.now.head.size a.b.now.head.dimension a.b.now.head.count a.b.now.bytes.now c.args.b.now.readable.dimension bytes c.requires.0
     (later.ensures.false-says (c.if-not-later_unhidden.true)))
 
 pub loop-from-smaller-else-not-later_unhidden : goal.loop-from-smaller-else-not-later_unhidden
@@ -67,13 +54,13 @@ loop-from-preserved-else-not-later_unhidden c =
     let own = c.loop-from in
     let next = c.next_chunk-chunk in
     let high = there (goal.at.loop-from-preserved-else-not-later_unhidden c).Joined-from-eq0 in
-    let n = a.h.count in
+    let n = a.b.now.head.count in
     let to = next.result.to in
     let later = c.later_unhidden in (
       next.ensures.end,
-      unhidden-chunk a.h.size a.h.dimension a.m.now n own.from to own.invariant.1
+      unhidden-chunk a.b.now.head.size a.b.now.head.dimension a.b.now.bytes.now n own.from to own.invariant.1
           (next.ensures.said.true-says (not-false next.result.unhidden c.if-not-chunk.false))
-          (subst (λ (z : ℕ). Unhidden a.h.size a.h.dimension a.m.now z to to n) next.ensures.starts (later.ensures.true-says (c.if-not-later_unhidden.false))),
+          (subst (λ (z : ℕ). Unhidden a.b.now.head.size a.b.now.head.dimension a.b.now.bytes.now z to to n) next.ensures.starts (later.ensures.true-says (c.if-not-later_unhidden.false))),
       high.runs,
       λ _ _. high,
     )
@@ -89,13 +76,13 @@ loop-from-preserved c =
     let a = c.args in
     let own = c.loop-from in
     let next = c.next_chunk-chunk in
-    let n = a.h.count in
+    let n = a.b.now.head.count in
     let to = next.result.to in
     let all : n ≡ to = omega (arith, next.ensures.end, c.if-chunk-n.false) in (
       next.ensures.end,
-      unhidden-chunk a.h.size a.h.dimension a.m.now n own.from to own.invariant.1
+      unhidden-chunk a.b.now.head.size a.b.now.head.dimension a.b.now.bytes.now n own.from to own.invariant.1
           (next.ensures.said.true-says (not-false next.result.unhidden c.if-not-chunk.false))
-          (subst (Unhidden a.h.size a.h.dimension a.m.now own.from to to) (sym all) (unhidden-none a.h.size a.h.dimension a.m.now own.from to to)),
+          (subst (Unhidden a.b.now.head.size a.b.now.head.dimension a.b.now.bytes.now own.from to to) (sym all) (unhidden-none a.b.now.head.size a.b.now.head.dimension a.b.now.bytes.now own.from to to)),
       own.invariant.2,
       λ _ l. absurd (omega (arith, c.if-chunk-n.false)),
     )
@@ -105,8 +92,8 @@ unfolding Bytes
 returns c =
     let a = c.args in
     let own = c.loop-from in
-    let bytes : Bytes a.m.now = λ i. omega (arith, c.shared_slice_known-1.given i) in
-    let all : own.from ≡ a.h.count = omega arith in
+    let bytes : Bytes a.b.now.bytes.now = c.args.b.now.fits in
+    let all : own.from ≡ a.b.now.head.count = omega arith in
     sym
-    (unhidden-right a.h.size a.h.dimension a.h.count a.m.now c.requires.0.dimension bytes c.requires.1
-    (subst (λ (z : ℕ). Unhidden a.h.size a.h.dimension a.m.now 0 z 0 a.h.count) all own.invariant.1))
+    (unhidden-right a.b.now.head.size a.b.now.head.dimension a.b.now.head.count a.b.now.bytes.now c.args.b.now.readable.dimension bytes c.requires.0
+    (subst (λ (z : ℕ). Unhidden a.b.now.head.size a.b.now.head.dimension a.b.now.bytes.now 0 z 0 a.b.now.head.count) all own.invariant.1))

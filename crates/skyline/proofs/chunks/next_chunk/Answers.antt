@@ -33,24 +33,9 @@ loop-i-init c =
       omega arith,
       omega arith,
       omega arith,
-      gathered_none a.h.size a.m.now a.from _ _,
-      unhidden-none a.h.size a.h.dimension a.m.now a.from a.from a.from,
+      gathered_none a.b.now.head.size a.b.now.bytes.now a.from _ _,
+      unhidden-none a.b.now.head.size a.b.now.head.dimension a.b.now.bytes.now a.from a.from a.from,
     )
-
-pub looks_at-requires : goal.looks_at-requires
-looks_at-requires c =
-    (c.requires.0, inside c.loop-i.i c.args.h.count _ c.loop-i-test.true)
-
-pub bounds_at-q-requires : goal.bounds_at-q-requires
-bounds_at-q-requires c =
-    let own = c.loop-i in
-    (c.requires.0, inside own.i c.args.h.count _ c.loop-i-test.true)
-
-pub some_fits-requires : goal.some_fits-requires
-some_fits-requires c =
-    let a = c.args in
-    let own = c.loop-i in
-    subst (Bounds a.h.dimension) (sym c.bounds_at-q.ensures) (bounds-past a.h.size a.h.dimension a.m.now own.i)
 
 pub returns-then-some_fits : goal.returns-then-some_fits
 unfolding Bytes
@@ -58,7 +43,7 @@ returns-then-some_fits c =
     let a = c.args in
     let own = c.loop-i in
     let bounds = c.bounds_at-q in
-    let bytes : Bytes a.m.now = λ k. omega (arith, c.shared_slice_known-1.given k) in
+    let bytes : Bytes a.b.now.bytes.now = c.args.b.now.fits in
     let some = ltb-true 0 own.count (and_left (ltb 0 own.count) (not c.exceeds.result) c.if-count-exceeds.true) in
     record {
       starts = refl;
@@ -69,44 +54,33 @@ returns-then-some_fits c =
       said = record {
         true-says = λ e. both_ways e refl;
         false-says = λ _.
-            columns-some a.h.size a.h.dimension a.m.now own.i bounds.result bounds.ensures a.from own.i own.columns own.low own.invariant.5 bytes
-            (omega (arith, own.invariant.4, some)) (omega arith) a.h.count
-            (inside own.i a.h.count _ c.loop-i-test.true)
+            columns-some a.b.now.head.size a.b.now.head.dimension a.b.now.bytes.now own.i bounds.result bounds.ensures a.from own.i own.columns own.low own.invariant.5 bytes
+            (omega (arith, own.invariant.4, some)) (omega arith) a.b.now.head.count
+            (inside own.i a.b.now.head.count _ c.loop-i-test.true)
             (sym c.looks_at.ensures ∙ c.if-looks_at.true)
             (c.some_fits.ensures.true-says c.if-some_fits.true);
       };
     }
 
-pub seen_at-costs-requires : goal.seen_at-costs-requires
-seen_at-costs-requires c =
-    let own = c.loop-i in
-    (c.requires.0, inside own.i c.args.h.count _ c.loop-i-test.true)
-
-pub put-requires : goal.put-requires
-put-requires c =
-    let own = c.loop-i in
-    room (ltb own.i c.args.h.count) own.count
-    c.loop-i-test.true
-
 pub loop-i-smaller : goal.loop-i-smaller
 loop-i-smaller c =
     let own = c.loop-i in
-    omega (arith, inside own.i c.args.h.count _ c.loop-i-test.true)
+    omega (arith, inside own.i c.args.b.now.head.count _ c.loop-i-test.true)
 
 pub loop-i-preserved : goal.loop-i-preserved
 loop-i-preserved c =
     let a = c.args in
     let own = c.loop-i in
     let taken = c.loop-i-test.true in
-    let free = room (ltb own.i a.h.count) own.count taken in
-    let size = a.h.size in
-    let d = a.h.dimension in
-    let m = a.m.now in
+    let free = room (ltb own.i a.b.now.head.count) own.count taken in
+    let size = a.b.now.head.size in
+    let d = a.b.now.head.dimension in
+    let m = a.b.now.bytes.now in
     let i = own.i in
     let inv = own.invariant in
     let shown = sym c.looks_at.ensures in (
       omega arith,
-      omega (arith, inside own.i a.h.count _ taken),
+      omega (arith, inside own.i a.b.now.head.count _ taken),
       elim c.if-looks_at.branch [ then-looks_at w ↦ omega (arith, w.count-is, free) | else-looks_at w ↦ omega (arith, w.count-is, free) ],
       elim c.if-looks_at.branch [ then-looks_at w ↦ omega (arith, w.count-is, inv.3) | else-looks_at w ↦ omega (arith, w.count-is, inv.3) ],
       elim c.if-looks_at.branch [ then-looks_at w ↦ omega (arith, w.count-is, more-count size m a.from i own.count own.columns own.low inv.0 inv.5 inv.4 (shown ∙ w.if-looks_at.true)) | else-looks_at w ↦ omega (arith, w.count-is, same_count size m a.from i own.count own.columns own.low inv.0 inv.5 inv.4 (shown ∙ w.if-looks_at.false)) ],
@@ -144,9 +118,14 @@ returns c =
     let own = c.loop-i in
     record {
       starts = refl;
-      more = λ _. chunk-grows c.args.from c.args.h.count own.i own.count c.requires.1 own.invariant.3 c.loop-i-test.false;
+      more = λ _. chunk-grows c.args.from c.args.b.now.head.count own.i own.count c.requires own.invariant.3 c.loop-i-test.false;
       end = own.invariant.1;
       gathered = own.invariant.5;
-      some = λ _ l. omega (arith, own.invariant.4, chunk-some c.args.h.count own.i own.count c.loop-i-test.false l);
+      some = λ _ l. omega (arith, own.invariant.4, chunk-some c.args.b.now.head.count own.i own.count c.loop-i-test.false l);
       said = record { true-says = λ _. own.invariant.6; false-says = λ e. both_ways refl e };
     }
+
+pub some_fits-requires : goal.some_fits-requires
+some_fits-requires c =
+    let b = c.args.b.now in
+    subst (Bounds b.head.dimension) (sym c.bounds_at-q.ensures) (bounds-past b.head.size b.head.dimension b.bytes.now c.loop-i.i)

@@ -12,9 +12,9 @@ invariant-loop-i l =
     × (l.i ≤ l.n)
     × (l.count ≤ 64)
     × (l.count + l.from ≤ l.i)
-    × (count_to (listed l.h.size l.m) l.i ≡ count_to (listed l.h.size l.m) l.from + l.count)
-    × Gathered l.h.size l.m l.from l.i l.columns l.low
-    × Unhidden l.h.size l.h.dimension l.m l.from l.i l.from l.i
+    × (count_to (listed l.b.head.size l.b.bytes.now) l.i ≡ count_to (listed l.b.head.size l.b.bytes.now) l.from + l.count)
+    × Gathered l.b.head.size l.b.bytes.now l.from l.i l.columns l.low
+    × Unhidden l.b.head.size l.b.head.dimension l.b.bytes.now l.from l.i l.from l.i
 
 abbrev pub decreases-loop-i : goal.decreases-loop-i
 decreases-loop-i l = l.n - l.i

@@ -12,19 +12,7 @@ use Rattle.skyline.proofs.chunks.run_unhidden.Goals as goal
 pub loop-j-init : goal.loop-j-init
 loop-j-init c =
     let x = c.args in
-    (omega arith, omega arith, λ a b g. unhidden-none x.h.size x.h.dimension x.m.now a b x.i)
-
-pub looks_at-requires : goal.looks_at-requires
-looks_at-requires c = (c.requires.readable.0, omega arith)
-
-pub bounds_at-q-requires : goal.bounds_at-q-requires
-bounds_at-q-requires c = (c.requires.readable.0, omega arith)
-
-pub some_fits-requires : goal.some_fits-requires
-some_fits-requires c =
-    let x = c.args in
-    let own = c.loop-j in
-    subst (Bounds x.h.dimension) (sym c.bounds_at-q.ensures) (bounds-past x.h.size x.h.dimension x.m.now own.j)
+    (omega arith, omega arith, λ a b g. unhidden-none x.b.now.head.size x.b.now.head.dimension x.b.now.bytes.now a b x.i)
 
 pub returns-then-some_fits : goal.returns-then-some_fits
 unfolding Bytes
@@ -32,13 +20,13 @@ returns-then-some_fits c =
     let x = c.args in
     let own = c.loop-j in
     let bounds = c.bounds_at-q in
-    let bytes : Bytes x.m.now = λ i. omega (arith, c.shared_slice_known-1.given i) in
+    let bytes : Bytes x.b.now.bytes.now = c.args.b.now.fits in
     record {
       true-says = λ e. both_ways e refl;
       false-says = λ _.
-          columns-some x.h.size x.h.dimension x.m.now own.j bounds.result bounds.ensures x.chunk.from x.chunk.to x.columns.now x.chunk.low
-          c.requires.gathered_chunk.0 bytes c.requires.gathered_chunk.1 (omega (arith, c.requires.readable, own.invariant)) x.h.count
-          (omega (arith, c.requires.readable, c.loop-j-test.true))
+          columns-some x.b.now.head.size x.b.now.head.dimension x.b.now.bytes.now own.j bounds.result bounds.ensures x.chunk.from x.chunk.to x.columns.now x.chunk.low
+          c.requires.gathered_chunk.0 bytes c.requires.gathered_chunk.1 (omega (arith, c.requires.place, own.invariant)) x.b.now.head.count
+          (omega (arith, c.requires.place, c.loop-j-test.true))
           (sym c.looks_at.ensures ∙ c.if-looks_at.true)
           (c.some_fits.ensures.true-says c.if-some_fits.true);
     }
@@ -47,9 +35,9 @@ pub loop-j-preserved : goal.loop-j-preserved
 loop-j-preserved c =
     let x = c.args in
     let own = c.loop-j in
-    let size = x.h.size in
-    let d = x.h.dimension in
-    let m = x.m.now in
+    let size = x.b.now.head.size in
+    let d = x.b.now.head.dimension in
+    let m = x.b.now.bytes.now in
     let columns = x.columns.now in
     let low = x.chunk.low in (
       omega arith,
@@ -66,7 +54,12 @@ returns c =
     let all : own.j ≡ x.to = omega arith in
     record {
       true-says = λ _.
-          subst (Unhidden x.h.size x.h.dimension x.m.now x.chunk.from x.chunk.to x.i) all
+          subst (Unhidden x.b.now.head.size x.b.now.head.dimension x.b.now.bytes.now x.chunk.from x.chunk.to x.i) all
           (own.invariant.2 x.chunk.from x.chunk.to c.requires.gathered_chunk.0);
       false-says = λ e. both_ways refl e;
     }
+
+pub some_fits-requires : goal.some_fits-requires
+some_fits-requires c =
+    let b = c.args.b.now in
+    subst (Bounds b.head.dimension) (sym c.bounds_at-q.ensures) (bounds-past b.head.size b.head.dimension b.bytes.now c.loop-j.j)

@@ -9,7 +9,7 @@ use Rattle.skyline.proofs.hiders.hidden_right.Given as goal
 
 abbrev pub invariant-loop-i : goal.invariant-loop-i
 invariant-loop-i l =
-    (l.i ≤ l.n) × (l.at < 8) × ListedCorners l.h l.m l.i l.corners × (hidden_right l.h.size l.h.dimension l.i l.m ≡ true)
+    (l.i ≤ l.n) × (l.at < 8) × ListedCorners l.b.head l.b.bytes.now l.i l.corners × (hidden_right l.b.head.size l.b.head.dimension l.i l.b.bytes.now ≡ true)
 
 abbrev pub decreases-loop-i : goal.decreases-loop-i
 decreases-loop-i l = l.n - l.i

@@ -4,7 +4,7 @@ use Rattle.skyline.specs.Chunks.{Highs}
 use Rattle.skyline.proofs.highs.put_highs.Given as goal
 
 abbrev pub invariant-loop-i : goal.invariant-loop-i
-invariant-loop-i l = (l.i ≤ l.n) × Highs l.h.size l.h.dimension l.m l.i l.highs
+invariant-loop-i l = (l.i ≤ l.n) × Highs l.b.head.size l.b.head.dimension l.b.bytes.now l.i l.highs
 
 abbrev pub decreases-loop-i : goal.decreases-loop-i
 decreases-loop-i l = l.n - l.i
