@@ -2,16 +2,15 @@
 ghost use Rattle.std.specs.Prelude.{◌≡◌, ◌≤◌, ◌<◌};
 ghost use Rattle.promises.specs.Layout.{move_in};
 ghost use Rattle.memory.specs.Held.{SoundAt};
-ghost use Rattle.memory.specs.Room.{Readable};
+ghost use Rattle.search.specs.declared.search.Among.TheVariants.{All};
 ghost use Rattle.upkeep.specs.Change as spec;
 
 use crate::exchange::{Exchange, hidden_by_coming, hidden_by_others};
 use dominance::hides;
-use memory::{Head, is_listed, move_at, number_at};
+use memory::Board;
 use nodes::next_leaf;
 use numbers::{WORDS, add};
-use search::{Among, RUNS, corners_of};
-use zorder::COSTS;
+use search::{Among, Index};
 
 // How many moves enter the list, and the nodes opened while looking for them.
 #[derive(Clone, Copy)]
@@ -22,98 +21,101 @@ pub struct Entered {
 
 // Whether the move at place i, which is not listed, comes up: that can be only where the going one,
 // which is listed, hides it.
-fn comes_up(m: &[u8], h: Head, k: Exchange, corners: &[[u16; COSTS]; RUNS], i: usize) -> bool
-    requires { spec.GoesListed h k m.now × spec.AllCorners h m.now corners.now
-        × (i < h.count) }
-    ensures { result ≡ spec.comes_up h.size h.dimension h.count k
-        (move_in h.size h.dimension m.now i) m.now }
+fn comes_up(all: &Index, k: Exchange, i: usize) -> bool
+    requires goes_listed { spec.GoesListed all.now.board.head k all.now.board.bytes.now }
+    requires all { all.now.among ≡ All }
+    requires place { i < all.now.board.head.count }
+    ensures { result ≡ spec.comes_up all.now.board.head.size all.now.board.head.dimension
+        all.now.board.head.count k
+        (move_in all.now.board.head.size all.now.board.head.dimension all.now.board.bytes.now i)
+        all.now.board.bytes.now }
 {
+    let b = &all.board;
     let goes = k.goes;
-    let x = move_at(m, h.size, h.dimension, i);
-    let going = move_at(m, h.size, h.dimension, goes);
-    if !hides(h.dimension, going, x) {
+    let x = b.move_at(i);
+    let going = b.move_at(goes);
+    if !hides(b.head.dimension, going, x) {
         return false;
     }
-    if hidden_by_coming(h.dimension, k, x) {
+    if hidden_by_coming(b.head.dimension, k, x) {
         return false;
     }
-    !hidden_by_others(m, h, goes, i, corners, x)
+    !hidden_by_others(all, goes, i, x)
 }
 
 // Whether the move at place i enters the list, where a listed one goes.
-fn enters(m: &[u8], h: Head, k: Exchange, corners: &[[u16; COSTS]; RUNS], i: usize) -> bool
-    requires { spec.GoesListed h k m.now × spec.AllCorners h m.now corners.now
-        × (i < h.count) }
-    ensures { result ≡ spec.enters_at h.size h.dimension h.count k m.now i }
+fn enters(all: &Index, k: Exchange, i: usize) -> bool
+    requires goes_listed { spec.GoesListed all.now.board.head k all.now.board.bytes.now }
+    requires all { all.now.among ≡ All }
+    requires place { i < all.now.board.head.count }
+    ensures { result ≡ spec.enters_at all.now.board.head.size all.now.board.head.dimension
+        all.now.board.head.count k all.now.board.bytes.now i }
 {
-    if is_listed(m, h.size, number_at(m, h.size, i)) {
+    let b = &all.board;
+    if b.is_listed(b.number_at(i)) {
         return false;
     }
     if i == k.goes {
         return false;
     }
-    comes_up(m, h, k, corners, i)
+    comes_up(all, k, i)
 }
 
 // Whether a move goes and is listed.
-fn goes_listed(m: &[u8], h: Head, goes: usize) -> bool
-    requires { Readable h m.now }
-    ensures { result ≡ spec.goes_listed h.size h.count goes m.now }
+fn goes_listed(b: &Board, goes: usize) -> bool
+    ensures { result ≡ spec.goes_listed b.now.head.size b.now.head.count goes b.now.bytes.now }
 {
-    if h.count <= goes {
+    if b.head.count <= goes {
         return false;
     }
-    is_listed(m, h.size, number_at(m, h.size, goes))
+    b.is_listed(b.number_at(goes))
 }
 
 // The moves of a leaf that enter the list.
 fn find_in_leaf(
-    m: &[u8],
-    h: Head,
+    all: &Index,
     k: Exchange,
-    corners: &[[u16; COSTS]; RUNS],
     start: usize,
     end: usize,
     changed: &mut [u64; WORDS],
 ) -> usize
-    requires { spec.GoesListed h k m.now × spec.AllCorners h m.now corners.now
-        × (start ≤ end) × (end ≤ h.count) }
-    ensures { spec.Passing h.size m.now (spec.enters_at h.size h.dimension
-        h.count k m.now) changed.old start end changed.new result }
+    requires goes_listed { spec.GoesListed all.now.board.head k all.now.board.bytes.now }
+    requires all { all.now.among ≡ All }
+    requires place { (start ≤ end) × (end ≤ all.now.board.head.count) }
+    ensures { spec.Passing all.now.board.head.size all.now.board.bytes.now (spec.enters_at
+        all.now.board.head.size all.now.board.head.dimension
+        all.now.board.head.count k all.now.board.bytes.now) changed.old start end changed.new
+        result }
 {
+    let b = &all.board;
     let mut entered: usize = 0;
-    let mut i = start;
-    while i < end {
-        if enters(m, h, k, corners, i) {
-            add(changed, number_at(m, h.size, i));
+    for i in start..end {
+        if enters(all, k, i) {
+            add(changed, b.number_at(i));
             entered += 1;
         }
-        i += 1;
     }
     entered
 }
 
 // The moves that enter the list, where a listed one goes: they are looked for in the leaves that
 // are opened, and nowhere else.
-fn find_in_leaves(
-    m: &[u8],
-    h: Head,
-    k: Exchange,
-    corners: &[[u16; COSTS]; RUNS],
-    changed: &mut [u64; WORDS],
-) -> Entered
-    requires { spec.GoesListed h k m.now × spec.AllCorners h m.now corners.now }
-    ensures { spec.Entering h.size h.dimension h.count k m.now
+fn find_in_leaves(all: &Index, k: Exchange, changed: &mut [u64; WORDS]) -> Entered
+    requires goes_listed { spec.GoesListed all.now.board.head k all.now.board.bytes.now }
+    requires all { all.now.among ≡ All }
+    ensures { spec.Entering all.now.board.head.size all.now.board.head.dimension
+        all.now.board.head.count k all.now.board.bytes.now
         changed.old changed.new result }
 {
-    let n = h.count;
-    let listed = corners_of(m, h, Among::Listed);
+    let b = &all.board;
+    let n = b.head.count;
+    let listed = Index::new(b, Among::Listed);
     let mut count: usize = 0;
     let mut opened: usize = 0;
     let mut i = 0;
     while i < n {
-        let leaf = next_leaf(m, h, k.goes, &listed, i);
-        count += find_in_leaf(m, h, k, corners, leaf.start, leaf.end, changed);
+        let leaf = next_leaf(&listed, k.goes, i);
+        count += find_in_leaf(all, k, leaf.start, leaf.end, changed);
         opened += leaf.opened;
         i = leaf.end;
     }
@@ -121,19 +123,16 @@ fn find_in_leaves(
 }
 
 // Gives the moves that enter the list: none does unless a listed one goes.
-pub fn find_entering(
-    m: &[u8],
-    h: Head,
-    k: Exchange,
-    corners: &[[u16; COSTS]; RUNS],
-    changed: &mut [u64; WORDS],
-) -> Entered
-    requires { SoundAt h m.now × spec.AllCorners h m.now corners.now }
-    ensures { spec.Entering h.size h.dimension h.count k m.now
+pub fn find_entering(all: &Index, k: Exchange, changed: &mut [u64; WORDS]) -> Entered
+    requires sound_at { SoundAt all.now.board.head all.now.board.bytes.now }
+    requires all { all.now.among ≡ All }
+    ensures { spec.Entering all.now.board.head.size all.now.board.head.dimension
+        all.now.board.head.count k all.now.board.bytes.now
         changed.old changed.new result }
 {
-    if goes_listed(m, h, k.goes) {
-        return find_in_leaves(m, h, k, corners, changed);
+    let b = &all.board;
+    if goes_listed(b, k.goes) {
+        return find_in_leaves(all, k, changed);
     }
     Entered {
         count: 0,

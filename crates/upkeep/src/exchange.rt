@@ -2,15 +2,13 @@
 // place goes, or none; a move comes, or none.
 ghost use Rattle.std.specs.Prelude.{◌≡◌, ◌≤◌};
 ghost use Rattle.dominance.specs.Move.{as_move};
-ghost use Rattle.memory.specs.Room.{Readable};
+ghost use Rattle.search.specs.declared.search.Among.TheVariants.{All};
 ghost use Rattle.upkeep.specs.Change as spec;
 ghost use Rattle.zorder.specs.Address.{row_costs};
 
 use dominance::{Move, bounds_of, hides};
-use memory::Head;
 use numbers::WORDS;
-use search::{Among, RUNS, next_within};
-use zorder::COSTS;
+use search::Index;
 
 // `goes` is a place, or the number of moves where none goes.
 #[derive(Clone, Copy)]
@@ -35,29 +33,25 @@ pub struct Upkeep {
 
 // Says whether a move other than that at place `goes` hides x, whose place is i: only earlier moves
 // can, and they do where they are nowhere greater.
-pub fn hidden_by_others(
-    m: &[u8],
-    h: Head,
-    goes: usize,
-    i: usize,
-    corners: &[[u16; COSTS]; RUNS],
-    x: Move,
-) -> bool
-    requires readable { Readable h m.now × spec.AllCorners h m.now corners.now }
-    requires parted { spec.Parted h.size h.dimension h.count i (as_move x) m.now }
-    ensures { result ≡ spec.hidden_by_others h.size h.dimension h.count goes (as_move x)
-        m.now }
+pub fn hidden_by_others(all: &Index, goes: usize, i: usize, x: Move) -> bool
+    requires all { all.now.among ≡ All }
+    requires parted { spec.Parted all.now.board.head.size all.now.board.head.dimension
+        all.now.board.head.count i (as_move x) all.now.board.bytes.now }
+    ensures { result ≡ spec.hidden_by_others all.now.board.head.size all.now.board.head.dimension
+        all.now.board.head.count goes (as_move x)
+        all.now.board.bytes.now }
 {
+    let b = &all.board;
     let costs = x.costs;
-    let q = bounds_of(h.dimension, costs);
-    let j = next_within(m, h, 0, i, Among::All, corners, q);
+    let q = bounds_of(b.head.dimension, costs);
+    let j = all.next_within(0, i, q);
     if i <= j {
         return false;
     }
     if j != goes {
         return true;
     }
-    next_within(m, h, j + 1, i, Among::All, corners, q) < i
+    all.next_within(j + 1, i, q) < i
 }
 
 // Says whether the coming move hides x.

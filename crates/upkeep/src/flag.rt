@@ -3,7 +3,7 @@
 ghost use Rattle.memory.specs.Room.{Readable, InOrder};
 ghost use Rattle.upkeep.specs.Flag.{Once, Flagged};
 
-use memory::{Head, number_at, set_listed};
+use memory::{Board, Head, set_listed};
 use search::{Among, RUN, RUNS, corner_with, tried_next};
 use skyline::hider_before;
 use zorder::COSTS;
@@ -17,14 +17,14 @@ pub fn flag_all(m: &mut [u8], h: Head)
     let n = h.count;
     let mut corners = [[65535u16; COSTS]; RUNS];
     let mut last = 0;
-    let mut i = 0;
-    while i < n {
-        let hider = hider_before(m, h, i, last, &corners);
-        let number = number_at(m, h.size, i);
+    for i in 0..n {
+        let b = Board { bytes: m, head: h };
+        let hider = hider_before(&b, i, last, &corners);
+        let number = b.number_at(i);
         set_listed(m, h.size, number, !(hider < i));
+        let b = Board { bytes: m, head: h };
         let low = corners[i / RUN];
-        corners[i / RUN] = corner_with(m, h, i, Among::Listed, low);
+        corners[i / RUN] = corner_with(&b, i, Among::Listed, low);
         last = tried_next(hider, i, last);
-        i += 1;
     }
 }

@@ -1,81 +1,73 @@
 // What a change does to the kept list, found without writing.
 ghost use Rattle.std.specs.Prelude.{◌≡◌, ◌<◌};
-ghost use Rattle.memory.specs.Room.{Readable};
+ghost use Rattle.search.specs.declared.search.Among.TheVariants.{All};
 ghost use Rattle.upkeep.specs.Change as spec;
 
 use crate::entering::find_entering;
 use crate::exchange::{Exchange, Upkeep, hidden_by_coming, hidden_by_others};
-use memory::{Head, is_listed, move_at, number_at};
+use memory::Board;
 use numbers::{WORDS, add, empty};
-use search::{Among, RUNS, corners_of};
-use zorder::COSTS;
+use search::{Among, Index};
 
 // Whether the move at place i leaves the list.
-fn leaves(m: &[u8], h: Head, k: Exchange, i: usize) -> bool
-    requires { Readable h m.now × (i < h.count) }
-    ensures { result ≡ spec.leaves_at h.size h.dimension k m.now i }
+fn leaves(b: &Board, k: Exchange, i: usize) -> bool
+    requires { i < b.now.head.count }
+    ensures { result ≡ spec.leaves_at b.now.head.size b.now.head.dimension k b.now.bytes.now i }
 {
-    if !is_listed(m, h.size, number_at(m, h.size, i)) {
+    if !b.is_listed(b.number_at(i)) {
         return false;
     }
     if i == k.goes {
         return true;
     }
-    hidden_by_coming(h.dimension, k, move_at(m, h.size, h.dimension, i))
+    hidden_by_coming(b.head.dimension, k, b.move_at(i))
 }
 
 // The moves that leave the list.
-fn find_leaving(m: &[u8], h: Head, k: Exchange, changed: &mut [u64; WORDS]) -> usize
-    requires { Readable h m.now }
-    ensures { spec.Passing h.size m.now (spec.leaves_at h.size
-        h.dimension k m.now) changed.old 0 h.count
+fn find_leaving(b: &Board, k: Exchange, changed: &mut [u64; WORDS]) -> usize
+    ensures { spec.Passing b.now.head.size b.now.bytes.now (spec.leaves_at b.now.head.size
+        b.now.head.dimension k b.now.bytes.now) changed.old 0 b.now.head.count
         changed.new result }
 {
-    let n = h.count;
+    let n = b.head.count;
     let mut left: usize = 0;
-    let mut i = 0;
-    while i < n {
-        if leaves(m, h, k, i) {
-            add(changed, number_at(m, h.size, i));
+    for i in 0..n {
+        if leaves(b, k, i) {
+            add(changed, b.number_at(i));
             left += 1;
         }
-        i += 1;
     }
     left
 }
 
 // Whether a move comes and is listed afterwards; its place is that among the moves before the
 // change.
-fn coming_listed(
-    m: &[u8],
-    h: Head,
-    k: Exchange,
-    corners: &[[u16; COSTS]; RUNS],
-    place: usize,
-) -> bool
-    requires change_asked { spec.ChangeAsked h k m.now × spec.AllCorners h m.now corners.now }
-    requires coming_place { spec.ComingPlace h k m.now place }
-    ensures { result ≡ spec.coming_listed h.size h.dimension h.count k
-        m.now }
+fn coming_listed(all: &Index, k: Exchange, place: usize) -> bool
+    requires change_asked { spec.ChangeAsked all.now.board.head k all.now.board.bytes.now }
+    requires all { all.now.among ≡ All }
+    requires coming_place { spec.ComingPlace all.now.board.head k all.now.board.bytes.now place }
+    ensures { result ≡ spec.coming_listed all.now.board.head.size all.now.board.head.dimension
+        all.now.board.head.count k
+        all.now.board.bytes.now }
 {
     if !k.comes {
         return false;
     }
     let x = k.coming;
-    !hidden_by_others(m, h, k.goes, place, corners, x)
+    !hidden_by_others(all, k.goes, place, x)
 }
 
 // Finds who leaves the list and who enters it; a coming move gets `place`.
-pub fn upkeep_of(m: &[u8], h: Head, k: Exchange, place: usize) -> Upkeep
-    requires change_asked { spec.ChangeAsked h k m.now }
-    requires coming_place { spec.ComingPlace h k m.now place }
-    ensures { spec.Upkept h k m.now result }
+pub fn upkeep_of(b: &Board, k: Exchange, place: usize) -> Upkeep
+    requires change_asked { spec.ChangeAsked b.now.head k b.now.bytes.now }
+    requires coming_place { spec.ComingPlace b.now.head k b.now.bytes.now place }
+    ensures { spec.Upkept b.now.head k b.now.bytes.now result }
 {
-    let corners = corners_of(m, h, Among::All);
-    let listed = coming_listed(m, h, k, &corners, place);
+    let all = Index::new(b, Among::All);
+    let listed = coming_listed(&all, k, place);
     let mut changed = empty();
-    let left = find_leaving(m, h, k, &mut changed);
-    let entered = find_entering(m, h, k, &corners, &mut changed);
+    let left = find_leaving(b, k, &mut changed);
+    let entered = find_entering(&all, k, &mut changed);
     Upkeep {
         changed,
         left,

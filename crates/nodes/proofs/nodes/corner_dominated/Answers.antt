@@ -11,41 +11,45 @@ pub loop-j-init : goal.loop-j-init
 unfolding Bytes
 loop-j-init c =
     let a = c.args in
-    sought-first a.listed.now.board.head.size a.listed.now.board.head.dimension a.goes a.i a.listed.now.board.bytes.now a.near c.bounds_of-q.result c.args.listed.now.board.readable.dimension
-    a.listed.now.board.fits (omega arith) c.bounds_of-q.ensures c.next_within-j.result (first-among _ _ _ c.requires.listed c.next_within-j.ensures)
+    let b = a.listed.now.board in
+    sought-first b.head.size b.head.dimension a.goes a.i b.bytes.now a.near c.bounds_of-q.result b.readable.dimension
+    b.fits (omega arith) c.bounds_of-q.ensures c.next_within-j.result (first-among _ _ _ c.requires.listed c.next_within-j.ensures)
 
 pub returns-then-j-goes : goal.returns-then-j-goes
 unfolding Bytes
 returns-then-j-goes c =
     let a = c.args in
+    let b = a.listed.now.board in
     let own = c.loop-j in
     let q = c.bounds_of-q in
     let number = c.number_at in
     let costs = c.costs_of-costs in
     let less = c.exceeds in
     sym
-    (sought-found a.listed.now.board.head.size a.listed.now.board.head.dimension a.goes a.i a.listed.now.board.bytes.now a.near q.result c.args.listed.now.board.readable.dimension
-    a.listed.now.board.fits (omega (arith, c.well_formed)) q.ensures own.j own.invariant
+    (sought-found b.head.size b.head.dimension a.goes a.i b.bytes.now a.near q.result b.readable.dimension
+    b.fits (omega (arith, c.well_formed)) q.ensures own.j own.invariant
     number.result number.ensures.0 costs.result costs.ensures (not (eqb own.j a.goes) && less.result) (ap (λ (t : Bool). not (eqb own.j a.goes) && t) less.ensures) c.loop-j-test.true c.if-j-goes.true)
 
 pub loop-j-preserved : goal.loop-j-preserved
 unfolding Bytes
 loop-j-preserved c =
     let a = c.args in
+    let b = a.listed.now.board in
     let own = c.loop-j in
     let q = c.bounds_of-q in
     let number = c.number_at in
     let costs = c.costs_of-costs in
     let less = c.exceeds in
-    sought-next a.listed.now.board.head.size a.listed.now.board.head.dimension a.goes a.i a.listed.now.board.bytes.now a.near q.result c.args.listed.now.board.readable.dimension
-    a.listed.now.board.fits (omega (arith, c.well_formed)) q.ensures own.j own.invariant
+    sought-next b.head.size b.head.dimension a.goes a.i b.bytes.now a.near q.result b.readable.dimension
+    b.fits (omega (arith, c.well_formed)) q.ensures own.j own.invariant
     number.result number.ensures.0 costs.result costs.ensures (not (eqb own.j a.goes) && less.result) (ap (λ (t : Bool). not (eqb own.j a.goes) && t) less.ensures) c.if-j-goes.false c.next_within-j-in-loop-j.result (first-among _ _ _ c.requires.listed c.next_within-j-in-loop-j.ensures)
 
 pub returns : goal.returns
 returns c =
     let a = c.args in
+    let b = a.listed.now.board in
     let own = c.loop-j in
-    sym (sought-none a.listed.now.board.head.size a.listed.now.board.head.dimension a.goes a.i a.listed.now.board.bytes.now a.near c.bounds_of-q.result own.j own.invariant (omega arith))
+    sym (sought-none b.head.size b.head.dimension a.goes a.i b.bytes.now a.near c.bounds_of-q.result own.j own.invariant (omega arith))
 
 pub loop-j-smaller : goal.loop-j-smaller
 loop-j-smaller c = omega (arith, c.next_within-j-in-loop-j.ensures.from)

@@ -13,14 +13,16 @@ use Rattle.nodes.proofs.nodes.exceeds_far.Goals as goal
 pub returns-then-b-goes : goal.returns-then-b-goes
 returns-then-b-goes c =
     let a = c.args in
-    ap not (sym (within_all a.b.now.head.size a.b.now.head.dimension a.goes a.b.now.head.count a.b.now.bytes.now (far_of a.b.now.head.dimension a.first a.last) (omega (arith, c.if-b-goes.true))))
+    let b = a.b.now in
+    ap not (sym (within_all b.head.size b.head.dimension a.goes b.head.count b.bytes.now (far_of b.head.dimension a.first a.last) (omega (arith, c.if-b-goes.true))))
 
 pub returns : goal.returns
 returns c =
     let a = c.args in
+    let b = a.b.now in
     let number = c.number_at in
     let far = c.far_of in
     c.exceeds.ensures
-    ∙ ap (λ (q : List ℕ). somewhere_less (take a.b.now.head.dimension q) (take a.b.now.head.dimension c.costs_of-going.result)) far.ensures
-    ∙ within-going a.b.now.head.size a.b.now.head.dimension a.goes a.b.now.head.count a.b.now.bytes.now (far_of a.b.now.head.dimension a.first a.last)
+    ∙ ap (λ (q : List ℕ). somewhere_less (take b.head.dimension q) (take b.head.dimension c.costs_of-going.result)) far.ensures
+    ∙ within-going b.head.size b.head.dimension a.goes b.head.count b.bytes.now (far_of b.head.dimension a.first a.last)
     (omega (arith, c.if-b-goes.false)) number.ensures.0 c.costs_of-going.ensures

@@ -7,7 +7,8 @@ pub loop-i-init : goal.loop-i-init
 unfolding Bytes
 loop-i-init c =
     let a = c.args in
-    let s = sound-searchable a.listed.now.board.head.size a.listed.now.board.head.dimension a.listed.now.board.head.count a.listed.now.board.bytes.now c.requires.sound_at a.listed.now.board.fits in
+    let b = a.listed.now.board in
+    let s = sound-searchable b.head.size b.head.dimension b.head.count b.bytes.now c.requires.sound_at b.fits in
     (s, search-start s a.goes a.from c.requires.nodes_from c.level_at-l.result c.level_at-l.ensures)
 
 pub loop-i-preserved-then-not-opens : goal.loop-i-preserved-then-not-opens

@@ -19,15 +19,17 @@ pub loop-i-init : goal.loop-i-init
 unfolding Bytes
 loop-i-init c =
     let a = c.args in
-    counting-none (sound-searchable a.b.now.head.size a.b.now.head.dimension a.b.now.head.count a.b.now.bytes.now c.requires c.args.b.now.fits)
+    let b = a.b.now in
+    counting-none (sound-searchable b.head.size b.head.dimension b.head.count b.bytes.now c.requires b.fits)
 
 pub overflow_add-opened : goal.overflow_add-opened
 unfolding Bytes
 overflow_add-opened c =
     let a = c.args in
+    let b = a.b.now in
     let own = c.loop-i in
     let leaf = c.next_leaf-leaf in
-    let s = sound-searchable a.b.now.head.size a.b.now.head.dimension a.b.now.head.count a.b.now.bytes.now c.requires c.args.b.now.fits in
+    let s = sound-searchable b.head.size b.head.dimension b.head.count b.bytes.now c.requires b.fits in
     omega (arith, counting-few s own.opened own.i leaf.result own.invariant (leaf_found (goal.at.overflow_add-opened c).After-next_leaf-leaf), s.readable.rows, s.readable.room.1)
 
 pub loop-i-smaller : goal.loop-i-smaller

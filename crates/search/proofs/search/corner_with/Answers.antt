@@ -9,10 +9,12 @@ use Rattle.search.proofs.search.corner_with.Goals as goal
 pub returns-then-looks_at : goal.returns-then-looks_at
 returns-then-looks_at c =
     let a = c.args in
-    corner-least a.among a.b.now.head.size a.b.now.bytes.now a.i a.low c.least.result
+    let b = a.b.now in
+    corner-least a.among b.head.size b.bytes.now a.i a.low c.least.result
     (subst (λ (l : List ℕ). Lanes (lesser a.low l) c.least.result) c.seen_at.ensures c.least.ensures)
 
 pub returns : goal.returns
 returns c =
     let a = c.args in
-    corner-same a.among a.b.now.head.size a.b.now.bytes.now a.i a.low (sym c.looks_at.ensures ∙ c.if-looks_at.false)
+    let b = a.b.now in
+    corner-same a.among b.head.size b.bytes.now a.i a.low (sym c.looks_at.ensures ∙ c.if-looks_at.false)

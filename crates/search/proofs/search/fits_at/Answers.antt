@@ -11,8 +11,9 @@ use Rattle.search.proofs.search.fits_at.Goals as goal
 pub returns-then-exceeds : goal.returns-then-exceeds
 returns-then-exceeds c =
     let a = c.args in
+    let b = a.b.now in
     let row = c.seen_at in
-    sym (fits-exceeding a.among a.b.now.head.size a.b.now.bytes.now a.q a.i
+    sym (fits-exceeding a.among b.head.size b.bytes.now a.q a.i
     (sym (ap (λ (l : List ℕ). nowhere_greater l a.q) row.ensures)
     ∙ sym (whole_row row.result a.q (omega arith) (omega arith))
     ∙ sym (ap not c.exceeds.ensures)
@@ -21,9 +22,10 @@ returns-then-exceeds c =
 pub returns : goal.returns
 returns c =
     let a = c.args in
+    let b = a.b.now in
     let row = c.seen_at in
     c.looks_at.ensures
-    ∙ sym (fits-within a.among a.b.now.head.size a.b.now.bytes.now a.q a.i
+    ∙ sym (fits-within a.among b.head.size b.bytes.now a.q a.i
     (sym (ap (λ (l : List ℕ). nowhere_greater l a.q) row.ensures)
     ∙ sym (whole_row row.result a.q (omega arith) (omega arith))
     ∙ sym (ap not c.exceeds.ensures)

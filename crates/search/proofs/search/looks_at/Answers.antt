@@ -7,4 +7,5 @@ pub returns : goal.returns
 unfolding looks_at
 returns c =
     let a = c.args in
-    c.looks.ensures ∙ ap (looks a.among a.b.now.head.size a.b.now.bytes.now) c.number_at.ensures.0
+    let b = a.b.now in
+    c.looks.ensures ∙ ap (looks a.among b.head.size b.bytes.now) c.number_at.ensures.0

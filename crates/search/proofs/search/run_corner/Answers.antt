@@ -18,5 +18,6 @@ pub returns : goal.returns
 returns c =
     let own = c.loop-j in
     let a = c.args in
+    let b = a.b.now in
     let all : own.j ≡ a.to = omega arith in
-    subst (λ (n : ℕ). CornerWith a.among a.b.now.head.size a.b.now.bytes.now a.i n a.low own.corner) all own.invariant.2
+    subst (λ (n : ℕ). CornerWith a.among b.head.size b.bytes.now a.i n a.low own.corner) all own.invariant.2

@@ -9,5 +9,6 @@ pub returns : goal.returns
 unfolding seen_at
 returns c =
     let a = c.args in
+    let b = a.b.now in
     c.seen.ensures
-    ∙ ap (seen a.among) (c.words_of.ensures ∙ ap (costs_in a.b.now.head.size row_costs a.b.now.bytes.now) c.number_at.ensures.0)
+    ∙ ap (seen a.among) (c.words_of.ensures ∙ ap (costs_in b.head.size row_costs b.bytes.now) c.number_at.ensures.0)

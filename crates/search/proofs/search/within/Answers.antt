@@ -15,10 +15,11 @@ returns-then-fits_at c =
 pub loop-j-preserved : goal.loop-j-preserved
 loop-j-preserved c =
     let own = c.loop-j in
-    let a = c.args in (
+    let a = c.args in
+    let b = a.b.now in (
       omega arith,
       omega arith,
-      none_more (fits a.among a.b.now.head.size a.b.now.bytes.now a.q) a.i own.j own.invariant.2 (sym c.fits_at.ensures ∙ c.if-fits_at.false),
+      none_more (fits a.among b.head.size b.bytes.now a.q) a.i own.j own.invariant.2 (sym c.fits_at.ensures ∙ c.if-fits_at.false),
     )
 
 pub returns : goal.returns

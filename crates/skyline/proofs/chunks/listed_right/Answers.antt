@@ -14,7 +14,8 @@ use Rattle.skyline.proofs.chunks.listed_right.Goals as goal
 there : (c : Joined-from-eq0) → Highs c.args.b.now.head.size c.args.b.now.head.dimension c.args.b.now.bytes.now c.args.b.now.head.count c.if-from-eq0.highs
 there c =
     let a = c.args in
-    let There : List (List ℕ) → Type 0 = Highs a.b.now.head.size a.b.now.head.dimension a.b.now.bytes.now a.b.now.head.count in
+    let b = a.b.now in
+    let There : List (List ℕ) → Type 0 = Highs b.head.size b.head.dimension b.bytes.now b.head.count in
     elim c.if-from-eq0.branch [
       | then-from-eq0 w ↦ subst There (sym w.highs-is) w.put_highs.ensures
       | else-from-eq0 w ↦ subst There (sym w.highs-is) (c.loop-from.invariant.3 (omega (arith, w.if-from-eq0.false)) (omega (arith, c.loop-from-test.true)))
@@ -27,20 +28,22 @@ pub returns-then-not-chunk : goal.returns-then-not-chunk
 unfolding Bytes
 returns-then-not-chunk c =
     let a = c.args in
-    let bytes : Bytes a.b.now.bytes.now = c.args.b.now.fits in
+    let b = a.b.now in
+    let bytes : Bytes b.bytes.now = b.fits in
     let next = c.next_chunk-chunk in
     sym
-    (hidden-wrong a.b.now.head.size a.b.now.head.dimension a.b.now.head.count a.b.now.bytes.now c.args.b.now.readable.dimension bytes c.requires.0
+    (hidden-wrong b.head.size b.head.dimension b.head.count b.bytes.now b.readable.dimension bytes c.requires.0
     (next.ensures.said.false-says (not-true next.result.unhidden c.if-not-chunk.true)))
 
 pub returns-then-not-later_unhidden : goal.returns-then-not-later_unhidden
 unfolding Bytes
 returns-then-not-later_unhidden c =
     let a = c.args in
-    let bytes : Bytes a.b.now.bytes.now = c.args.b.now.fits in
+    let b = a.b.now in
+    let bytes : Bytes b.bytes.now = b.fits in
     let later = c.later_unhidden in
     sym
-    (hidden-wrong a.b.now.head.size a.b.now.head.dimension a.b.now.head.count a.b.now.bytes.now c.args.b.now.readable.dimension bytes c.requires.0
+    (hidden-wrong b.head.size b.head.dimension b.head.count b.bytes.now b.readable.dimension bytes c.requires.0
     (later.ensures.false-says (c.if-not-later_unhidden.true)))
 
 pub loop-from-smaller-else-not-later_unhidden : goal.loop-from-smaller-else-not-later_unhidden
@@ -51,16 +54,17 @@ loop-from-smaller-else-not-later_unhidden c =
 pub loop-from-preserved-else-not-later_unhidden : goal.loop-from-preserved-else-not-later_unhidden
 loop-from-preserved-else-not-later_unhidden c =
     let a = c.args in
+    let b = a.b.now in
     let own = c.loop-from in
     let next = c.next_chunk-chunk in
     let high = there (goal.at.loop-from-preserved-else-not-later_unhidden c).Joined-from-eq0 in
-    let n = a.b.now.head.count in
+    let n = b.head.count in
     let to = next.result.to in
     let later = c.later_unhidden in (
       next.ensures.end,
-      unhidden-chunk a.b.now.head.size a.b.now.head.dimension a.b.now.bytes.now n own.from to own.invariant.1
+      unhidden-chunk b.head.size b.head.dimension b.bytes.now n own.from to own.invariant.1
           (next.ensures.said.true-says (not-false next.result.unhidden c.if-not-chunk.false))
-          (subst (λ (z : ℕ). Unhidden a.b.now.head.size a.b.now.head.dimension a.b.now.bytes.now z to to n) next.ensures.starts (later.ensures.true-says (c.if-not-later_unhidden.false))),
+          (subst (λ (z : ℕ). Unhidden b.head.size b.head.dimension b.bytes.now z to to n) next.ensures.starts (later.ensures.true-says (c.if-not-later_unhidden.false))),
       high.runs,
       λ _ _. high,
     )
@@ -74,15 +78,16 @@ loop-from-smaller c =
 pub loop-from-preserved : goal.loop-from-preserved
 loop-from-preserved c =
     let a = c.args in
+    let b = a.b.now in
     let own = c.loop-from in
     let next = c.next_chunk-chunk in
-    let n = a.b.now.head.count in
+    let n = b.head.count in
     let to = next.result.to in
     let all : n ≡ to = omega (arith, next.ensures.end, c.if-chunk-n.false) in (
       next.ensures.end,
-      unhidden-chunk a.b.now.head.size a.b.now.head.dimension a.b.now.bytes.now n own.from to own.invariant.1
+      unhidden-chunk b.head.size b.head.dimension b.bytes.now n own.from to own.invariant.1
           (next.ensures.said.true-says (not-false next.result.unhidden c.if-not-chunk.false))
-          (subst (Unhidden a.b.now.head.size a.b.now.head.dimension a.b.now.bytes.now own.from to to) (sym all) (unhidden-none a.b.now.head.size a.b.now.head.dimension a.b.now.bytes.now own.from to to)),
+          (subst (Unhidden b.head.size b.head.dimension b.bytes.now own.from to to) (sym all) (unhidden-none b.head.size b.head.dimension b.bytes.now own.from to to)),
       own.invariant.2,
       λ _ l. absurd (omega (arith, c.if-chunk-n.false)),
     )
@@ -91,9 +96,10 @@ pub returns : goal.returns
 unfolding Bytes
 returns c =
     let a = c.args in
+    let b = a.b.now in
     let own = c.loop-from in
-    let bytes : Bytes a.b.now.bytes.now = c.args.b.now.fits in
-    let all : own.from ≡ a.b.now.head.count = omega arith in
+    let bytes : Bytes b.bytes.now = b.fits in
+    let all : own.from ≡ b.head.count = omega arith in
     sym
-    (unhidden-right a.b.now.head.size a.b.now.head.dimension a.b.now.head.count a.b.now.bytes.now c.args.b.now.readable.dimension bytes c.requires.0
-    (subst (λ (z : ℕ). Unhidden a.b.now.head.size a.b.now.head.dimension a.b.now.bytes.now 0 z 0 a.b.now.head.count) all own.invariant.1))
+    (unhidden-right b.head.size b.head.dimension b.head.count b.bytes.now b.readable.dimension bytes c.requires.0
+    (subst (λ (z : ℕ). Unhidden b.head.size b.head.dimension b.bytes.now 0 z 0 b.head.count) all own.invariant.1))

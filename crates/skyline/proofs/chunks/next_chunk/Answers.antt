@@ -27,23 +27,25 @@ room a count taken = ltb-true count 64 (and_right a (ltb count 64) taken)
 
 pub loop-i-init : goal.loop-i-init
 loop-i-init c =
-    let a = c.args in (
+    let a = c.args in
+    let b = a.b.now in (
       omega arith,
       omega arith,
       omega arith,
       omega arith,
       omega arith,
-      gathered_none a.b.now.head.size a.b.now.bytes.now a.from _ _,
-      unhidden-none a.b.now.head.size a.b.now.head.dimension a.b.now.bytes.now a.from a.from a.from,
+      gathered_none b.head.size b.bytes.now a.from _ _,
+      unhidden-none b.head.size b.head.dimension b.bytes.now a.from a.from a.from,
     )
 
 pub returns-then-some_fits : goal.returns-then-some_fits
 unfolding Bytes
 returns-then-some_fits c =
     let a = c.args in
+    let b = a.b.now in
     let own = c.loop-i in
     let bounds = c.bounds_at-q in
-    let bytes : Bytes a.b.now.bytes.now = c.args.b.now.fits in
+    let bytes : Bytes b.bytes.now = b.fits in
     let some = ltb-true 0 own.count (and_left (ltb 0 own.count) (not c.exceeds.result) c.if-count-exceeds.true) in
     record {
       starts = refl;
@@ -54,9 +56,9 @@ returns-then-some_fits c =
       said = record {
         true-says = λ e. both_ways e refl;
         false-says = λ _.
-            columns-some a.b.now.head.size a.b.now.head.dimension a.b.now.bytes.now own.i bounds.result bounds.ensures a.from own.i own.columns own.low own.invariant.5 bytes
-            (omega (arith, own.invariant.4, some)) (omega arith) a.b.now.head.count
-            (inside own.i a.b.now.head.count _ c.loop-i-test.true)
+            columns-some b.head.size b.head.dimension b.bytes.now own.i bounds.result bounds.ensures a.from own.i own.columns own.low own.invariant.5 bytes
+            (omega (arith, own.invariant.4, some)) (omega arith) b.head.count
+            (inside own.i b.head.count _ c.loop-i-test.true)
             (sym c.looks_at.ensures ∙ c.if-looks_at.true)
             (c.some_fits.ensures.true-says c.if-some_fits.true);
       };
@@ -70,17 +72,18 @@ loop-i-smaller c =
 pub loop-i-preserved : goal.loop-i-preserved
 loop-i-preserved c =
     let a = c.args in
+    let b = a.b.now in
     let own = c.loop-i in
     let taken = c.loop-i-test.true in
-    let free = room (ltb own.i a.b.now.head.count) own.count taken in
-    let size = a.b.now.head.size in
-    let d = a.b.now.head.dimension in
-    let m = a.b.now.bytes.now in
+    let free = room (ltb own.i b.head.count) own.count taken in
+    let size = b.head.size in
+    let d = b.head.dimension in
+    let m = b.bytes.now in
     let i = own.i in
     let inv = own.invariant in
     let shown = sym c.looks_at.ensures in (
       omega arith,
-      omega (arith, inside own.i a.b.now.head.count _ taken),
+      omega (arith, inside own.i b.head.count _ taken),
       elim c.if-looks_at.branch [ then-looks_at w ↦ omega (arith, w.count-is, free) | else-looks_at w ↦ omega (arith, w.count-is, free) ],
       elim c.if-looks_at.branch [ then-looks_at w ↦ omega (arith, w.count-is, inv.3) | else-looks_at w ↦ omega (arith, w.count-is, inv.3) ],
       elim c.if-looks_at.branch [ then-looks_at w ↦ omega (arith, w.count-is, more-count size m a.from i own.count own.columns own.low inv.0 inv.5 inv.4 (shown ∙ w.if-looks_at.true)) | else-looks_at w ↦ omega (arith, w.count-is, same_count size m a.from i own.count own.columns own.low inv.0 inv.5 inv.4 (shown ∙ w.if-looks_at.false)) ],

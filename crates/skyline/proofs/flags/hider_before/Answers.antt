@@ -11,7 +11,8 @@ pub returns : goal.returns
 unfolding Bytes
 returns c =
     let a = c.args in
+    let b = a.b.now in
     let asked = c.requires.place in
-    let bytes : Bytes a.b.now.bytes.now = c.args.b.now.fits in
-    hidden-at a.b.now.head.size a.b.now.head.dimension a.b.now.bytes.now c.args.b.now.readable.dimension bytes a.b.now.head.count asked.0 a.i c.found_from.result asked.1
-    (subst (λ (q : List ℕ). ListedSome a.b.now.head a.b.now.bytes.now q a.i c.found_from.result) c.bounds_at.ensures c.found_from.ensures)
+    let bytes : Bytes b.bytes.now = b.fits in
+    hidden-at b.head.size b.head.dimension b.bytes.now b.readable.dimension bytes b.head.count asked.0 a.i c.found_from.result asked.1
+    (subst (λ (q : List ℕ). ListedSome b.head b.bytes.now q a.i c.found_from.result) c.bounds_at.ensures c.found_from.ensures)

@@ -19,5 +19,6 @@ pub returns : goal.returns
 returns c =
     let own = c.loop-i in
     let a = c.args in
-    let all : own.i ≡ a.b.now.head.count = omega arith in
-    subst (λ (n : ℕ). Highs a.b.now.head.size a.b.now.head.dimension a.b.now.bytes.now n own.highs) all own.invariant.1
+    let b = a.b.now in
+    let all : own.i ≡ b.head.count = omega arith in
+    subst (λ (n : ℕ). Highs b.head.size b.head.dimension b.bytes.now n own.highs) all own.invariant.1

@@ -15,7 +15,8 @@ pub loop-j-preserved : goal.loop-j-preserved
 loop-j-preserved c =
     let own = c.loop-j in
     let a = c.args in
-    let With : List ℕ → Type 0 = λ r. HighWith a.b.now.head.size a.b.now.head.dimension a.b.now.bytes.now a.i (own.j + 1) a.high r in (
+    let b = a.b.now in
+    let With : List ℕ → Type 0 = λ r. HighWith b.head.size b.head.dimension b.bytes.now a.i (own.j + 1) a.high r in (
       omega arith,
       omega arith,
       elim c.if-looks_at.branch [ then-looks_at w ↦ subst With (sym w.top-is) (high-more _ (subst (λ (x : List ℕ). Lanes (greater own.top x) w.greatest-higher.result) w.bounds_at.ensures w.greatest-higher.ensures) own.invariant.2) | else-looks_at w ↦ subst With (sym w.top-is) (high_same (sym c.looks_at.ensures ∙ w.if-looks_at.false) own.invariant.2) ],
@@ -25,5 +26,6 @@ pub returns : goal.returns
 returns c =
     let own = c.loop-j in
     let a = c.args in
+    let b = a.b.now in
     let all : own.j ≡ a.to = omega arith in
-    subst (λ (n : ℕ). HighWith a.b.now.head.size a.b.now.head.dimension a.b.now.bytes.now a.i n a.high own.top) all own.invariant.2
+    subst (λ (n : ℕ). HighWith b.head.size b.head.dimension b.bytes.now a.i n a.high own.top) all own.invariant.2

@@ -3,12 +3,10 @@ use Prim.Native.Nat.{ℕ}
 use mathlib.Core.Bool.{Bool, not, ◌&&◌}
 use mathlib.Core.List.{List}
 use mathlib.Core.Path.{◌≡◌, refl, sym, ◌∙◌}
-use native.Mathlib.Omega.{arith}
 use borrow.Author.Tests.{eq-eqb, ne_eqb}
 use lib.Dec.{eqb}
 use Rattle.promises.specs.Layout.{move_in}
 use Rattle.memory.specs.Tests.{is_listed}
-use Rattle.memory.specs.Laws.Held.{held-readable}
 use Rattle.memory.specs.Laws.Turns.{listed_at}
 use Rattle.upkeep.specs.Change.{comes_up, enters_at}
 use Rattle.upkeep.specs.declared.exchange.Exchange.{Exchange}
@@ -22,35 +20,27 @@ by-tests : (c d n : ℕ) (k : Exchange) (m : List ℕ) (i : ℕ) {listed gone up
 unfolding enters_at
 by-tests c d n k m i p q r = sym (λ j. not (p j) && (not (q j) && r j))
 
-pub number_at-requires : goal.number_at-requires
-number_at-requires c = let pre = c.requires in let rows = held-readable pre.0.sound in (rows.room, omega (arith, rows.rows, pre.2))
-
-pub is_listed-requires : goal.is_listed-requires
-is_listed-requires c =
-    let rows = held-readable c.requires.0.sound in
-    (rows.room, omega (arith, rows.numbers c.args.i c.requires.2, c.number_at.ensures))
-
 pub returns-then-is_listed : goal.returns-then-is_listed
 returns-then-is_listed c =
     let a = c.args in
+    let b = a.all.now.board in
     let number = c.number_at in
-    by-tests a.h.size a.h.dimension a.h.count a.k a.m.now a.i
-    (listed_at a.h.size a.m.now a.i number.result number.ensures ∙ sym c.is_listed.ensures ∙ c.if-is_listed.true) refl refl
+    by-tests b.head.size b.head.dimension b.head.count a.k b.bytes.now a.i
+    (listed_at b.head.size b.bytes.now a.i number.result number.ensures.0 ∙ sym c.is_listed.ensures ∙ c.if-is_listed.true) refl refl
 
 pub returns-then-i-k : goal.returns-then-i-k
 returns-then-i-k c =
     let a = c.args in
+    let b = a.all.now.board in
     let number = c.number_at in
-    by-tests a.h.size a.h.dimension a.h.count a.k a.m.now a.i
-    (listed_at a.h.size a.m.now a.i number.result number.ensures ∙ sym c.is_listed.ensures ∙ c.if-is_listed.false) (eq-eqb a.i a.k.goes c.if-i-k.true) refl
+    by-tests b.head.size b.head.dimension b.head.count a.k b.bytes.now a.i
+    (listed_at b.head.size b.bytes.now a.i number.result number.ensures.0 ∙ sym c.is_listed.ensures ∙ c.if-is_listed.false) (eq-eqb a.i a.k.goes c.if-i-k.true) refl
 
 pub returns : goal.returns
 returns c =
     let a = c.args in
+    let b = a.all.now.board in
     let number = c.number_at in
-    by-tests a.h.size a.h.dimension a.h.count a.k a.m.now a.i
-    (listed_at a.h.size a.m.now a.i number.result number.ensures ∙ sym c.is_listed.ensures ∙ c.if-is_listed.false) (ne_eqb a.i a.k.goes c.if-i-k.false)
+    by-tests b.head.size b.head.dimension b.head.count a.k b.bytes.now a.i
+    (listed_at b.head.size b.bytes.now a.i number.result number.ensures.0 ∙ sym c.is_listed.ensures ∙ c.if-is_listed.false) (ne_eqb a.i a.k.goes c.if-i-k.false)
     (sym c.comes_up.ensures)
-
-pub comes_up-requires : goal.comes_up-requires
-comes_up-requires c = c.requires

@@ -7,7 +7,7 @@ use Rattle.upkeep.proofs.entering.find_in_leaves.Given as goal
 
 abbrev pub invariant-loop-i : goal.invariant-loop-i
 invariant-loop-i l =
-    Counting l.h.size l.h.dimension l.k.goes l.h.count l.m l.opened l.i × Passing l.h.size l.m (enters_at l.h.size l.h.dimension l.h.count l.k l.m) l.initial.changed 0 l.i l.changed l.count
+    Counting l.all.board.head.size l.all.board.head.dimension l.k.goes l.all.board.head.count l.all.board.bytes.now l.opened l.i × Passing l.all.board.head.size l.all.board.bytes.now (enters_at l.all.board.head.size l.all.board.head.dimension l.all.board.head.count l.k l.all.board.bytes.now) l.initial.changed 0 l.i l.changed l.count
 
 abbrev pub decreases-loop-i : goal.decreases-loop-i
 decreases-loop-i l = l.n - l.i

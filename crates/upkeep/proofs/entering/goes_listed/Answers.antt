@@ -8,21 +8,19 @@ use Rattle.memory.specs.Laws.Turns.{listed_at}
 use Rattle.upkeep.specs.Change.{goes_listed}
 use Rattle.upkeep.proofs.entering.goes_listed.Goals as goal
 
-pub returns-then-h-goes : goal.returns-then-h-goes
+pub returns-then-b-goes : goal.returns-then-b-goes
 unfolding goes_listed
-returns-then-h-goes c =
+returns-then-b-goes c =
     let a = c.args in
-    sym (ap (λ (t : Bool). t && is_listed a.h.size a.m.now a.goes) (le-ltb a.goes a.h.count c.if-h-goes.true))
-
-pub is_listed-requires : goal.is_listed-requires
-is_listed-requires c =
-    (c.requires.room, omega (arith, c.number_at.ensures, c.requires.numbers c.args.goes (omega arith)))
+    let b = a.b.now in
+    sym (ap (λ (t : Bool). t && is_listed b.head.size b.bytes.now a.goes) (le-ltb a.goes b.head.count c.if-b-goes.true))
 
 pub returns : goal.returns
 unfolding goes_listed
 returns c =
     let a = c.args in
+    let b = a.b.now in
     let number = c.number_at in
     sym
-    (ap₂ ◌&&◌ (lt-ltb a.goes a.h.count (omega arith))
-    (listed_at a.h.size a.m.now a.goes number.result number.ensures ∙ sym c.is_listed.ensures))
+    (ap₂ ◌&&◌ (lt-ltb a.goes b.head.count (omega arith))
+    (listed_at b.head.size b.bytes.now a.goes number.result number.ensures.0 ∙ sym c.is_listed.ensures))

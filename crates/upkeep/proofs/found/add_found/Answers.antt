@@ -4,19 +4,17 @@ use native.Mathlib.Omega.{arith}
 use Rattle.upkeep.specs.Laws.Passing.{passing-none, passing-takes, passing-passes}
 use Rattle.upkeep.proofs.found.add_found.Goals as goal
 
-pub add-requires : goal.add-requires
-add-requires c =
-    omega (arith, c.requires.0.room.1, c.requires.0.numbers c.args.i c.requires.1, c.number_at.ensures)
-
 pub returns-then-found : goal.returns-then-found
 returns-then-found c =
     let a = c.args in
+    let b = a.b.now in
     let number = c.number_at in
-    passing-takes a.h.size a.m.now (λ _. a.found) (passing-none a.h.size a.m.now (λ _. a.found) a.numbers.now a.i) (omega arith)
-    c.if-found.true number.result number.ensures c.add.ensures (omega arith)
+    passing-takes b.head.size b.bytes.now (λ _. a.found) (passing-none b.head.size b.bytes.now (λ _. a.found) a.numbers.now a.i) (omega arith)
+    c.if-found.true number.result number.ensures.0 c.add.ensures (omega arith)
 
 pub returns : goal.returns
 returns c =
     let a = c.args in
-    passing-passes a.h.size a.m.now (λ _. a.found) (passing-none a.h.size a.m.now (λ _. a.found) a.numbers.now a.i) (omega arith)
+    let b = a.b.now in
+    passing-passes b.head.size b.bytes.now (λ _. a.found) (passing-none b.head.size b.bytes.now (λ _. a.found) a.numbers.now a.i) (omega arith)
     c.if-found.false refl refl

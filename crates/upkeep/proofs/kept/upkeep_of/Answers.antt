@@ -1,26 +1,24 @@
 -- `kept::upkeep_of` meets its contract: what its steps compute is what the list afterwards says. Assumes nothing.
-use native.Mathlib.Omega.{arith}
+use mathlib.Core.Path.{◌≡◌, subst}
+use Rattle.memory.specs.declared.board.Board.{Board}
 use Rattle.promises.specs.Run.{Bytes}
-use Rattle.memory.specs.Laws.Held.{held-readable}
+use Rattle.upkeep.specs.Change.{Entering, coming_listed}
 use Rattle.upkeep.specs.Laws.Change.{upkept}
 use Rattle.upkeep.proofs.kept.upkeep_of.Goals as goal
 
 pub returns : goal.returns
 unfolding Bytes
 returns c =
-    let a = c.args in
-    let bytes : Bytes a.m.now = λ i. omega (arith, c.shared_slice_known-1.given i) in
-    let up = c.find_entering-entered.ensures in
-    upkept a.h.size a.h.dimension a.h.count a.k a.m.now c.requires.change_asked.sound bytes _ c.empty-changed.ensures c.find_leaving-left.ensures up.moves up.opened c.coming_listed-listed.ensures
-
-pub corners_of-corners-requires : goal.corners_of-corners-requires
-corners_of-corners-requires c = held-readable c.requires.change_asked.sound
-
-pub coming_listed-listed-requires : goal.coming_listed-listed-requires
-coming_listed-listed-requires c = record { change_asked = (c.requires.change_asked, c.corners_of-corners.ensures); coming_place = c.requires.coming_place }
-
-pub find_leaving-left-requires : goal.find_leaving-left-requires
-find_leaving-left-requires c = held-readable c.requires.change_asked.sound
-
-pub find_entering-entered-requires : goal.find_entering-entered-requires
-find_entering-entered-requires c = (c.requires.change_asked.sound, c.corners_of-corners.ensures)
+    let k = c.args.k in
+    let b = c.args.b.now in
+    -- The index is of this board.
+    let same = c.new-all.ensures.board in
+    let find = c.find_entering-entered in
+    let Enters : Board → Type 0 =
+    λ x. Entering x.head.size x.head.dimension x.head.count k x.bytes.now c.find_leaving-left.new.changed find.new.changed find.result in
+    let up = subst Enters same find.ensures in
+    let listed =
+    subst (λ (x : Board). c.coming_listed-listed.result ≡ coming_listed x.head.size x.head.dimension x.head.count k x.bytes.now) same
+    c.coming_listed-listed.ensures in
+    upkept b.head.size b.head.dimension b.head.count k b.bytes.now c.requires.change_asked.sound b.fits _ c.empty-changed.ensures
+    c.find_leaving-left.ensures up.moves up.opened listed
