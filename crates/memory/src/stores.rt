@@ -68,10 +68,8 @@ pub fn set_costs(m: &mut [u8], c: usize, number: u16, costs: [u16; COSTS])
     ensures { m.new ≡ stores.set_costs c number costs m.old }
 {
     let at = costs_place(c, number);
-    let mut j = 0;
-    while j < COSTS {
+    for j in 0..COSTS {
         set_word(m, at + 2 * j, costs[j]);
-        j += 1;
     }
 }
 

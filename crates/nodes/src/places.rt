@@ -12,14 +12,12 @@ pub fn node_end(m: &[u8], c: usize, n: usize, l: u8, p: usize) -> usize
     requires { Room c m.now × (n ≤ c) × (p < n) }
     ensures { NodeEnd c n l p m.now result }
 {
-    let mut e = p + 1;
-    while e < n {
+    for e in p + 1..n {
         if l <= height_at(m, c, e) {
             return e;
         }
-        e += 1;
     }
-    e
+    n
 }
 
 // Finds where it starts.
@@ -27,12 +25,10 @@ pub fn node_start(m: &[u8], c: usize, l: u8, p: usize) -> usize
     requires { Room c m.now × (p < c) }
     ensures { NodeStart c l p m.now result }
 {
-    let mut s = p;
-    while 0 < s {
+    for s in (1..=p).rev() {
         if l <= height_at(m, c, s) {
             return s;
         }
-        s -= 1;
     }
     0
 }
@@ -43,12 +39,10 @@ pub fn entries(m: &[u8], c: usize, l: u8, s: usize, e: usize) -> usize
     ensures { Entries c l s e m.now result }
 {
     let mut k = 0;
-    let mut i = s;
-    while i < e {
+    for i in s..e {
         if l <= height_at(m, c, i) {
             k += 1;
         }
-        i += 1;
     }
     k
 }
@@ -59,10 +53,8 @@ pub fn entry_at(m: &[u8], c: usize, n: usize, l: u8, s: usize, j: usize) -> usiz
     ensures { EntryAt c n l s j m.now result }
 {
     let mut q = s;
-    let mut k = 0;
-    while k < j {
+    for _ in 0..j {
         q = node_end(m, c, n, l, q);
-        k += 1;
     }
     q
 }

@@ -18,12 +18,10 @@ fn first_highest(m: &[u8], c: usize, n: usize) -> bool
     if top == 0 {
         return false;
     }
-    let mut i = 1;
-    while i < n {
+    for i in 1..n {
         if top <= height_at(m, c, i) {
             return false;
         }
-        i += 1;
     }
     true
 }
@@ -34,8 +32,7 @@ fn counts_right(m: &[u8], c: usize, n: usize, l: u8, lo: usize) -> bool
     ensures { result ≡ definition.counts_at l lo (heights_from c n m.now) }
 {
     let mut entries: usize = 1;
-    let mut i = 1;
-    while i < n {
+    for i in 1..n {
         let h = height_at(m, c, i);
         if l <= h {
             if entries < lo || 8 < entries {
@@ -45,7 +42,6 @@ fn counts_right(m: &[u8], c: usize, n: usize, l: u8, lo: usize) -> bool
         } else if l <= h + 1 {
             entries += 1;
         }
-        i += 1;
     }
     lo <= entries && entries <= 8
 }
@@ -76,12 +72,10 @@ pub(crate) fn heights_right(m: &[u8], c: usize, n: usize) -> bool
         return false;
     }
     let top = height_at(m, c, 0);
-    let mut l = top;
-    while 0 < l {
+    for l in (1..=top).rev() {
         if !counts_right(m, c, n, l, least_entries(top, l)) {
             return false;
         }
-        l -= 1;
     }
     true
 }

@@ -37,8 +37,7 @@ fn numbers_right(m: &[u8], c: usize, n: usize) -> bool
     requires { Room c m.now × (n ≤ c) }
     ensures { result ≡ tests.numbers_right c n m.now }
 {
-    let mut i = 0;
-    while i < n {
+    for i in 0..n {
         let number = number_at(m, c, i);
         if c <= (number as usize) {
             return false;
@@ -47,7 +46,6 @@ fn numbers_right(m: &[u8], c: usize, n: usize) -> bool
         if block_bad(block as u16) {
             return false;
         }
-        i += 1;
     }
     true
 }

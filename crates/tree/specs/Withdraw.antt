@@ -10,7 +10,6 @@ use Rattle.promises.specs.Layout.{number_in, height_in, costs_in, work_in, heigh
 use Rattle.memory.specs.Room.{Room}
 use Rattle.memory.specs.Frame.{RowsOnly, WorkOnly}
 use Rattle.tree.specs.Hold.{RowsHold, RowsTree, Enterable}
-use Rattle.tree.specs.declared.withdraw.Range.{Range}
 
 pub record RowsAsked (c n : ℕ) (m : List ℕ) : Type 0 where
   pub room : Room c m
@@ -26,10 +25,10 @@ pub record RangeAsked (c n p : ℕ) (m : List ℕ) : Type 0 where
   pub rows : n ≤ c
   pub place : p < n
 
-pub record Widened (c n p : ℕ) (m : List ℕ) (r : Range) : Type 0 where
-  pub is : record { from = r.from; to = r.to } ≡ line.widened_among (height_in c m 0) 0 (record { from = p; to = suc p }) (heights_from c n m)
-  pub order : r.from < r.to
-  pub within : r.to ≤ n
+pub record Widened (c n p from to : ℕ) (m : List ℕ) : Type 0 where
+  pub is : record { from = from; to = to } ≡ line.widened_among (height_in c m 0) 0 (record { from = p; to = suc p }) (heights_from c n m)
+  pub order : from < to
+  pub within : to ≤ n
 
 pub record SaveAsked (c from to : ℕ) (m : List ℕ) : Type 0 where
   pub room : Room c m

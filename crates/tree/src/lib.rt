@@ -3,6 +3,7 @@
 #![tactic(auto)]
 
 mod enter;
+mod field;
 mod insert;
 mod raise;
 mod split;

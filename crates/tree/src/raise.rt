@@ -26,15 +26,13 @@ fn raise_level(m: &mut [u8], c: usize, n: usize, l: u8, entries: usize)
     ensures { Raised c n l entries m.old m.new }
 {
     let mut j = 0;
-    let mut i = 0;
-    while i < n {
+    for i in 0..n {
         if l <= height_at(m, c, i) {
             if starts_group(entries, j) {
                 set_height(m, c, i, l + 1);
             }
             j += 1;
         }
-        i += 1;
     }
 }
 

@@ -1,124 +1,80 @@
 // A move taken out of the line; the moves under removed nodes are entered again.
-ghost use Rattle.std.specs.Prelude.{◌+◌, ◌-◌};
-ghost use Rattle.tree.specs.Rows.{NumbersMoved, HeightsMoved};
 ghost use Rattle.tree.specs.Withdraw as withdraw;
 
 use crate::enter::{enter_line, with_rows};
+use crate::field::{Heights, Numbers, lower};
 use dominance::Move;
-use memory::{Head, costs_of, height_at, number_at, set_height, set_number, set_work, work_at};
+use memory::{Head, costs_of, height_at, number_at, set_height, set_work, work_at};
 use nodes::{entries, node_end, node_start};
-
-// Rows from a place up to another.
-#[derive(Clone, Copy)]
-pub struct Range {
-    pub from: usize,
-    pub to: usize,
-}
+use std::ops::Range;
 
 // Gives the place of the move of a number, or n where it is not on the board.
 pub fn place_of(m: &[u8], c: usize, n: usize, number: u16) -> usize
     requires { withdraw.RowsAsked c n m.now }
     ensures { withdraw.PlaceOf c n number m.now result }
 {
-    let mut p = 0;
-    while p < n {
+    for p in 0..n {
         if number_at(m, c, p) == number {
             return p;
         }
-        p += 1;
     }
-    p
+    n
 }
 
 // The rows that go with the move at place p: those of the highest removed node, or its own.
-fn widened(m: &[u8], c: usize, n: usize, p: usize) -> Range
+fn widened(m: &[u8], c: usize, n: usize, p: usize) -> Range<usize>
     requires { withdraw.RangeAsked c n p m.now }
-    ensures { withdraw.Widened c n p m.now result }
+    ensures { withdraw.Widened c n p result.start result.end m.now }
 {
     let top = height_at(m, c, 0);
-    let mut from = p;
-    let mut to = p + 1;
-    let mut l: u8 = 1;
-    while l < top {
-        let s = node_start(m, c, l, from);
-        let e = node_end(m, c, n, l, from);
+    let mut rows = p..p + 1;
+    for l in 1..top {
+        let s = node_start(m, c, l, rows.start);
+        let e = node_end(m, c, n, l, rows.start);
         if 3 < entries(m, c, l - 1, s, e) {
-            return Range { from, to };
+            return rows;
         }
-        from = s;
-        to = e;
-        l += 1;
+        rows = s..e;
     }
-    Range { from, to }
+    rows
 }
 
-// The numbers of the rows from `from` up to `to`, but for one, put into the work area; how many
-// they are.
-fn save(m: &mut [u8], c: usize, from: usize, to: usize, number: u16) -> usize
-    requires { withdraw.SaveAsked c from to m.old }
-    ensures { withdraw.Saved c from to number m.old m.new result }
+// The numbers of some rows, but for one, put into the work area; how many they are.
+fn save(m: &mut [u8], c: usize, rows: &Range<usize>, number: u16) -> usize
+    requires { withdraw.SaveAsked c rows.now.start rows.now.end m.old }
+    ensures { withdraw.Saved c rows.now.start rows.now.end number m.old m.new result }
 {
     let mut k = 0;
-    let mut i = from;
-    while i < to {
+    for i in rows.start..rows.end {
         let other = number_at(m, c, i);
         if other != number {
             set_work(m, c, k, other);
             k += 1;
         }
-        i += 1;
     }
     k
 }
 
-// The numbers from place `to` on moved down to `from`. One field a loop, as in `insert`.
-fn lower_numbers(m: &mut [u8], c: usize, n: usize, from: usize, to: usize)
-    requires { withdraw.GapAsked c n from to m.old }
-    ensures { NumbersMoved c (λ i. i + (to - from)) from (n - (to - from)) m.old
-        m.new }
+// The rows behind a gap moved down into it.
+fn close_gap(m: &mut [u8], c: usize, n: usize, gap: &Range<usize>)
+    requires { withdraw.GapAsked c n gap.now.start gap.now.end m.old }
+    ensures { withdraw.Closed c n gap.now.start gap.now.end m.old m.new }
 {
-    let mut i = to;
-    while i < n {
-        let number = number_at(m, c, i);
-        set_number(m, c, from + (i - to), number);
-        i += 1;
-    }
-}
-
-// The heights likewise.
-fn lower_heights(m: &mut [u8], c: usize, n: usize, from: usize, to: usize)
-    requires { withdraw.GapAsked c n from to m.old }
-    ensures { HeightsMoved c (λ i. i + (to - from)) from (n - (to - from)) m.old
-        m.new }
-{
-    let mut i = to;
-    while i < n {
-        let height = height_at(m, c, i);
-        set_height(m, c, from + (i - to), height);
-        i += 1;
-    }
-}
-
-// The rows from `to` on moved down to `from`.
-fn close_gap(m: &mut [u8], c: usize, n: usize, from: usize, to: usize)
-    requires { withdraw.GapAsked c n from to m.old }
-    ensures { withdraw.Closed c n from to m.old m.new }
-{
-    lower_numbers(m, c, n, from, to);
-    lower_heights(m, c, n, from, to);
+    lower::<Numbers>(m, c, n, gap);
+    lower::<Heights>(m, c, n, gap);
 }
 
 // The range taken out; the row after it starts at least what the range started.
-fn cut_out(m: &mut [u8], c: usize, n: usize, from: usize, to: usize)
-    requires { withdraw.GapAsked c n from to m.old }
-    ensures { withdraw.CutOut c n from to m.old m.new }
+fn cut_out(m: &mut [u8], c: usize, n: usize, rows: &Range<usize>)
+    requires { withdraw.GapAsked c n rows.now.start rows.now.end m.old }
+    ensures { withdraw.CutOut c n rows.now.start rows.now.end m.old m.new }
 {
-    let k = height_at(m, c, from);
-    close_gap(m, c, n, from, to);
-    if to < n {
-        let h = height_at(m, c, from);
+    let k = height_at(m, c, rows.start);
+    close_gap(m, c, n, rows);
+    if rows.end < n {
+        let h = height_at(m, c, rows.start);
         if h < k {
-            set_height(m, c, from, k);
+            set_height(m, c, rows.start, k);
         }
     }
 }
@@ -131,13 +87,12 @@ fn lower_root(m: &mut [u8], c: usize, n: usize)
     if n == 0 {
         return;
     }
-    let mut top = height_at(m, c, 0);
-    while 1 < top {
-        if 1 < entries(m, c, top - 1, 0, n) {
+    let top = height_at(m, c, 0);
+    for l in (1..top).rev() {
+        if 1 < entries(m, c, l, 0, n) {
             return;
         }
-        top -= 1;
-        set_height(m, c, 0, top);
+        set_height(m, c, 0, l);
     }
 }
 
@@ -148,15 +103,13 @@ fn enter_saved(m: &mut [u8], h: Head, k: usize)
         m.new }
 {
     let n = h.count;
-    let mut j = 0;
-    while j < k {
+    for j in 0..k {
         let number = work_at(m, h.size, j);
         let x = Move {
             number,
             costs: costs_of(m, h.size, h.dimension, number),
         };
         enter_line(m, with_rows(h, n + j), x);
-        j += 1;
     }
 }
 
@@ -168,12 +121,10 @@ pub fn withdraw_line(m: &mut [u8], h: Head, p: usize)
 {
     let n = h.count;
     let number = number_at(m, h.size, p);
-    let g = widened(m, h.size, n, p);
-    let from = g.from;
-    let to = g.to;
-    let k = save(m, h.size, from, to, number);
-    cut_out(m, h.size, n, from, to);
-    let left = n - (to - from);
+    let rows = widened(m, h.size, n, p);
+    let k = save(m, h.size, &rows, number);
+    cut_out(m, h.size, n, &rows);
+    let left = n - (rows.end - rows.start);
     lower_root(m, h.size, left);
     enter_saved(m, with_rows(h, left), k);
 }

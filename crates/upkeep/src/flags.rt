@@ -27,10 +27,7 @@ pub fn set_flags(m: &mut [u8], h: Head, u: Upkeep)
     ensures { spec.SetFlags h.size h.count u.changed m.old
         m.new }
 {
-    let n = h.count;
-    let mut i = 0;
-    while i < n {
+    for i in 0..h.count {
         set_flag(m, h.size, i, &u.changed);
-        i += 1;
     }
 }

@@ -169,15 +169,14 @@ module _ {c d n p : ℕ} {m : List ℕ} (asked : CascadeAsked c d n p m) where
       unfolding split_at
       split-line made = made.line ∙ ap₂ (λ (i j : ℕ). topped d l i j (line d) (eqb (height_at (line d) 0) l)) s-is e-is
 
-      pub climb-more : 0 < left → 8 < r → {m'' : List ℕ} → Cut c d n l s e m' m'' → Climbed c d n p m m'' (left - 1) (l + 1)
-      climb-more more nine {m''} made =
-          let again : suc (left - 1) ≡ left = omega arith in
+      pub climb-more : {next : ℕ} → left ≡ suc next → 8 < r → {m'' : List ℕ} → Cut c d n l s e m' m'' → Climbed c d n p m m'' next (l + 1)
+      climb-more {next} more nine {m''} made =
           record {
             rest =
-                ap (λ (k : ℕ). cascade d (left - 1) k p (line_from c d n m'')) (add-one l)
-                ∙ ap (cascade d (left - 1) (suc l) p) (split-line made)
-                ∙ sym (cascade-nine d l p (line d) (left - 1) (omega (arith, r-is)))
-                ∙ ap (λ (f : ℕ). cascade d f l p (line d)) again
+                ap (λ (k : ℕ). cascade d next k p (line_from c d n m'')) (add-one l)
+                ∙ ap (cascade d next (suc l) p) (split-line made)
+                ∙ sym (cascade-nine d l p (line d) next (omega (arith, r-is)))
+                ∙ ap (λ (f : ℕ). cascade d f l p (line d)) (sym more)
                 ∙ climbed.rest;
             level = omega arith;
             turns = omega (arith, climbed.turns);

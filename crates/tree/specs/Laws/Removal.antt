@@ -29,7 +29,6 @@ use Rattle.memory.specs.Laws.Places.{tab-each}
 use Rattle.memory.specs.Laws.Frames.{frame-trans, room-over}
 use Rattle.memory.specs.Laws.Fields.{work-over-rows, costs-over-rows, costs-over-work}
 use Rattle.memory.specs.Laws.Lines.{height_at-line, heights_in-line, line-over-work}
-use Rattle.tree.specs.declared.withdraw.Range.{Range}
 use Rattle.tree.specs.Hold.{RowsHold, RowsTree, Enterable}
 use Rattle.tree.specs.Withdraw.{others, Widened, Saved, CutOut, Lowered, saved_moves, SavedAsked, SavedEntered, Withdrawn}
 use Rattle.tree.specs.Laws.Entered.{fit-numbers}
@@ -45,17 +44,17 @@ record Removal (c d left k number : ℕ) (m : List ℕ) (t : Tree) : Type 0 wher
   new : Each (λ x. on_board x.number (moves_of tree) ≡ false) (saved_moves c d k m)
   once : distinct (map (λ x. x.number) (saved_moves c d k m)) ≡ true
 
-module _ {c n p k : ℕ} {m m₁ m₂ m₃ : List ℕ} {r : Range} (place : p < n) (g : Widened c n p m r)
-    (s : Saved c r.from r.to (number_in c m p) m m₁ k) (e : CutOut c n r.from r.to m₁ m₂)
-    (l : Lowered c (n - (r.to - r.from)) m₂ m₃) where
+module _ {c n p k : ℕ} {m m₁ m₂ m₃ : List ℕ} {from to : ℕ} (place : p < n) (g : Widened c n p from to m)
+    (s : Saved c from to (number_in c m p) m m₁ k) (e : CutOut c n from to m₁ m₂)
+    (l : Lowered c (n - (to - from)) m₂ m₃) where
   abbrev number : ℕ
   number = number_in c m p
 
   abbrev left : ℕ
-  left = n - (r.to - r.from)
+  left = n - (to - from)
 
   abbrev count : ℕ
-  count = r.to - r.from
+  count = to - from
 
   later : RowsOnly c m₁ m₃
   later = frame-trans e.frame l.frame
@@ -79,7 +78,7 @@ module _ {c n p k : ℕ} {m m₁ m₂ m₃ : List ℕ} {r : Range} (place : p < 
 
     -- ---- the line
 
-    range : range_of number (line_of t) ≡ record { from = r.from; to = r.to }
+    range : range_of number (line_of t) ≡ record { from = from; to = to }
     unfolding range_of
     range =
         ap (range_of number) (sym held.line)
@@ -133,10 +132,9 @@ module _ {c n p k : ℕ} {m m₁ m₂ m₃ : List ℕ} {r : Range} (place : p < 
 
     -- ---- the moves to enter again
 
-    between-rows : tab (λ i. move_in c d m (r.from + i)) count ≡ w.between
+    between-rows : tab (λ i. move_in c d m (from + i)) count ≡ w.between
     unfolding range_rows line_from moves_in placed_in
     between-rows =
-        let from : ℕ = r.from in
         sym
         (ap₂ (λ (g : line.Range) (rs : List Placed). moves_in (take (g.to - g.from) (drop g.from rs))) range (sym held.line)
         ∙ ap (λ (rs : List Placed). moves_in (take count rs)) (drop-tab (placed_in c d m) n from (omega (arith, g.order, g.within)))
@@ -157,13 +155,13 @@ module _ {c n p k : ℕ} {m m₁ m₂ m₃ : List ℕ} {r : Range} (place : p < 
     unfolding saved_moves others without
     saved-again =
         let kept : Move → Bool = λ x. not (eqb x.number number) in
-        let numbers : ℕ → ℕ = λ i. number_in c m (r.from + i) in
+        let numbers : ℕ → ℕ = λ i. number_in c m (from + i) in
         sym (map-tab made (work_in c m₃) k)
         ∙ ap (map made) (tab-ext (work_in c m₃) (work_in c m₁) k (λ i b. work-over-rows c later i) ∙ s.numbers)
         ∙ sym (select-map kept made (tab numbers count))
         ∙ ap (select kept)
         (map-tab made numbers count
-        ∙ tab-ext (λ i. made (numbers i)) (λ i. move_in c d m (r.from + i)) count (λ i b. made_row (r.from + i) (omega (arith, g.order, g.within)))
+        ∙ tab-ext (λ i. made (numbers i)) (λ i. move_in c d m (from + i)) count (λ i b. made_row (from + i) (omega (arith, g.order, g.within)))
         ∙ between-rows)
 
     again : withdraw_tree d number t ≡ enter_all d (saved_moves c d k m₃) tree

@@ -32,7 +32,7 @@ module _ (c d : ℕ) (m : List ℕ) (number : ℕ) (few : d ≤ row_costs) where
 pub loop-j-init : goal.loop-j-init
 loop-j-init c =
     let a = c.args in
-    (omega arith, filled_none (costs_in a.c a.d a.m.now a.number))
+    filled_none (costs_in a.c a.d a.m.now a.number)
 
 pub overflow_mul-costs : goal.overflow_mul-costs
 overflow_mul-costs c = record { fits = times-lt c.first_factor.result c.word-cost.result (2 ^ 16) c.first_factor.ensures.1 (omega arith) }
@@ -48,18 +48,16 @@ loop-j-preserved c =
     let at : first.result + 2 * own.j ≡ cost_place a.c a.number own.j = omega (arith, first.ensures) in
     let cost = w.ensures ∙ ap (λ (o : ℕ). word_at o a.m.now) at in
     let row = costs_in a.c a.d a.m.now a.number in
-    let count : length row ≡ row_costs = row-length a.c a.d a.m.now a.number few in (
-      omega arith,
-      ap₂ (λ (l : List ℕ) (v : ℕ). set l own.j v) own.invariant.1
-          (row-times a.c a.d a.m.now a.number few own.j c.first_factor.result w.result (omega arith) c.first_factor.ensures.0 cost)
-          ∙ filled_more row own.j 0 (omega arith) (omega arith),
-    )
+    let count : length row ≡ row_costs = row-length a.c a.d a.m.now a.number few in
+    ap₂ (λ (l : List ℕ) (v : ℕ). set l own.j v) own.invariant
+    (row-times a.c a.d a.m.now a.number few own.j c.first_factor.result w.result (omega arith) c.first_factor.ensures.0 cost)
+    ∙ filled_more row own.j 0 (omega arith) (omega arith)
 
 pub returns : goal.returns
 returns c =
     let a = c.args in
     let own = c.loop-j in
     let all : own.j ≡ row_costs = omega arith in
-    own.invariant.1
+    own.invariant
     ∙ ap (filled (costs_in a.c a.d a.m.now a.number)) all
     ∙ row-whole a.c a.d a.m.now a.number c.requires.2

@@ -1,13 +1,8 @@
 -- `fields::costs_of` meets its contract. The loop's invariant: the row holds the first j costs. Assumes nothing.
-use Rattle.zorder.specs.Address.{row_costs}
-use Prim.Native.Nat.{◌-◌, ◌≤◌}
 use mathlib.Core.Path.{◌≡◌}
 use Rattle.zorder.proofs.Fill.{filled}
 use Rattle.promises.specs.Layout.{costs_in}
 use Rattle.memory.proofs.fields.costs_of.Given as goal
 
 abbrev pub invariant-loop-j : goal.invariant-loop-j
-invariant-loop-j l = (l.j ≤ row_costs) × (l.costs ≡ filled (costs_in l.c l.d l.m l.number) l.j)
-
-abbrev pub decreases-loop-j : goal.decreases-loop-j
-decreases-loop-j l = row_costs - l.j
+invariant-loop-j l = l.costs ≡ filled (costs_in l.c l.d l.m l.number) l.j

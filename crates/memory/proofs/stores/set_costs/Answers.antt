@@ -23,7 +23,7 @@ cost-end c n j costs m end = ap (λ (vs : List ℕ). set_costs_from c n j vs m) 
 
 pub loop-j-init : goal.loop-j-init
 unfolding set_costs
-loop-j-init c = (omega arith, refl, refl)
+loop-j-init c = (refl, refl)
 
 pub loop-j-preserved : goal.loop-j-preserved
 loop-j-preserved c =
@@ -33,16 +33,15 @@ loop-j-preserved c =
     let at : first.result + 2 * own.j ≡ cost_place a.c a.number own.j = omega (arith, first.ensures) in
     let stored = c.set_word.ensures ∙ ap (λ (o : ℕ). set_word o (get_or a.costs own.j 0) own.m) at in
     let from : List ℕ → List ℕ = set_costs_from a.c a.number (own.j + 1) (drop (own.j + 1) a.costs) in (
-      omega arith,
-      ap length stored ∙ word-length (cost_place a.c a.number own.j) (get_or a.costs own.j 0) own.m ∙ own.invariant.1,
-      ap from stored ∙ cost-more a.c a.number own.j a.costs own.m (omega arith) ∙ own.invariant.2,
+      ap length stored ∙ word-length (cost_place a.c a.number own.j) (get_or a.costs own.j 0) own.m ∙ own.invariant.0,
+      ap from stored ∙ cost-more a.c a.number own.j a.costs own.m (omega arith) ∙ own.invariant.1,
     )
 
 pub shape_of-m : goal.shape_of-m
-shape_of-m c = c.loop-j.invariant.1
+shape_of-m c = c.loop-j.invariant.0
 
 pub returns : goal.returns
 returns c =
     let a = c.args in
     let own = c.loop-j in
-    sym (cost-end a.c a.number own.j a.costs own.m (omega arith)) ∙ own.invariant.2
+    sym (cost-end a.c a.number own.j a.costs own.m (omega arith)) ∙ own.invariant.1

@@ -8,10 +8,5 @@ use Rattle.nodes.proofs.places.entries.Given as goal
 
 abbrev pub invariant-loop-i : goal.invariant-loop-i
 invariant-loop-i l =
-    (l.s ≤ l.i)
-    × (l.i ≤ l.e)
-    × (l.k ≤ l.i - l.s)
+    (l.k ≤ l.i - l.s)
     × ((n : ℕ) → l.e ≤ n → l.k + entries_among l.l l.i l.e (heights_from l.c n l.m) ≡ entries_among l.l l.s l.e (heights_from l.c n l.m))
-
-abbrev pub decreases-loop-i : goal.decreases-loop-i
-decreases-loop-i l = l.e - l.i

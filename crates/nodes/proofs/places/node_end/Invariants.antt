@@ -1,6 +1,6 @@
 -- `places::node-end` meets its contract. The loop's invariant: the present place and the rows left below the level give the end.
 -- Assumes nothing.
-use Prim.Native.Nat.{◌+◌, ◌-◌, ◌≤◌, ◌<◌}
+use Prim.Native.Nat.{◌+◌}
 use mathlib.Core.Path.{◌≡◌}
 use lib.ListN.{drop}
 use Rattle.line.specs.Places.{lower_among, end_among}
@@ -9,7 +9,4 @@ use Rattle.nodes.proofs.places.node_end.Given as goal
 
 abbrev pub invariant-loop-e : goal.invariant-loop-e
 invariant-loop-e l =
-    (l.p < l.e) × (l.e ≤ l.n) × (l.e + lower_among l.l (drop l.e (heights_from l.c l.n l.m)) ≡ end_among l.l l.p (heights_from l.c l.n l.m))
-
-abbrev pub decreases-loop-e : goal.decreases-loop-e
-decreases-loop-e l = l.n - l.e
+    l.e + lower_among l.l (drop l.e (heights_from l.c l.n l.m)) ≡ end_among l.l l.p (heights_from l.c l.n l.m)

@@ -1,13 +1,9 @@
-use mathlib.Core.Path.{refl, ◌∙◌}
-use native.Mathlib.Nat.{le_refl}
+use mathlib.Core.Path.{◌∙◌}
 use native.Mathlib.Omega.{arith}
 use Rattle.promises.specs.Layout.{heights_from}
 use Rattle.memory.specs.Laws.Lines.{get_or-heights_from}
 use Rattle.nodes.specs.Laws.Steps.{start-here, start-earlier, start_first}
 use Rattle.nodes.proofs.places.node_start.Goals as goal
-
-pub loop-s-init : goal.loop-s-init
-loop-s-init c = (le_refl _, λ n h. refl)
 
 pub returns-then-l-height_at : goal.returns-then-l-height_at
 returns-then-l-height_at c =
@@ -18,21 +14,19 @@ returns-then-l-height_at c =
       is = λ n h.
           start-here a.l s (heights_from a.c n a.m.now) (omega arith)
           (omega (arith, get_or-heights_from a.c n a.m.now s (omega arith), c.height_at.ensures))
-          ∙ inv.1 n h;
-      within = inv.0;
+          ∙ inv n h;
+      within = omega arith;
     }
 
 pub loop-s-preserved : goal.loop-s-preserved
 loop-s-preserved c =
     let a = c.args in
     let s = c.loop-s.s in
-    let inv = c.loop-s.invariant in (
-      omega arith,
-      λ n h.
-          start-earlier a.l s (heights_from a.c n a.m.now) (omega arith)
-          (omega (arith, get_or-heights_from a.c n a.m.now s (omega arith), c.height_at.ensures))
-          ∙ inv.1 n h,
-    )
+    let inv = c.loop-s.invariant in
+    λ n h.
+    start-earlier a.l s (heights_from a.c n a.m.now) (omega arith)
+    (omega (arith, get_or-heights_from a.c n a.m.now s (omega arith), c.height_at.ensures))
+    ∙ inv n h
 
 pub returns : goal.returns
 returns c =
@@ -40,6 +34,6 @@ returns c =
     let s = c.loop-s.s in
     let inv = c.loop-s.invariant in
     record {
-      is = λ n h. start_first a.l s (heights_from a.c n a.m.now) (omega arith) ∙ inv.1 n h;
+      is = λ n h. start_first a.l s (heights_from a.c n a.m.now) (omega arith) ∙ inv n h;
       within = omega arith;
     }

@@ -6,7 +6,7 @@ use mathlib.Core.Path.{◌≡◌, sym, ap, ◌∙◌}
 use native.Mathlib.Omega.{arith}
 use lib.Dec.{leb}
 use lib.ListN.{drop}
-use borrow.Author.Tests.{ltb-true, ltb-false, leb-false, le-leb, lt-leb}
+use borrow.Author.Tests.{ltb-true, ltb-false, le-leb, lt-leb}
 use Rattle.model.specs.Basics.{within}
 use Rattle.model.proofs.Laws.Tree.{within-true, within-false}
 use Rattle.line.specs.Heights.{counts_from, counts_at}
@@ -24,7 +24,7 @@ ended c n m l lo k i e h =
 pub loop-i-init : goal.loop-i-init
 loop-i-init c =
     let a = c.args in
-    (omega arith, omega arith, omega arith, counts-first a.c a.m.now a.l a.lo a.n (omega arith))
+    (omega arith, counts-first a.c a.m.now a.l a.lo a.n (omega arith))
 
 pub returns-then-entries-lo : goal.returns-then-entries-lo
 returns-then-entries-lo c =
@@ -33,21 +33,16 @@ returns-then-entries-lo c =
     sym
     (node-wrong a.c a.n a.m.now a.l a.lo own.entries own.i (omega arith) (omega arith)
     (within-false a.lo 8 own.entries (elim c.then-entries-lo.branch [ then-entries-lo-via-then-entries-lo w ↦ inl w.if-entries-lo.true | then-entries-lo-via-else-entries-lo+then-entries-gt8 w ↦ inr (omega (arith, ltb-true, w.if-entries-gt8.true)) ])))
-    ∙ own.invariant.3
-
-pub overflow_add-h : goal.overflow_add-h
-overflow_add-h c = omega (arith, leb-false)
+    ∙ own.invariant.1
 
 pub loop-i-preserved : goal.loop-i-preserved
 loop-i-preserved c =
     let a = c.args in
     let own = c.loop-i in
     let left : ℕ → Bool = λ k. counts_from a.l a.lo k (drop (own.i + 1) (heights_from a.c a.n a.m.now)) in (
-      omega arith,
-      omega arith,
       elim c.if-l-h.branch [ then-l-h+else-entries-lo+else-entries-gt8 w ↦ omega (arith, w.entries-is) | else-l-h+then-l-h-2 w ↦ omega (arith, w.entries-is) | else-l-h+else-l-h-2 w ↦ omega (arith, w.entries-is) ],
       elim c.if-l-h.branch [ then-l-h+else-entries-lo+else-entries-gt8 w ↦ ap left w.entries-is ∙ sym (node-right a.c a.n a.m.now a.l a.lo own.entries own.i (omega arith) (omega (arith, w.if-l-h.true)) (within-true a.lo 8 own.entries (omega (arith, w.if-entries-lo.false)) (omega (arith, ltb-false, w.if-entries-gt8.false)))) | else-l-h+then-l-h-2 w ↦ ap left w.entries-is ∙ sym (node-entry a.c a.n a.m.now a.l a.lo own.entries own.i (omega arith) (omega (arith, w.if-l-h.false)) (omega (arith, w.if-l-h-2.true))) | else-l-h+else-l-h-2 w ↦ ap left w.entries-is ∙ sym (node-inside a.c a.n a.m.now a.l a.lo own.entries own.i (omega arith) (omega (arith, w.if-l-h-2.false))) ]
-          ∙ own.invariant.3,
+          ∙ own.invariant.1,
     )
 
 pub returns-then-lo-entries : goal.returns-then-lo-entries
@@ -56,7 +51,7 @@ returns-then-lo-entries c =
     let a = c.args in
     let own = c.loop-i in
     ap (λ (b : Bool). b && leb own.entries 8) (sym (le-leb a.lo own.entries (omega arith)))
-    ∙ ended a.c a.n a.m.now a.l a.lo own.entries own.i (omega arith) own.invariant.3
+    ∙ ended a.c a.n a.m.now a.l a.lo own.entries own.i (omega arith) own.invariant.1
 
 pub returns-else-lo-entries : goal.returns-else-lo-entries
 unfolding within
@@ -65,4 +60,4 @@ returns-else-lo-entries c =
     let own = c.loop-i in
     let low = lt-leb a.lo own.entries (omega arith) in
     low ∙ ap (λ (b : Bool). b && leb own.entries 8) (sym low)
-    ∙ ended a.c a.n a.m.now a.l a.lo own.entries own.i (omega arith) own.invariant.3
+    ∙ ended a.c a.n a.m.now a.l a.lo own.entries own.i (omega arith) own.invariant.1

@@ -1,6 +1,6 @@
 -- `heights::counts_right` meets its contract. The loop's invariant: what is left of the line gives the whole answer.
 -- Assumes nothing.
-use Prim.Native.Nat.{◌-◌, ◌≤◌}
+use Prim.Native.Nat.{◌≤◌}
 use mathlib.Core.Path.{◌≡◌}
 use lib.ListN.{drop}
 use Rattle.line.specs.Heights.{counts_from, counts_at}
@@ -9,8 +9,5 @@ use Rattle.soundness.proofs.heights.counts_right.Given as goal
 
 abbrev pub invariant-loop-i : goal.invariant-loop-i
 invariant-loop-i l =
-    (1 ≤ l.i) × (l.i ≤ l.n) × (l.entries ≤ l.i)
+    (l.entries ≤ l.i)
     × (counts_from l.l l.lo l.entries (drop l.i (heights_from l.c l.n l.m)) ≡ counts_at l.l l.lo (heights_from l.c l.n l.m))
-
-abbrev pub decreases-loop-i : goal.decreases-loop-i
-decreases-loop-i l = l.n - l.i

@@ -12,9 +12,6 @@ returns-then-n-eq0 c =
     let a = c.args in
     sym (highest-none a.c a.m.now a.n (omega (arith, eqb-true)))
 
-pub height_at-top-requires : goal.height_at-top-requires
-height_at-top-requires c = omega (arith, eqb-false)
-
 pub returns-then-top-eq0 : goal.returns-then-top-eq0
 returns-then-top-eq0 c =
     let a = c.args in
@@ -22,7 +19,7 @@ returns-then-top-eq0 c =
 
 pub loop-i-init : goal.loop-i-init
 unfolding all_to
-loop-i-init c = (omega arith, omega (arith, eqb-false), refl)
+loop-i-init c = refl
 
 pub returns-then-top-height_at : goal.returns-then-top-height_at
 returns-then-top-height_at c =
@@ -34,11 +31,11 @@ pub loop-i-preserved : goal.loop-i-preserved
 loop-i-preserved c =
     let a = c.args in
     let own = c.loop-i in
-    (omega arith, omega arith, lower-next a.c a.m.now own.i (omega arith) own.invariant.2 (omega (arith, leb-false)))
+    lower-next a.c a.m.now own.i (omega arith) own.invariant (omega (arith, leb-false))
 
 pub returns : goal.returns
 returns c =
     let a = c.args in
     let own = c.loop-i in
     let all : own.i ≡ a.n = omega arith in
-    sym (highest-found a.c a.m.now a.n (omega arith) (omega (arith, eqb-false)) (subst (λ (k : ℕ). all_to (lower_next a.c a.m.now) (k - 1) ≡ true) all own.invariant.2))
+    sym (highest-found a.c a.m.now a.n (omega arith) (omega (arith, eqb-false)) (subst (λ (k : ℕ). all_to (lower_next a.c a.m.now) (k - 1) ≡ true) all own.invariant))

@@ -19,9 +19,6 @@ returns-then-not-first_highest c =
     let lost : first_highest (heights_from a.c a.n a.m.now) ≡ false = sym c.first_highest.ensures ∙ c.if-not-first_highest.true in
     sym (heights-by a.c a.m.now a.n (omega (arith, eqb-false)) false lost)
 
-pub height_at-top-requires : goal.height_at-top-requires
-height_at-top-requires c = omega (arith, eqb-false)
-
 pub loop-l-init : goal.loop-l-init
 loop-l-init c =
     let a = c.args in
@@ -29,9 +26,6 @@ loop-l-init c =
     let found : first_highest line ≡ true = sym c.first_highest.ensures ∙ c.if-not-first_highest.false in
     ap (λ (top : ℕ). levels_right top top line) c.height_at-top.ensures
     ∙ sym (heights-by a.c a.m.now a.n (omega (arith, eqb-false)) true found)
-
-pub counts_right-requires : goal.counts_right-requires
-counts_right-requires c = omega (arith, eqb-false)
 
 pub returns-then-not-counts_right : goal.returns-then-not-counts_right
 returns-then-not-counts_right c =

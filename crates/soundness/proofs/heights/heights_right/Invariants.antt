@@ -7,6 +7,3 @@ use Rattle.soundness.proofs.heights.heights_right.Given as goal
 
 abbrev pub invariant-loop-l : goal.invariant-loop-l
 invariant-loop-l l = levels_right l.top l.l (heights_from l.c l.n l.m) ≡ heights_right (heights_from l.c l.n l.m)
-
-abbrev pub decreases-loop-l : goal.decreases-loop-l
-decreases-loop-l l = l.l

@@ -3,7 +3,7 @@ use Prim.Native.Nat.{ℕ, zero, suc, ◌≤◌, ◌<◌}
 use mathlib.Core.Bool.{Bool, cond}
 use mathlib.Core.Path.{◌≡◌, refl, sym, ap, ◌∙◌}
 use native.Mathlib.Omega.{arith}
-use borrow.Author.Tests.{le-leb, lt-leb}
+use borrow.Author.Tests.{le-leb}
 use Rattle.line.specs.Heights.{root_count}
 use Rattle.soundness.proofs.heights.least_entries.Goals as goal
 
@@ -18,11 +18,6 @@ unfolding root_count
 root-upper zero h = absurd (omega arith)
 root-upper (suc zero) h = absurd (omega arith)
 root-upper (suc (suc l)) h = refl
-
-pub returns-then-l-top : goal.returns-then-l-top
-returns-then-l-top c =
-    let a = c.args in
-    ap (λ (b : Bool). cond b (root_count a.l) 3) (sym (lt-leb a.top a.l (omega arith)))
 
 pub returns-then-l-lt2 : goal.returns-then-l-lt2
 returns-then-l-lt2 c =

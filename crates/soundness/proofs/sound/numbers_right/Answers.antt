@@ -14,7 +14,7 @@ said : (c : ℕ) (m : List ℕ) (i : ℕ) {number block : ℕ} {r : Bool} → nu
 said c m i is held e = ap (λ (k : ℕ). block_bad (block_in c m k)) (sym is) ∙ ap block_bad (sym held) ∙ sym e
 
 pub loop-i-init : goal.loop-i-init
-loop-i-init c = let a = c.args in (omega arith, numbers-none a.c a.m.now)
+loop-i-init c = let a = c.args in numbers-none a.c a.m.now
 
 pub returns-then-c-number : goal.returns-then-c-number
 returns-then-c-number c =
@@ -31,15 +31,13 @@ returns-then-block_bad c =
 pub loop-i-preserved : goal.loop-i-preserved
 loop-i-preserved c =
     let a = c.args in
-    let own = c.loop-i in (
-      omega arith,
-      numbers_more a.c a.m.now own.i own.invariant.1 (omega arith)
-          (said a.c a.m.now own.i c.number_at-number.ensures c.block_of-block.ensures c.block_bad.ensures ∙ c.if-block_bad.false),
-    )
+    let own = c.loop-i in
+    numbers_more a.c a.m.now own.i own.invariant (omega arith)
+    (said a.c a.m.now own.i c.number_at-number.ensures c.block_of-block.ensures c.block_bad.ensures ∙ c.if-block_bad.false)
 
 pub returns : goal.returns
 returns c =
     let a = c.args in
     let own = c.loop-i in
     let all : own.i ≡ a.n = omega arith in
-    sym (subst (λ (k : ℕ). numbers_right a.c k a.m.now ≡ true) all own.invariant.1)
+    sym (subst (λ (k : ℕ). numbers_right a.c k a.m.now ≡ true) all own.invariant)

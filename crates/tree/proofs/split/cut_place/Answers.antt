@@ -16,35 +16,35 @@ cut_sides-least-requires c =
     let a = c.args in
     nine-cut c.requires 3 (omega arith) (omega arith) (entry-line a.h.dimension c.entry_at-q.ensures)
 
-pub loop-j-init : goal.loop-j-init
-loop-j-init c =
+pub loop-init : goal.loop-init
+loop-init c =
     let a = c.args in
     tried-first c.requires (entry-line a.h.dimension c.entry_at-q.ensures) c.cut_sides-least.ensures
 
 pub node_end-q-requires : goal.node_end-q-requires
 node_end-q-requires c =
     let p = c.requires in
-    let own = c.loop-j in
-    let inside = nine-cut p own.j (omega (arith, own.invariant.from)) (omega arith) own.invariant.at in
+    let own = c.loop in
+    let inside = nine-cut p own.counter (omega (arith, own.invariant.from)) (omega arith) own.invariant.at in
     (p.readable.room, p.readable.rows, omega (arith, inside.after, p.ends))
 
 pub cut_sides-sides-requires : goal.cut_sides-sides-requires
 cut_sides-sides-requires c =
     let a = c.args in
     let p = c.requires in
-    let own = c.loop-j in
-    nine-cut p (own.j + 1) (omega arith) (omega arith)
-    (entry-turn (a.l - 1) a.s own.j own.q c.node_end-q.result (heights_in (line_from a.h.size a.h.dimension a.h.count a.m.now)) own.invariant.at
+    let own = c.loop in
+    nine-cut p (own.counter + 1) (omega arith) (omega arith)
+    (entry-turn (a.l - 1) a.node.now.start own.counter own.q c.node_end-q.result (heights_in (line_from a.h.size a.h.dimension a.h.count a.m.now)) own.invariant.at
     (end_line a.h.dimension c.node_end-q.ensures))
 
-pub loop-j-preserved : goal.loop-j-preserved
-loop-j-preserved c =
+pub loop-preserved : goal.loop-preserved
+loop-preserved c =
     let a = c.args in
     let p = c.requires in
-    let own = c.loop-j in
+    let own = c.loop in
     let next = end_line a.h.dimension c.node_end-q.ensures in
     let sides = c.cut_sides-sides.ensures in
     elim c.if-sides-least.branch [ then-sides-least w ↦ tried-less p own.invariant (omega arith) next sides (omega arith) w.best-is w.least-is | else-sides-least w ↦ tried-more p own.invariant (omega arith) next sides (omega arith) w.best-is w.least-is ]
 
 pub returns : goal.returns
-returns c = tried-all c.requires c.loop-j.invariant (omega arith)
+returns c = tried-all c.requires c.loop.invariant (omega arith)

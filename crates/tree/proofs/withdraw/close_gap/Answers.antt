@@ -4,4 +4,4 @@ use Rattle.tree.proofs.withdraw.close_gap.Goals as goal
 
 pub returns : goal.returns
 returns c =
-    closed c.requires c.lower_numbers.ensures c.lower_heights.ensures
+    closed c.requires c.lower.ensures c.lower-2.ensures

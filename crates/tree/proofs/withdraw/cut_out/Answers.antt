@@ -13,14 +13,14 @@ returns-then-h-k c =
     let a = c.args in
     let k = c.height_at-k in
     let m : List ℕ = c.close_gap.new.m in
-    subst (CutOut a.c a.n a.from a.to a.m.now)
-    (sym (c.set_height.ensures ∙ ap (λ h. set_height a.c a.from h m) k.ensures))
+    subst (CutOut a.c a.n a.rows.now.start a.rows.now.end a.m.now)
+    (sym (c.set_height.ensures ∙ ap (λ h. set_height a.c a.rows.now.start h m) k.ensures))
     (cut_high c.requires c.close_gap.ensures (omega arith) (omega arith))
 
 pub returns-else-h-k : goal.returns-else-h-k
 returns-else-h-k c =
     cut_low c.requires c.close_gap.ensures (omega arith) (omega arith)
 
-pub returns-else-to-n : goal.returns-else-to-n
-returns-else-to-n c =
+pub returns-else-rows-n : goal.returns-else-rows-n
+returns-else-rows-n c =
     cut-none c.requires c.close_gap.ensures (omega arith)

@@ -2,8 +2,5 @@
 use Rattle.tree.specs.Laws.Lowering.{Lowers}
 use Rattle.tree.proofs.withdraw.lower_root.Given as goal
 
-abbrev pub invariant-loop-top : goal.invariant-loop-top
-invariant-loop-top l = Lowers l.c l.n l.top l.initial.m l.m
-
-abbrev pub decreases-loop-top : goal.decreases-loop-top
-decreases-loop-top l = l.top
+abbrev pub invariant-loop-l : goal.invariant-loop-l
+invariant-loop-l l = Lowers l.c l.n l.l l.initial.m l.m

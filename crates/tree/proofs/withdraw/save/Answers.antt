@@ -10,31 +10,30 @@ use Rattle.tree.proofs.withdraw.save.Goals as goal
 pub loop-i-init : goal.loop-i-init
 loop-i-init c =
     let a = c.args in
-    (omega arith, saving-none a.c a.from a.number a.m.now)
+    saving-none a.c a.rows.now.start a.number a.m.now
 
 pub loop-i-preserved : goal.loop-i-preserved
 loop-i-preserved c =
     let a = c.args in
+    let from = a.rows.now.start in
     let own = c.loop-i in
-    let read = c.number_at-other.ensures in (
-      omega arith,
-      elim c.if-other-number.branch [
-        | then-other-number w ↦ subst₂ (λ k m. Saving a.c a.from (own.i + 1) a.number k a.m.now m) (sym w.k-is)
-            (sym (w.m-is ∙ w.set_work.ensures ∙ ap (λ v. set_work a.c own.k v own.m) read))
-            (saving-more a.c a.from a.number a.m.now own.i own.k own.m own.invariant.1 (omega arith) (omega arith) (λ e. w.if-other-number.true (read ∙ e)))
-        | else-other-number w ↦ subst₂ (λ k m. Saving a.c a.from (own.i + 1) a.number k a.m.now m) (sym w.k-is) (sym w.m-is)
-            (saving-less a.c a.from a.number a.m.now own.i own.k own.m own.invariant.1 (omega arith) (sym read ∙ w.if-other-number.false))
-      ],
-    )
+    let read = c.number_at-other.ensures in
+    elim c.if-other-number.branch [
+      | then-other-number w ↦ subst₂ (λ k m. Saving a.c from (own.i + 1) a.number k a.m.now m) (sym w.k-is)
+          (sym (w.m-is ∙ w.set_work.ensures ∙ ap (λ v. set_work a.c own.k v own.m) read))
+          (saving-more a.c from a.number a.m.now own.i own.k own.m own.invariant (omega arith) (omega arith) (λ e. w.if-other-number.true (read ∙ e)))
+      | else-other-number w ↦ subst₂ (λ k m. Saving a.c from (own.i + 1) a.number k a.m.now m) (sym w.k-is) (sym w.m-is)
+          (saving-less a.c from a.number a.m.now own.i own.k own.m own.invariant (omega arith) (sym read ∙ w.if-other-number.false))
+    ]
 
 pub returns : goal.returns
 returns c =
     let a = c.args in
     let own = c.loop-i in
-    let end : own.i ≡ a.to = omega arith in
-    let s = own.invariant.1 in
+    let end : own.i ≡ a.rows.now.end = omega arith in
+    let s = own.invariant in
     record {
       few = omega arith;
-      numbers = s.numbers ∙ ap (λ i. others a.c a.from i a.number a.m.now) end;
+      numbers = s.numbers ∙ ap (λ i. others a.c a.rows.now.start i a.number a.m.now) end;
       frame = s.frame;
     }
