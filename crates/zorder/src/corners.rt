@@ -1,6 +1,6 @@
 // The region of two addresses: a square, by its two corners and its side.
-ghost use Rattle.std.specs.Prelude.{◌≡◌, map, ◌≤◌, ◌<◌, ◌*◌, ◌^◌, take};
-ghost use Rattle.zorder.specs.Address.{row_costs, padded};
+ghost use Rattle.std.specs.Prelude.{◌≡◌, ℕ, map, ◌≤◌, ◌<◌, ◌*◌, ◌^◌, take};
+ghost use Rattle.zorder.specs.Address.{row_costs, cost_bits, padded};
 ghost use Rattle.zorder.specs.Region as definition;
 ghost use Rattle.zorder.specs.Promise.{RegionPromise, RefusedRegion};
 ghost use Rattle.zorder.specs.Words.{value};
@@ -27,19 +27,33 @@ fn zeros_below(u: usize, c: u16) -> u16
     (((c as u32) >> u) << u) as u16
 }
 
+// Gives the first d costs, each as `fill` leaves it where u groups are not kept.
+fn corner<F: Fn(usize, u16) -> u16>(
+    d: usize,
+    u: usize,
+    costs: [u16; COSTS],
+    fill: F,
+) -> [u16; COSTS]
+    ghost filled: { ℕ → ℕ → ℕ }
+    requires room { d ≤ row_costs }
+    requires callable { (c : ℕ) → c < 2 ^ cost_bits → F.pre fill u c }
+    requires fills { (c e : ℕ) → c < 2 ^ cost_bits → F.post fill u c e → e ≡ filled u c }
+    ensures { result ≡ padded d (map (filled u) (take d costs)) }
+{
+    let mut corner = [0u16; COSTS];
+    for i in 0..d {
+        corner[i] = fill(u, costs[i]);
+    }
+    corner
+}
+
 // Gives the first d costs with their last u bits filled with 0: the near corner of a region that
 // does not keep u groups.
 pub(crate) fn near(d: usize, u: usize, costs: [u16; COSTS]) -> [u16; COSTS]
     requires { (d ≤ row_costs) × (u ≤ 16) }
     ensures { result ≡ padded d (map (definition.zeros_below 1 u) (take d costs)) }
 {
-    let mut corner = [0u16; COSTS];
-    let mut i = 0;
-    while i < d {
-        corner[i] = zeros_below(u, costs[i]);
-        i += 1;
-    }
-    corner
+    corner(d, u, costs, zeros_below)
 }
 
 // A cost with its last u bits filled with 1.
@@ -55,13 +69,7 @@ pub(crate) fn far(d: usize, u: usize, costs: [u16; COSTS]) -> [u16; COSTS]
     requires { (d ≤ row_costs) × (u ≤ 16) }
     ensures { result ≡ padded d (map (definition.ones_below 1 u) (take d costs)) }
 {
-    let mut corner = [0u16; COSTS];
-    let mut i = 0;
-    while i < d {
-        corner[i] = ones_below(u, costs[i]);
-        i += 1;
-    }
-    corner
+    corner(d, u, costs, ones_below)
 }
 
 fn refused(verdict: Verdict) -> RegionResult

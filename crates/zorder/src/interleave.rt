@@ -9,22 +9,14 @@ ghost use Rattle.zorder.specs.Words.{value};
 use crate::two_words::shift_in;
 use crate::{AddressResult, AddressWords, BITS, COSTS, Verdict};
 
-fn wide(c: u16) -> u64
-    ensures { result ≡ c }
-{
-    c as u64
-}
-
 // Gives the group for bit j of the first d costs.
 pub(crate) fn group(d: usize, costs: [u16; COSTS], j: usize) -> u64
     requires { (d ≤ row_costs) × (j < 16) }
     ensures { result ≡ definition.group j (take d costs) }
 {
     let mut g: u64 = 0;
-    let mut i = 0;
-    while i < d {
-        g = (g << 1) | ((wide(costs[i]) >> j) & 1);
-        i += 1;
+    for c in &costs[..d] {
+        g = (g << 1) | ((u64::from(*c) >> j) & 1);
     }
     g
 }
@@ -35,9 +27,7 @@ fn interleaved(d: usize, costs: [u16; COSTS]) -> AddressWords
     ensures { value result ≡ definition.address d costs }
 {
     let mut a = AddressWords { upper: 0, lower: 0 };
-    let mut j = BITS;
-    while 0 < j {
-        j -= 1;
+    for j in (0..BITS).rev() {
         a = shift_in(a, d, group(d, costs, j));
     }
     a
@@ -48,21 +38,14 @@ pub fn zero_past(d: usize, costs: [u16; COSTS]) -> bool
     requires { d ≤ row_costs }
     ensures { result ≡ all_zero (drop d costs) }
 {
-    let mut i = d;
-    while i < COSTS {
-        if costs[i] != 0 {
-            return false;
-        }
-        i += 1;
-    }
-    true
+    costs.iter().skip(d).all(|c| *c == 0)
 }
 
 // Says whether no board has d costs.
 pub fn cost_count_bad(d: usize) -> bool
     ensures { result ≡ cost_count_bad d }
 {
-    d < 2 || COSTS < d
+    !(2..=COSTS).contains(&d)
 }
 
 // Gives the address of a row of costs, or says why there is none.

@@ -57,11 +57,3 @@ pub struct RegionResult {
     pub far: [u16; COSTS],
     pub side: u32,
 }
-
-// How the costs of one row stand to those of another in Z-order.
-#[derive(Clone, Copy)]
-pub enum Order {
-    Before,
-    Same,
-    After,
-}

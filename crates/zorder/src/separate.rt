@@ -16,9 +16,7 @@ fn cost_in(d: usize, a: AddressWords, e: usize) -> u16
     ensures { result ≡ definition.cost_from_bits d e 16 (value a) }
 {
     let mut c: u16 = 0;
-    let mut j = BITS;
-    while 0 < j {
-        j -= 1;
+    for j in (0..BITS).rev() {
         c = (c << 1) | bit(a, d * j + e);
     }
     c
@@ -30,10 +28,8 @@ pub(crate) fn separated(d: usize, a: AddressWords) -> [u16; COSTS]
     ensures { result ≡ definition.padded d (definition.costs_of d (value a)) }
 {
     let mut costs = [0u16; COSTS];
-    let mut e = d;
-    while 0 < e {
-        e -= 1;
-        costs[d - 1 - e] = cost_in(d, a, e);
+    for i in 0..d {
+        costs[i] = cost_in(d, a, d - 1 - i);
     }
     costs
 }

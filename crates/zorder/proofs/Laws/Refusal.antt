@@ -1,7 +1,8 @@
 -- What checks that were passed say.
-use Rattle.std.specs.Prelude.{ℕ, zero, suc, ◌+◌, ◌*◌, ◌^◌, ◌≤◌, ◌<◌, Bool, true, false, cond, ◌||◌, List, [], ◌∷◌, ◌≡◌, refl, ltb, eqb, length, get_or, drop, replicate}
+use Rattle.std.specs.Prelude.{ℕ, zero, suc, ◌+◌, ◌*◌, ◌^◌, ◌≤◌, ◌<◌, Bool, true, false, cond, ◌&&◌, ◌||◌, List, [], ◌∷◌, ◌≡◌, refl, ltb, eqb, length, get_or, drop, replicate}
 use Rattle.std.proofs.Common.{true≢false, sym, ap, ap₂, ◌∙◌, add-one, arith, drop_of_length-le, drop-cons, ltb-false, leb-false}
 use Rattle.std.proofs.Math.Dec.{eqb-suc-zero}
+use Rattle.std.specs.List.{list_all}
 use Rattle.zorder.specs.Address.{row_costs, cost_bits}
 use Rattle.zorder.specs.Refusal.{Check, refusal, all_zero, cost_count_bad, address_bad}
 
@@ -54,3 +55,13 @@ all-zero-step l i b more test =
 pub all-zero-end : (l : List ℕ) (i : ℕ) → length l ≤ i → all_zero (drop i l) ≡ true
 unfolding all_zero
 all-zero-end l i end = ap all_zero (drop_of_length-le l {i = i} end)
+
+-- The same test of each cost, as the list's own.
+pub all_zero_list : (cs : List ℕ) → all_zero cs ≡ list_all (λ (c : ℕ). eqb c 0) cs
+unfolding all_zero
+all_zero_list [] = refl
+all_zero_list (c ∷ cs) = ap (λ (t : Bool). cond (eqb c 0) t false) (all_zero_list cs) ∙ cond-and (eqb c 0) (list_all (λ (k : ℕ). eqb k 0) cs)
+  where
+    cond-and : (a b : Bool) → cond a b false ≡ (a && b)
+    cond-and true b = refl
+    cond-and false b = refl

@@ -1,6 +1,6 @@
 -- `between::unkept_of` meets its contract. The loop's invariant: from each bit on, what differs so far is 0 where the costs
 -- passed agree from that bit on. Assumes nothing.
-use Prim.Native.Nat.{ℕ, ◌-◌, ◌/◌, ◌^◌, ◌≤◌, ◌<◌}
+use Prim.Native.Nat.{ℕ, ◌/◌, ◌^◌, ◌<◌}
 use mathlib.Core.List.{List}
 use mathlib.Core.Logic.{◌↔◌}
 use mathlib.Core.Path.{◌≡◌}
@@ -13,7 +13,4 @@ Alike k i p q = (n : ℕ) → n < i → get_or p n 0 / 2 ^ k ≡ get_or q n 0 / 
 
 abbrev pub invariant-loop-i : goal.invariant-loop-i
 invariant-loop-i l =
-    (l.i ≤ l.d) × (l.differing < 2 ^ 16) × ((k : ℕ) → (l.differing / 2 ^ k ≡ 0) ↔ Alike k l.i l.p l.q)
-
-abbrev pub decreases-loop-i : goal.decreases-loop-i
-decreases-loop-i l = l.d - l.i
+    (l.differing < 2 ^ 16) × ((k : ℕ) → (l.differing / 2 ^ k ≡ 0) ↔ Alike k l.i l.p l.q)

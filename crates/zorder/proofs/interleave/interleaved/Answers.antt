@@ -37,7 +37,7 @@ pub shift_in-a-requires : goal.shift_in-a-requires
 shift_in-a-requires c =
     let a = c.args in
     let own = c.loop-j in
-    let next = turn a.d a.costs (value own.a) own.j (omega arith) c.loop-j-test.true own.invariant.1 in
+    let next = turn a.d a.costs (value own.a) own.j (omega arith) c.loop-j-test.true own.invariant in
     let few : a.d * 16 ≤ 128 = omega arith in (
       omega arith,
       omega arith,
@@ -49,17 +49,15 @@ pub loop-j-preserved : goal.loop-j-preserved
 loop-j-preserved c =
     let a = c.args in
     let own = c.loop-j in
-    let next = turn a.d a.costs (value own.a) own.j (omega arith) c.loop-j-test.true own.invariant.1 in (
-      omega arith,
-      subst
-          (λ (n : ℕ). Whole a.d (λ (k : ℕ). groups k (take a.d a.costs)) 16 n (own.j - 1))
-          (sym (c.shift_in-a.ensures ∙ ap (λ (g : ℕ). value own.a * 2 ^ a.d + g) c.group.ensures))
-          next.0,
-    )
+    let next = turn a.d a.costs (value own.a) own.j (omega arith) c.loop-j-test.true own.invariant in
+    subst
+    (λ (n : ℕ). Whole a.d (λ (k : ℕ). groups k (take a.d a.costs)) 16 n (own.j - 1))
+    (sym (c.shift_in-a.ensures ∙ ap (λ (g : ℕ). value own.a * 2 ^ a.d + g) c.group.ensures))
+    next.0
 
 pub returns : goal.returns
 unfolding address
 returns c =
     let a = c.args in
     let own = c.loop-j in
-    digits-end (group-digits a.d a.costs (omega arith)) 16 (value own.a) own.j c.loop-j-test.false own.invariant.1
+    digits-end (group-digits a.d a.costs (omega arith)) 16 (value own.a) own.j c.loop-j-test.false own.invariant

@@ -1,26 +1,13 @@
-use mathlib.Core.Bool.{true, false}
-use mathlib.Core.Path.{refl, sym, ◌∙◌}
-use native.Mathlib.Omega.{arith}
-use borrow.Author.Tests.{eq-eqb, ne_eqb}
-use Rattle.zorder.proofs.Laws.Refusal.{all-zero-step, all-zero-end}
+-- `interleave::zero_past` meets its contract: what is asked of each cost is asked of all. Assumes nothing.
+use Rattle.std.proofs.Common.{rules, tests, ◌∙◌, ◌==◌, sym, drop, ℕ}
+use Rattle.std.proofs.lemmas.Iterator.{YieldsList-from_slice}
+use Rattle.std.proofs.lemmas.Iterator.Adapters.{YieldsList-from_skip}
+use Rattle.std.proofs.lemmas.Iterator.Search.{all_from_yields_List}
+use Rattle.zorder.proofs.Laws.Refusal.{all_zero_list}
 use Rattle.zorder.proofs.interleave.zero_past.Goals as goal
-
-pub loop-i-init : goal.loop-i-init
-loop-i-init c = (omega arith, refl)
-
-pub returns-then-costs-i-ne0 : goal.returns-then-costs-i-ne0
-returns-then-costs-i-ne0 c =
-    let own = c.loop-i in
-    let step = all-zero-step c.args.costs own.i false in
-    sym (step (omega arith) (ne_eqb _ 0 c.if-costs-i-ne0.true)) ∙ own.invariant.1
-
-pub loop-i-preserved : goal.loop-i-preserved
-loop-i-preserved c =
-    let own = c.loop-i in
-    let step = all-zero-step c.args.costs own.i true in
-    (omega arith, sym (step (omega arith) (eq-eqb _ 0 c.if-costs-i-ne0.false)) ∙ own.invariant.1)
 
 pub returns : goal.returns
 returns c =
-    let own = c.loop-i in
-    sym (all-zero-end c.args.costs own.i (omega arith)) ∙ own.invariant.1
+    let a = c.args in
+    all_from_yields_List (λ (x : ℕ). x == 0) _ _ c.all.result c.all.ensures.ran (YieldsList-from_skip a.d (YieldsList-from_slice a.costs (search rules)) (search rules)) (λ x b q k. search (rules, tests))
+    ∙ sym (all_zero_list (drop a.d a.costs))

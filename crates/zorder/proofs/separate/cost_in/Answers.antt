@@ -40,15 +40,13 @@ bit-requires c = place-in c
 pub loop-j-preserved : goal.loop-j-preserved
 loop-j-preserved c =
     let a = c.args in
-    let own = c.loop-j in (
-      omega arith,
-      rw
-          c.bit.ensures.0
-          (digit-in (cost-bits a.d a.e (value a.a)) 16 16 own.c own.j (omega arith) c.loop-j-test.true own.invariant.1),
-    )
+    let own = c.loop-j in
+    rw
+    c.bit.ensures.0
+    (digit-in (cost-bits a.d a.e (value a.a)) 16 16 own.c own.j (omega arith) c.loop-j-test.true own.invariant)
 
 pub returns : goal.returns
 returns c =
     let a = c.args in
     let own = c.loop-j in
-    digits-end (cost-bits a.d a.e (value a.a)) 16 own.c own.j c.loop-j-test.false own.invariant.1
+    digits-end (cost-bits a.d a.e (value a.a)) 16 own.c own.j c.loop-j-test.false own.invariant

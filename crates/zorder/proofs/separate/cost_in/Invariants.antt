@@ -1,13 +1,10 @@
 -- `separate::cost_in` meets its contract. The loop's invariant: c, moved up past the bits to come, with these gives the cost.
 -- Assumes nothing.
-use Prim.Native.Nat.{ℕ, ◌≤◌}
+use Prim.Native.Nat.{ℕ}
 use Rattle.zorder.specs.Address.{cost_from_bits}
 use Rattle.zorder.specs.Words.{value}
 use Rattle.zorder.proofs.Digits.{Whole}
 use Rattle.zorder.proofs.separate.cost_in.Given as goal
 
 abbrev pub invariant-loop-j : goal.invariant-loop-j
-invariant-loop-j l = (l.j ≤ 16) × Whole 1 (λ (k : ℕ). cost_from_bits l.d l.e k (value l.a)) 16 l.c l.j
-
-abbrev pub decreases-loop-j : goal.decreases-loop-j
-decreases-loop-j l = l.j
+invariant-loop-j l = Whole 1 (λ (k : ℕ). cost_from_bits l.d l.e k (value l.a)) 16 l.c l.j
