@@ -4,4 +4,4 @@
 mod heights;
 mod sound;
 
-pub use sound::{Held, sound_head};
+pub use sound::sound_head;

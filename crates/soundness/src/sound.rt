@@ -2,11 +2,11 @@
 ghost use Rattle.std.specs.Prelude.{◌≡◌, ◌≤◌};
 ghost use Rattle.memory.specs.Held.{HeadOf};
 ghost use Rattle.soundness.specs.Held.{HeldIn};
-ghost use Rattle.memory.specs.Room.{Room, Readable};
+ghost use Rattle.memory.specs.Room.{Room};
 ghost use Rattle.memory.specs.Tests as tests;
 
 use crate::heights::heights_right;
-use memory::{Head, block_of, has_format, head_of, move_at, number_at, stands_before};
+use memory::{Board, Head, block_of, has_format, head_of, number_at, stands_before};
 use promises::{block_bad, memory_need, size_bad};
 use skyline::flags_right;
 use zorder::cost_count_bad;
@@ -50,18 +50,14 @@ fn numbers_right(m: &[u8], c: usize, n: usize) -> bool
     true
 }
 
-fn order_right(m: &[u8], h: Head) -> bool
-    requires { Readable h m.now }
-    ensures { result ≡ tests.order_right h.size h.dimension h.count m.now }
+fn order_right(b: &Board) -> bool
+    ensures { result ≡ tests.order_right b.now.head.size b.now.head.dimension b.now.head.count
+        b.now.bytes.now }
 {
-    let n = h.count;
-    let mut i = 1;
-    while i < n {
-        let p = move_at(m, h.size, h.dimension, i - 1);
-        if !stands_before(h.dimension, p, move_at(m, h.size, h.dimension, i)) {
+    for i in 1..b.head.count {
+        if !stands_before(b.head.dimension, b.move_at(i - 1), b.move_at(i)) {
             return false;
         }
-        i += 1;
     }
     true
 }
@@ -76,31 +72,26 @@ fn is_sound(m: &[u8], h: Head) -> bool
     if !numbers_right(m, h.size, h.count) {
         return false;
     }
-    if !order_right(m, h) {
+    let b = Board { bytes: m, head: h };
+    if !order_right(&b) {
         return false;
     }
     if !heights_right(m, h.size, h.count) {
         return false;
     }
-    flags_right(m, h)
+    flags_right(&b)
 }
 
-#[derive(Clone, Copy)]
-pub enum Held {
-    Sound(Head),
-    Unsound,
-}
-
-// Gives the board that the memory holds, if it is sound.
-pub fn sound_head(m: &[u8]) -> Held
+// Gives the head of the board that the memory holds, if it is sound.
+pub fn sound_head(m: &[u8]) -> Option<Head>
     ensures { HeldIn m.now result }
 {
     if m.len() < 16 {
-        return Held::Unsound;
+        return None;
     }
     let h = head_of(m);
     if !is_sound(m, h) {
-        return Held::Unsound;
+        return None;
     }
-    Held::Sound(h)
+    Some(h)
 }

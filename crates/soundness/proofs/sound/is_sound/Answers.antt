@@ -23,10 +23,12 @@ numbers_right-requires c = own_room c.args.m.now c.args.h c.requires (passed c.h
 pub returns-then-not-numbers_right : goal.returns-then-not-numbers_right
 returns-then-not-numbers_right c = numbers-decides c.args.m.now c.args.h c.requires (failed c.numbers_right.ensures c.if-not-numbers_right.true)
 
-pub order_right-requires : goal.order_right-requires
-order_right-requires c =
-    own-readable c.args.m.now c.args.h c.requires (passed c.head_right.ensures c.if-not-head_right.false)
-    (passed c.numbers_right.ensures c.if-not-numbers_right.false)
+pub invariant_of-b : goal.invariant_of-b
+invariant_of-b c = record {
+  readable = own-readable c.args.m.now c.args.h c.requires (passed c.head_right.ensures c.if-not-head_right.false)
+      (passed c.numbers_right.ensures c.if-not-numbers_right.false);
+  fits = λ i. omega (arith, c.shared_slice_known-1.given i);
+}
 
 pub returns-then-not-order_right : goal.returns-then-not-order_right
 returns-then-not-order_right c = order-decides c.args.m.now c.args.h c.requires (failed c.order_right.ensures c.if-not-order_right.true)
@@ -40,11 +42,8 @@ returns-then-not-heights_right c = heights-decides c.args.m.now c.args.h c.requi
 
 pub flags_right-requires : goal.flags_right-requires
 flags_right-requires c =
-    let h = c.args.h in (
-      own-readable c.args.m.now h c.requires (passed c.head_right.ensures c.if-not-head_right.false)
-          (passed c.numbers_right.ensures c.if-not-numbers_right.false),
-      right-ordered h.size h.dimension h.count c.args.m.now (passed c.order_right.ensures c.if-not-order_right.false),
-    )
+    let h = c.args.h in
+    right-ordered h.size h.dimension h.count c.args.m.now (passed c.order_right.ensures c.if-not-order_right.false)
 
 pub returns : goal.returns
 unfolding Bytes

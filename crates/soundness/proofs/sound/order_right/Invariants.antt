@@ -6,7 +6,4 @@ use Rattle.memory.specs.Tests.{order_right}
 use Rattle.soundness.proofs.sound.order_right.Given as goal
 
 abbrev pub invariant-loop-i : goal.invariant-loop-i
-invariant-loop-i l = (1 ≤ l.i) × (l.i - 1 ≤ l.n - 1) × (order_right l.h.size l.h.dimension l.i l.m ≡ true)
-
-abbrev pub decreases-loop-i : goal.decreases-loop-i
-decreases-loop-i l = l.n - l.i
+invariant-loop-i l = (l.i - 1 ≤ l.i-end - 1) × (order_right l.b.head.size l.b.head.dimension l.i l.b.bytes.now ≡ true)
