@@ -1,5 +1,5 @@
 -- Listed moves held against each other, a chunk of them as columns.
-use Rattle.std.specs.Prelude.{ℕ, ◌+◌, ◌-◌, ◌/◌, ◌≤◌, ◌<◌, Bool, true, false, List, [], ◌≡◌, length, get_or}
+use Rattle.std.specs.Prelude.{ℕ, ◌+◌, ◌-◌, ◌/◌, ◌≤◌, ◌<◌, Bool, true, false, List, [], ◌≡◌, length, get_or, Option, MatchOption}
 use Rattle.search.specs.Search.{looks_at, seen_at, fits, bounds_at, Below, Under}
 use Rattle.search.specs.Columns.{count_to, Column, Says}
 use Rattle.search.specs.declared.search.Among.TheVariants.{Listed}
@@ -67,15 +67,19 @@ pub record ListedHidden (c d n : ℕ) (m : List ℕ) : Type 0 where
 abbrev pub UnhiddenSaid : Head → List ℕ → ℕ → ℕ → ℕ → ℕ → Bool → Type 0
 UnhiddenSaid h m a b i e = Says (Unhidden h.size h.dimension m a b i e) (ListedHidden h.size h.dimension h.count m)
 
--- The next chunk from place a on: at least one place, if none of its moves hides another; and a listed move, if it does not go to the
--- last place.
-pub record NextChunk (h : Head) (m : List ℕ) (a : ℕ) (columns : List ℕ) (r : Chunk) : Type 0 where
+-- The next chunk from place a on: at least one place, and a listed move, if it does not go to the last place; none of its moves
+-- hides another.
+pub record ChunkFrom (h : Head) (m : List ℕ) (a : ℕ) (columns : List ℕ) (r : Chunk) : Type 0 where
   pub starts : r.from ≡ a
-  pub more : r.unhidden ≡ true → a < r.to
+  pub more : a < r.to
   pub end : r.to ≤ h.count
   pub gathered : GatheredChunk h m columns r
-  pub some : r.unhidden ≡ true → r.to < h.count → SomeListed h m r
-  pub said : UnhiddenSaid h m a r.to a r.to r.unhidden
+  pub some : r.to < h.count → SomeListed h m r
+  pub unhidden : Unhidden h.size h.dimension m a r.to a r.to
+
+-- That chunk, or none where a listed move hides another.
+abbrev pub NextChunk : Head → List ℕ → ℕ → List ℕ → Option Chunk → Type 0
+NextChunk h m a columns r = MatchOption r (ListedHidden h.size h.dimension h.count m) (ChunkFrom h m a columns)
 
 -- ---- the highest bounds of each run
 

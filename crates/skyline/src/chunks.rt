@@ -13,20 +13,18 @@ use search::{
 };
 use zorder::COSTS;
 
-// The listed moves from one place up to another, the least of each of their costs, and whether none
-// of them hides another.
+// The listed moves from one place up to another, and the least of each of their costs.
 #[derive(Clone, Copy)]
 pub struct Chunk {
     pub from: usize,
     pub to: usize,
     pub low: [u16; COSTS],
-    pub unhidden: bool,
 }
 
 // The next 64 listed moves from place `from` on, or as many as there are, each held against those
-// before it in the chunk. The first becomes every column, so that whichever of them fits is a move
+// before it in the chunk; none if one of those hides it. The first becomes every column, so that whichever of them fits is a move
 // of the chunk.
-fn next_chunk(b: &Board, from: usize, columns: &mut [u16; CELLS]) -> Chunk
+fn next_chunk(b: &Board, from: usize, columns: &mut [u16; CELLS]) -> Option<Chunk>
     requires { from < b.now.head.count }
     ensures { spec.NextChunk b.now.head b.now.bytes.now from columns.new result }
 {
@@ -39,12 +37,7 @@ fn next_chunk(b: &Board, from: usize, columns: &mut [u16; CELLS]) -> Chunk
             let q = bounds_at(b, i);
             if (0 < count) & !exceeds(COSTS, low, q) {
                 if some_fits(columns, b.head.dimension, q) {
-                    return Chunk {
-                        from,
-                        to: i,
-                        low,
-                        unhidden: false,
-                    };
+                    return None;
                 }
             }
             let costs = seen_at(b, i, Among::Listed);
@@ -58,12 +51,7 @@ fn next_chunk(b: &Board, from: usize, columns: &mut [u16; CELLS]) -> Chunk
         }
         i += 1;
     }
-    Chunk {
-        from,
-        to: i,
-        low,
-        unhidden: true,
-    }
+    Some(Chunk { from, to: i, low })
 }
 
 // Whether no move of the chunk hides a listed one of the later places from i up to `to`.
@@ -134,10 +122,9 @@ pub(crate) fn listed_right(
     let n = b.head.count;
     let mut from = 0;
     while from < n {
-        let chunk = next_chunk(b, from, columns);
-        if !chunk.unhidden {
+        let Some(chunk) = next_chunk(b, from, columns) else {
             return false;
-        }
+        };
         if chunk.to < n {
             // Where one chunk has all listed moves, no run is asked for its greatest bounds.
             if from == 0 {

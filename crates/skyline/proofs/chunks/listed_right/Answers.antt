@@ -2,7 +2,6 @@ use Prim.Native.Nat.{ℕ}
 use mathlib.Core.List.{List}
 use mathlib.Core.Path.{◌≡◌, sym, subst}
 use native.Mathlib.Omega.{arith}
-use borrow.Author.Tests.{not-true, not-false}
 use Rattle.promises.specs.Run.{Bytes}
 use Rattle.skyline.specs.Chunks.{Unhidden, Highs}
 use Rattle.skyline.specs.Laws.Unhidden.{unhidden-none, unhidden-chunk, unhidden-right, hidden-wrong}
@@ -24,16 +23,11 @@ there c =
 pub loop-from-init : goal.loop-from-init
 loop-from-init c = (omega arith, λ j l g t k z s. absurd (omega arith), c.requires.1, λ l. absurd (omega arith))
 
-pub returns-then-not-chunk : goal.returns-then-not-chunk
+pub returns-in_default : goal.returns-in_default
 unfolding Bytes
-returns-then-not-chunk c =
-    let a = c.args in
-    let b = a.b.now in
-    let bytes : Bytes b.bytes.now = b.fits in
-    let next = c.next_chunk-chunk in
-    sym
-    (hidden-wrong b.head.size b.head.dimension b.head.count b.bytes.now b.readable.dimension bytes c.requires.0
-    (next.ensures.said.false-says (not-true next.result.unhidden c.if-not-chunk.true)))
+returns-in_default c =
+    let b = c.args.b.now in
+    sym (hidden-wrong b.head.size b.head.dimension b.head.count b.bytes.now b.readable.dimension b.fits c.requires.0 c.in_default.ensures)
 
 pub returns-then-not-later_unhidden : goal.returns-then-not-later_unhidden
 unfolding Bytes
@@ -48,23 +42,23 @@ returns-then-not-later_unhidden c =
 
 pub loop-from-smaller-else-not-later_unhidden : goal.loop-from-smaller-else-not-later_unhidden
 loop-from-smaller-else-not-later_unhidden c =
-    let next = c.next_chunk-chunk in
-    omega (arith, next.ensures.more (not-false next.result.unhidden c.if-not-chunk.false), next.ensures.end)
+    let next = c.in-Some.ensures in
+    omega (arith, next.more, next.end)
 
 pub loop-from-preserved-else-not-later_unhidden : goal.loop-from-preserved-else-not-later_unhidden
 loop-from-preserved-else-not-later_unhidden c =
     let a = c.args in
     let b = a.b.now in
     let own = c.loop-from in
-    let next = c.next_chunk-chunk in
+    let next = c.in-Some.ensures in
     let high = there (goal.at.loop-from-preserved-else-not-later_unhidden c).Joined-from-eq0 in
     let n = b.head.count in
-    let to = next.result.to in
+    let to = c.in-Some.chunk.to in
     let later = c.later_unhidden in (
-      next.ensures.end,
+      next.end,
       unhidden-chunk b.head.size b.head.dimension b.bytes.now n own.from to own.invariant.1
-          (next.ensures.said.true-says (not-false next.result.unhidden c.if-not-chunk.false))
-          (subst (λ (z : ℕ). Unhidden b.head.size b.head.dimension b.bytes.now z to to n) next.ensures.starts (later.ensures.true-says (c.if-not-later_unhidden.false))),
+          next.unhidden
+          (subst (λ (z : ℕ). Unhidden b.head.size b.head.dimension b.bytes.now z to to n) next.starts (later.ensures.true-says (c.if-not-later_unhidden.false))),
       high.runs,
       λ _ _. high,
     )
@@ -72,21 +66,21 @@ loop-from-preserved-else-not-later_unhidden c =
 -- The chunk goes to the last place.
 pub loop-from-smaller : goal.loop-from-smaller
 loop-from-smaller c =
-    let next = c.next_chunk-chunk in
-    omega (arith, next.ensures.more (not-false next.result.unhidden c.if-not-chunk.false), next.ensures.end)
+    let next = c.in-Some.ensures in
+    omega (arith, next.more, next.end)
 
 pub loop-from-preserved : goal.loop-from-preserved
 loop-from-preserved c =
     let a = c.args in
     let b = a.b.now in
     let own = c.loop-from in
-    let next = c.next_chunk-chunk in
+    let next = c.in-Some.ensures in
     let n = b.head.count in
-    let to = next.result.to in
-    let all : n ≡ to = omega (arith, next.ensures.end, c.if-chunk-n.false) in (
-      next.ensures.end,
+    let to = c.in-Some.chunk.to in
+    let all : n ≡ to = omega (arith, next.end, c.if-chunk-n.false) in (
+      next.end,
       unhidden-chunk b.head.size b.head.dimension b.bytes.now n own.from to own.invariant.1
-          (next.ensures.said.true-says (not-false next.result.unhidden c.if-not-chunk.false))
+          next.unhidden
           (subst (Unhidden b.head.size b.head.dimension b.bytes.now own.from to to) (sym all) (unhidden-none b.head.size b.head.dimension b.bytes.now own.from to to)),
       own.invariant.2,
       λ _ l. absurd (omega (arith, c.if-chunk-n.false)),

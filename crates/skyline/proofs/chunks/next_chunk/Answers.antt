@@ -47,22 +47,11 @@ returns-then-some_fits c =
     let bounds = c.bounds_at-q in
     let bytes : Bytes b.bytes.now = b.fits in
     let some = ltb-true 0 own.count (and_left (ltb 0 own.count) (not c.exceeds.result) c.if-count-exceeds.true) in
-    record {
-      starts = refl;
-      more = λ e. both_ways e refl;
-      end = own.invariant.1;
-      gathered = own.invariant.5;
-      some = λ e. both_ways e refl;
-      said = record {
-        true-says = λ e. both_ways e refl;
-        false-says = λ _.
-            columns-some b.head.size b.head.dimension b.bytes.now own.i bounds.result bounds.ensures a.from own.i own.columns own.low own.invariant.5 bytes
-            (omega (arith, own.invariant.4, some)) (omega arith) b.head.count
-            (inside own.i b.head.count _ c.loop-i-test.true)
-            (sym c.looks_at.ensures ∙ c.if-looks_at.true)
-            (c.some_fits.ensures.true-says c.if-some_fits.true);
-      };
-    }
+    columns-some b.head.size b.head.dimension b.bytes.now own.i bounds.result bounds.ensures a.from own.i own.columns own.low own.invariant.5 bytes
+    (omega (arith, own.invariant.4, some)) (omega arith) b.head.count
+    (inside own.i b.head.count _ c.loop-i-test.true)
+    (sym c.looks_at.ensures ∙ c.if-looks_at.true)
+    (c.some_fits.ensures.true-says c.if-some_fits.true)
 
 pub loop-i-smaller : goal.loop-i-smaller
 loop-i-smaller c =
@@ -121,11 +110,11 @@ returns c =
     let own = c.loop-i in
     record {
       starts = refl;
-      more = λ _. chunk-grows c.args.from c.args.b.now.head.count own.i own.count c.requires own.invariant.3 c.loop-i-test.false;
+      more = chunk-grows c.args.from c.args.b.now.head.count own.i own.count c.requires own.invariant.3 c.loop-i-test.false;
       end = own.invariant.1;
       gathered = own.invariant.5;
-      some = λ _ l. omega (arith, own.invariant.4, chunk-some c.args.b.now.head.count own.i own.count c.loop-i-test.false l);
-      said = record { true-says = λ _. own.invariant.6; false-says = λ e. both_ways refl e };
+      some = λ l. omega (arith, own.invariant.4, chunk-some c.args.b.now.head.count own.i own.count c.loop-i-test.false l);
+      unhidden = own.invariant.6;
     }
 
 pub some_fits-requires : goal.some_fits-requires
