@@ -21,12 +21,10 @@ pub(crate) fn first_bad(hours: &[[u16; HOURS]]) -> usize
     ensures { FirstBad (map block_hours hours.now) result }
 {
     let n = entries_read(hours);
-    let mut k = 0;
-    while k < n {
+    for k in 0..n {
         if hours_bad(hours[k]) {
             return k;
         }
-        k += 1;
     }
     BLOCKS
 }
@@ -37,12 +35,10 @@ pub(crate) fn open_blocks(minute: u16, hours: &[[u16; HOURS]]) -> u64
 {
     let n = entries_read(hours);
     let mut blocks = 0u64;
-    let mut k = 0;
-    while k < n {
+    for k in 0..n {
         if open_at(hours[k], minute) {
             blocks = blocks | (1u64 << k);
         }
-        k += 1;
     }
     blocks
 }

@@ -6,18 +6,20 @@ use crate::blocks::{first_bad, open_blocks};
 use crate::shown::find_shown;
 use crate::windows::minute_bad;
 use crate::{BLOCKS, HOURS};
+use memory::Board;
 use promises::Outcome;
 use rows::{Plan, plan_found, refused};
-use soundness::{Held, sound_head};
+use soundness::sound_head;
 
 // Plans the list over the moves in the blocks that are open at a minute of the week, block k by
 // entry k.
 pub fn plan_hours(m: &[u8], minute: usize, hours: &[[u16; HOURS]], lent: usize) -> Plan
     ensures { HoursPlanned minute hours.now m.now lent result }
 {
-    let Held::Sound(h) = sound_head(m) else {
+    let Some(h) = sound_head(m) else {
         return refused(Outcome::Unsound, 0);
     };
+    let board = Board { bytes: m, head: h };
     if minute_bad(minute) {
         return refused(Outcome::BadArgument, 0);
     }
@@ -26,5 +28,5 @@ pub fn plan_hours(m: &[u8], minute: usize, hours: &[[u16; HOURS]], lent: usize) 
         return refused(Outcome::BadHours, bad);
     }
     let blocks = open_blocks(minute as u16, hours);
-    plan_found(h, find_shown(m, h, blocks), 0, lent)
+    plan_found(h, find_shown(&board, blocks), 0, lent)
 }

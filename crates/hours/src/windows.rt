@@ -61,12 +61,10 @@ pub(crate) fn hours_bad(entry: [u16; HOURS]) -> bool
         return true;
     }
     let n = windows_in(entry);
-    let mut i = 0;
-    while i < n {
+    for i in 0..n {
         if window_bad(entry, i) {
             return true;
         }
-        i += 1;
     }
     false
 }
@@ -76,12 +74,10 @@ pub(crate) fn open_at(entry: [u16; HOURS], minute: u16) -> bool
     ensures { result ≡ any (open_in minute) (windows_of (block_hours entry)) }
 {
     let n = windows_in(entry);
-    let mut i = 0;
-    while i < n {
+    for i in 0..n {
         if open_in(entry, i, minute) {
             return true;
         }
-        i += 1;
     }
     false
 }

@@ -4,20 +4,22 @@
 ghost use Rattle.model.specs.Calls.{list};
 ghost use Rattle.rows.specs.Planned.{QueryPlanned};
 
+use memory::Board;
 use nodes::nodes_opened;
 use promises::Outcome;
 use rows::{Plan, plan_found, refused};
-use soundness::{Held, sound_head};
+use soundness::sound_head;
 use upkeep::find_listed;
 
 // Gives the plan of a list.
 pub fn plan_list(m: &[u8], lent: usize) -> Plan
     ensures { QueryPlanned list m.now lent result }
 {
-    let Held::Sound(h) = sound_head(m) else {
+    let Some(h) = sound_head(m) else {
         return refused(Outcome::Unsound, 0);
     };
-    let found = find_listed(m, h);
-    let opened = nodes_opened(m, h);
+    let board = Board { bytes: m, head: h };
+    let found = find_listed(&board);
+    let opened = nodes_opened(&board);
     plan_found(h, found, opened, lent)
 }

@@ -2,68 +2,68 @@
 // a listed move none does.
 ghost use Rattle.std.specs.Prelude.{◌≡◌, ◌<◌};
 ghost use Rattle.memory.specs.Held.{SoundAt, move_held};
-ghost use Rattle.memory.specs.Room.{Readable};
-ghost use Rattle.search.specs.Search.{Corners};
 ghost use Rattle.search.specs.declared.search.Among.TheVariants.{All};
 ghost use Rattle.upkeep.specs.Found.{FindsMoves};
 ghost use Rattle.query.specs.Band.{band_of, few_before};
 
 use dominance::{bounds_of, exceeds};
-use memory::{Head, costs_at, is_listed, number_at};
+use memory::Board;
 use numbers::empty;
-use search::{Among, RUNS, corners_of, next_within};
+use search::{Among, Index};
 use upkeep::{Found, add_found};
-use zorder::COSTS;
 
 // Whether at most `most` of the moves before place i dominate the one at i. What the search finds
 // is nowhere greater, and dominates if it is somewhere less.
-fn few_before(m: &[u8], h: Head, most: usize, i: usize, corners: &[[u16; COSTS]; RUNS]) -> bool
-    requires readable { Readable h m.now × (i < h.count) }
-    requires corners { Corners All h.size m.now h.count corners.now }
-    ensures { result ≡ few_before h most m.now i }
+fn few_before(all: &Index, most: usize, i: usize) -> bool
+    requires place { i < all.now.board.head.count }
+    requires all { all.now.among ≡ All }
+    ensures { result ≡ few_before all.now.board.head most all.now.board.bytes.now i }
 {
-    let costs = costs_at(m, h, i);
-    let q = bounds_of(h.dimension, costs);
+    let b = &all.board;
+    let costs = b.costs_at(i);
+    let q = bounds_of(b.head.dimension, costs);
     let mut found: usize = 0;
-    let mut j = next_within(m, h, 0, i, Among::All, corners, q);
+    let mut j = all.next_within(0, i, q);
     while j < i {
-        if exceeds(h.dimension, costs, costs_at(m, h, j)) {
+        if exceeds(b.head.dimension, costs, b.costs_at(j)) {
             if found == most {
                 return false;
             }
             found += 1;
         }
-        j = next_within(m, h, j + 1, i, Among::All, corners, q);
+        j = all.next_within(j + 1, i, q);
     }
     true
 }
 
 // Whether at most `most` moves dominate the one at place i.
-fn in_band(m: &[u8], h: Head, most: usize, i: usize, corners: &[[u16; COSTS]; RUNS]) -> bool
-    requires sound_at { SoundAt h m.now × (i < h.count) }
-    requires corners { Corners All h.size m.now h.count corners.now }
-    ensures { result ≡ band_of h most m.now (move_held h m.now i) }
+fn in_band(all: &Index, most: usize, i: usize) -> bool
+    requires sound_at { SoundAt all.now.board.head all.now.board.bytes.now
+        × (i < all.now.board.head.count) }
+    requires all { all.now.among ≡ All }
+    ensures { result ≡ band_of all.now.board.head most all.now.board.bytes.now (move_held
+        all.now.board.head all.now.board.bytes.now i) }
 {
-    if is_listed(m, h.size, number_at(m, h.size, i)) {
+    let b = &all.board;
+    if b.is_listed(b.number_at(i)) {
         return true;
     }
-    few_before(m, h, most, i, corners)
+    few_before(all, most, i)
 }
 
 // Finds the moves that at most `most` others dominate.
-pub(crate) fn find_band(m: &[u8], h: Head, most: usize) -> Found
-    requires { SoundAt h m.now }
-    ensures { FindsMoves h (band_of h most m.now) m.now result }
+pub(crate) fn find_band(b: &Board, most: usize) -> Found
+    requires { SoundAt b.now.head b.now.bytes.now }
+    ensures { FindsMoves b.now.head (band_of b.now.head most b.now.bytes.now) b.now.bytes.now
+        result }
 {
-    let n = h.count;
-    let corners = corners_of(m, h, Among::All);
+    let n = b.head.count;
+    let all = Index::new(b, Among::All);
     let mut numbers = empty();
     let mut count: usize = 0;
-    let mut i = 0;
-    while i < n {
-        let found = in_band(m, h, most, i, &corners);
-        count += add_found(m, h, i, found, &mut numbers);
-        i += 1;
+    for i in 0..n {
+        let found = in_band(&all, most, i);
+        count += add_found(b, i, found, &mut numbers);
     }
     Found { numbers, count }
 }

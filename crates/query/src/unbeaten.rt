@@ -1,38 +1,36 @@
 // On k and chosen costs: the moves that none beats. What some move beats, a listed one does, so
 // each move is held against the listed ones only.
-ghost use Rattle.std.specs.Prelude.{◌≤◌, ◌<◌, ◌%◌, ◌^◌};
+ghost use Rattle.std.specs.Prelude.{◌≡◌, ◌≤◌, ◌<◌, ◌%◌, ◌^◌};
 ghost use Rattle.zorder.specs.Address.{row_costs};
 ghost use Rattle.dominance.specs.Lanes.{Lanes, bound, is_chosen};
 ghost use Rattle.memory.specs.Held.{SoundAt};
-ghost use Rattle.memory.specs.Room.{Readable};
+ghost use Rattle.search.specs.declared.search.Among.TheVariants.{Listed};
 ghost use Rattle.memory.specs.Tests.{is_listed};
-ghost use Rattle.search.specs.Search.{First, ListedCorners};
+ghost use Rattle.search.specs.Search.{First};
 ghost use Rattle.upkeep.specs.Found.{FindsMoves};
 ghost use Rattle.query.specs.Rule.{Fair};
 ghost use Rattle.query.specs.Unbeaten as spec;
 
 use crate::rule::{Rule, beats};
 use dominance::bounds_in;
-use memory::{Head, costs_at, is_listed, number_at};
+use memory::Board;
 use numbers::empty;
-use search::{Among, RUNS, corners_of, next_within, tried_next};
+use search::{Among, Index, tried_next};
 use upkeep::{Found, add_found};
 use zorder::COSTS;
 
 // The next listed place from i on.
-fn next_listed(m: &[u8], h: Head, i: usize) -> usize
-    requires { Readable h m.now × (i ≤ h.count) }
-    ensures { First (is_listed h.size m.now) i h.count result }
+fn next_listed(b: &Board, i: usize) -> usize
+    requires { i ≤ b.now.head.count }
+    ensures { First (is_listed b.now.head.size b.now.bytes.now) i b.now.head.count result }
 {
-    let n = h.count;
-    let mut j = i;
-    while j < n {
-        if is_listed(m, h.size, number_at(m, h.size, j)) {
+    let n = b.head.count;
+    for j in i..n {
+        if b.is_listed(b.number_at(j)) {
             return j;
         }
-        j += 1;
     }
-    j
+    n
 }
 
 // Bounds on those of the first d costs that are in the set.
@@ -45,87 +43,69 @@ fn chosen_bounds(d: usize, set: usize, q: [u16; COSTS]) -> [u16; COSTS]
 
 // The next place from j on with a listed move that may beat these costs: on chosen costs one that
 // is nowhere greater there.
-fn candidate(
-    m: &[u8],
-    h: Head,
-    rule: Rule,
-    j: usize,
-    corners: &[[u16; COSTS]; RUNS],
-    costs: [u16; COSTS],
-) -> usize
-    requires readable { Readable h m.now × (j ≤ h.count) }
-    requires listed_corners { ListedCorners h m.now h.count corners.now }
-    ensures { spec.Next h rule m.now costs j result }
+fn candidate(listed: &Index, rule: Rule, j: usize, costs: [u16; COSTS]) -> usize
+    requires place { j ≤ listed.now.board.head.count }
+    requires listed { listed.now.among ≡ Listed }
+    ensures { spec.Next listed.now.board.head rule listed.now.board.bytes.now costs j result }
 {
+    let b = &listed.board;
     match rule {
-        Rule::OnK(_) => next_listed(m, h, j),
+        Rule::OnK(_) => next_listed(b, j),
         Rule::Chosen(set) => {
-            let q = chosen_bounds(h.dimension, set, costs);
-            next_within(m, h, j, h.count, Among::Listed, corners, q)
+            let q = chosen_bounds(b.head.dimension, set, costs);
+            listed.next_within(j, b.head.count, q)
         }
     }
 }
 
 // A place with a listed move that beats these costs; n if there is none, and then no move does.
-fn listed_beater(
-    m: &[u8],
-    h: Head,
-    rule: Rule,
-    corners: &[[u16; COSTS]; RUNS],
-    costs: [u16; COSTS],
-) -> usize
-    requires sound_at { SoundAt h m.now × Fair rule }
-    requires listed_corners { ListedCorners h m.now h.count corners.now }
-    ensures { spec.Beater h rule m.now costs result }
+fn listed_beater(listed: &Index, rule: Rule, costs: [u16; COSTS]) -> usize
+    requires sound_at { SoundAt listed.now.board.head listed.now.board.bytes.now × Fair rule }
+    requires listed { listed.now.among ≡ Listed }
+    ensures { spec.Beater listed.now.board.head rule listed.now.board.bytes.now costs result }
 {
-    let n = h.count;
-    let mut j = candidate(m, h, rule, 0, corners, costs);
+    let b = &listed.board;
+    let n = b.head.count;
+    let mut j = candidate(listed, rule, 0, costs);
     while j < n {
-        if beats(h.dimension, rule, costs_at(m, h, j), costs) {
+        if beats(b.head.dimension, rule, b.costs_at(j), costs) {
             return j;
         }
-        j = candidate(m, h, rule, j + 1, corners, costs);
+        j = candidate(listed, rule, j + 1, costs);
     }
     j
 }
 
 // A place with a move that beats these costs, `last` if that does; n if none does.
-fn beater(
-    m: &[u8],
-    h: Head,
-    rule: Rule,
-    last: usize,
-    corners: &[[u16; COSTS]; RUNS],
-    costs: [u16; COSTS],
-) -> usize
-    requires sound_at { SoundAt h m.now × Fair rule }
-    requires listed_corners { ListedCorners h m.now h.count corners.now }
-    ensures { spec.Beater h rule m.now costs result }
+fn beater(listed: &Index, rule: Rule, last: usize, costs: [u16; COSTS]) -> usize
+    requires sound_at { SoundAt listed.now.board.head listed.now.board.bytes.now × Fair rule }
+    requires listed { listed.now.among ≡ Listed }
+    ensures { spec.Beater listed.now.board.head rule listed.now.board.bytes.now costs result }
 {
-    if last < h.count {
-        if beats(h.dimension, rule, costs_at(m, h, last), costs) {
+    let b = &listed.board;
+    if last < b.head.count {
+        if beats(b.head.dimension, rule, b.costs_at(last), costs) {
             return last;
         }
     }
-    listed_beater(m, h, rule, corners, costs)
+    listed_beater(listed, rule, costs)
 }
 
 // Finds the moves that none beats. What beat one move often beats the next.
-pub(crate) fn find_unbeaten(m: &[u8], h: Head, rule: Rule) -> Found
-    requires { SoundAt h m.now × Fair rule }
-    ensures { FindsMoves h (spec.unbeaten_of h rule m.now) m.now result }
+pub(crate) fn find_unbeaten(b: &Board, rule: Rule) -> Found
+    requires { SoundAt b.now.head b.now.bytes.now × Fair rule }
+    ensures { FindsMoves b.now.head (spec.unbeaten_of b.now.head rule b.now.bytes.now)
+        b.now.bytes.now result }
 {
-    let n = h.count;
-    let corners = corners_of(m, h, Among::Listed);
+    let n = b.head.count;
+    let listed = Index::new(b, Among::Listed);
     let mut numbers = empty();
     let mut count: usize = 0;
     let mut last = 0;
-    let mut i = 0;
-    while i < n {
-        let j = beater(m, h, rule, last, &corners, costs_at(m, h, i));
-        count += add_found(m, h, i, n <= j, &mut numbers);
+    for i in 0..n {
+        let j = beater(&listed, rule, last, b.costs_at(i));
+        count += add_found(b, i, n <= j, &mut numbers);
         last = tried_next(j, n, last);
-        i += 1;
     }
     Found { numbers, count }
 }

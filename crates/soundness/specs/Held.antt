@@ -5,6 +5,6 @@ use Rattle.memory.specs.Held.{SoundAt}
 use Rattle.memory.specs.declared.head.Head.{Head}
 
 -- The memory is sound with this head, or it is not sound.
-unfoldable pub HeldIn : List ℕ → Option Head → Type 0
+abbrev pub HeldIn : List ℕ → Option Head → Type 0
 HeldIn m (Some h) = SoundAt h m
 HeldIn m None = Sound m → ⊥

@@ -7,11 +7,9 @@ use Rattle.memory.specs.declared.head.Head.{Head}
 use Rattle.soundness.specs.Held.{HeldIn}
 
 pub sound-held : {m : List ℕ} {r : Option Head} {h : Head} → HeldIn m r → r ≡ Some h → SoundAt h m
-unfolding HeldIn
 sound-held {m} p e = subst (HeldIn m) e p
 
 pub unsound-held : {m : List ℕ} {r : Option Head} → HeldIn m r → r ≡ None → Sound m → ⊥
-unfolding HeldIn
 unsound-held {m} p e = subst (HeldIn m) e p
 
 -- What is not found sound is found unsound.

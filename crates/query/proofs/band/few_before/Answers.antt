@@ -8,7 +8,7 @@ use Rattle.model.specs.Dominance.{somewhere_less}
 use Rattle.dominance.specs.Lanes.{Lanes, bound, is_first}
 use Rattle.promises.specs.Layout.{move_in}
 use Rattle.promises.specs.Run.{Bytes}
-use Rattle.search.specs.Laws.Search.{corners-fewer}
+use Rattle.search.specs.Laws.Search.{first-among}
 use Rattle.query.specs.Laws.Band.{dominators-first, dominators-next, dominators-over, dominators-within}
 use Rattle.query.proofs.band.few_before.Goals.{else-exceeds, then-exceeds+else-found-most}
 use Rattle.query.proofs.band.few_before.Goals as goal
@@ -21,65 +21,45 @@ bounds c d i m costs q e l = subst (λ (x : List ℕ). Lanes (bound (is_first d)
 lower : (d : ℕ) {p p' q q' : List ℕ} {r : Bool} → p ≡ p' → q ≡ q' → r ≡ somewhere_less (take d p) (take d q) → somewhere_less (take d p') (take d q') ≡ r
 lower d e f g = ap₂ (λ (x y : List ℕ). somewhere_less (take d x) (take d y)) (sym e) (sym f) ∙ sym g
 
-pub next_within-j-requires : goal.next_within-j-requires
-next_within-j-requires c = let pre = c.requires in record { readable = (pre.readable.0, omega arith, omega arith); corners = corners-fewer (omega arith) pre.corners }
-
 pub loop-j-init : goal.loop-j-init
 unfolding Bytes
 loop-j-init c =
     let a = c.args in
-    let bytes : Bytes a.m.now = λ k. omega (arith, c.type_inv.m k) in
-    let bound_at = bounds a.h.size a.h.dimension a.i a.m.now _ _ c.costs_at-costs.ensures c.bounds_of-q.ensures in
-    (dominators-first a.h.size a.h.dimension a.m.now c.requires.readable.0.dimension bytes a.i c.bounds_of-q.result bound_at (omega arith) c.next_within-j.ensures, omega arith)
-
-pub costs_at-requires : goal.costs_at-requires
-costs_at-requires c = (c.requires.readable.0, omega arith)
+    let bytes : Bytes a.all.now.board.bytes.now = λ k. omega (arith, c.args.all.now.board.fits k) in
+    let bound_at = bounds a.all.now.board.head.size a.all.now.board.head.dimension a.i a.all.now.board.bytes.now _ _ c.costs_at-costs.ensures c.bounds_of-q.ensures in
+    (dominators-first a.all.now.board.head.size a.all.now.board.head.dimension a.all.now.board.bytes.now c.args.all.now.board.readable.dimension bytes a.i c.bounds_of-q.result bound_at (omega arith) (first-among _ _ _ c.requires.all c.next_within-j.ensures), omega arith)
 
 pub returns-then-found-most : goal.returns-then-found-most
 unfolding Bytes
 returns-then-found-most c =
     let a = c.args in
     let own = c.loop-j in
-    let bytes : Bytes a.m.now = λ k. omega (arith, c.type_inv.m k) in
-    let bound_at = bounds a.h.size a.h.dimension a.i a.m.now _ _ c.costs_at-costs.ensures c.bounds_of-q.ensures in
-    let less = lower a.h.dimension c.costs_at.ensures c.costs_at-costs.ensures c.exceeds.ensures in
+    let bytes : Bytes a.all.now.board.bytes.now = λ k. omega (arith, c.args.all.now.board.fits k) in
+    let bound_at = bounds a.all.now.board.head.size a.all.now.board.head.dimension a.i a.all.now.board.bytes.now _ _ c.costs_at-costs.ensures c.bounds_of-q.ensures in
+    let less = lower a.all.now.board.head.dimension c.costs_at.ensures c.costs_at-costs.ensures c.exceeds.ensures in
     sym
-    (dominators-over a.h.size a.h.dimension a.m.now c.requires.readable.0.dimension bytes a.i c.bounds_of-q.result bound_at own.invariant.0 a.most c.loop-j-test.true
+    (dominators-over a.all.now.board.head.size a.all.now.board.head.dimension a.all.now.board.bytes.now c.args.all.now.board.readable.dimension bytes a.i c.bounds_of-q.result bound_at own.invariant.0 a.most c.loop-j-test.true
     (less ∙ c.if-exceeds.true) c.if-found-most.true)
-
-pub next_within-j-requires-in-loop-j : goal.next_within-j-requires-in-loop-j
-next_within-j-requires-in-loop-j c =
-    let pre = c.requires in
-    record { readable = (pre.readable.0, omega (arith, c.loop-j-test.true), omega arith); corners = corners-fewer (omega arith) pre.corners }
 
 pub loop-j-preserved : goal.loop-j-preserved
 unfolding Bytes
 loop-j-preserved c =
     let a = c.args in
     let own = c.loop-j in
-    let bytes : Bytes a.m.now = λ k. omega (arith, c.type_inv.m k) in
-    let bound_at = bounds a.h.size a.h.dimension a.i a.m.now _ _ c.costs_at-costs.ensures c.bounds_of-q.ensures in
-    let less = lower a.h.dimension c.costs_at.ensures c.costs_at-costs.ensures c.exceeds.ensures in
-    let turn = dominators-next a.h.size a.h.dimension a.m.now c.requires.readable.0.dimension bytes a.i c.bounds_of-q.result bound_at own.invariant.0 in
+    let bytes : Bytes a.all.now.board.bytes.now = λ k. omega (arith, c.args.all.now.board.fits k) in
+    let bound_at = bounds a.all.now.board.head.size a.all.now.board.head.dimension a.i a.all.now.board.bytes.now _ _ c.costs_at-costs.ensures c.bounds_of-q.ensures in
+    let less = lower a.all.now.board.head.dimension c.costs_at.ensures c.costs_at-costs.ensures c.exceeds.ensures in
+    let turn = dominators-next a.all.now.board.head.size a.all.now.board.head.dimension a.all.now.board.bytes.now c.args.all.now.board.readable.dimension bytes a.i c.bounds_of-q.result bound_at own.invariant.0 in
     elim c.if-exceeds.branch [
-      | then-exceeds+else-found-most w ↦ (turn true c.loop-j-test.true (less ∙ w.if-exceeds.true) w.found-is c.next_within-j-in-loop-j.ensures, omega (arith, w.if-found-most.false, w.found-is, own.invariant.1))
-      | else-exceeds w ↦ (turn false c.loop-j-test.true (less ∙ w.if-exceeds.false) (omega (arith, w.found-is)) c.next_within-j-in-loop-j.ensures, omega (arith, w.found-is, own.invariant.1))
+      | then-exceeds+else-found-most w ↦ (turn true c.loop-j-test.true (less ∙ w.if-exceeds.true) w.found-is (first-among _ _ _ c.requires.all c.next_within-j-in-loop-j.ensures), omega (arith, w.if-found-most.false, w.found-is, own.invariant.1))
+      | else-exceeds w ↦ (turn false c.loop-j-test.true (less ∙ w.if-exceeds.false) (omega (arith, w.found-is)) (first-among _ _ _ c.requires.all c.next_within-j-in-loop-j.ensures), omega (arith, w.found-is, own.invariant.1))
     ]
 
 pub returns : goal.returns
 unfolding Bytes
 returns c =
     let a = c.args in
-    let bytes : Bytes a.m.now = λ k. omega (arith, c.type_inv.m k) in
-    let bound_at = bounds a.h.size a.h.dimension a.i a.m.now _ _ c.costs_at-costs.ensures c.bounds_of-q.ensures in
+    let bytes : Bytes a.all.now.board.bytes.now = λ k. omega (arith, c.args.all.now.board.fits k) in
+    let bound_at = bounds a.all.now.board.head.size a.all.now.board.head.dimension a.i a.all.now.board.bytes.now _ _ c.costs_at-costs.ensures c.bounds_of-q.ensures in
     sym
-    (dominators-within a.h.size a.h.dimension a.m.now c.requires.readable.0.dimension bytes a.i c.bounds_of-q.result bound_at c.loop-j.invariant.0 a.most (omega arith) c.loop-j.invariant.1)
-
-pub costs_at-costs-requires : goal.costs_at-costs-requires
-costs_at-costs-requires c = c.requires.readable
-
-pub bounds_of-q-requires : goal.bounds_of-q-requires
-bounds_of-q-requires c = c.requires.readable.0.dimension
-
-pub exceeds-requires : goal.exceeds-requires
-exceeds-requires c = c.requires.readable.0.dimension
+    (dominators-within a.all.now.board.head.size a.all.now.board.head.dimension a.all.now.board.bytes.now c.args.all.now.board.readable.dimension bytes a.i c.bounds_of-q.result bound_at c.loop-j.invariant.0 a.most (omega arith) c.loop-j.invariant.1)

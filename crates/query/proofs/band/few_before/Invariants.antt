@@ -8,7 +8,7 @@ use Rattle.query.specs.Band.{dominates_place}
 use Rattle.query.proofs.band.few_before.Given as goal
 
 abbrev pub invariant-loop-j : goal.invariant-loop-j
-invariant-loop-j l = CountedTo (fits All l.h.size l.m l.q) (dominates_place l.h.size l.h.dimension l.m l.i) l.i l.j l.found × (l.found ≤ l.most)
+invariant-loop-j l = CountedTo (fits All l.all.board.head.size l.all.board.bytes.now l.q) (dominates_place l.all.board.head.size l.all.board.head.dimension l.all.board.bytes.now l.i) l.i l.j l.found × (l.found ≤ l.most)
 
 abbrev pub decreases-loop-j : goal.decreases-loop-j
 decreases-loop-j l = l.i - l.j

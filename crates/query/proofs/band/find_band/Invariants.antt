@@ -1,5 +1,5 @@
 -- `band::find_band` meets its contract. The loop's invariant: of the moves passed those in the band are found. Assumes nothing.
-use Prim.Native.Nat.{ℕ, ◌-◌, ◌≤◌}
+use Prim.Native.Nat.{ℕ}
 use mathlib.Core.Bool.{Bool}
 use mathlib.Core.List.{List}
 use Rattle.memory.specs.declared.head.Head.{Head}
@@ -13,7 +13,4 @@ abbrev pub test : Head → ℕ → List ℕ → ℕ → Bool
 test h most m k = band_of h most m (move_of h.size h.dimension m k)
 
 abbrev pub invariant-loop-i : goal.invariant-loop-i
-invariant-loop-i l = (l.i ≤ l.n) × FindsTo l.h.size l.m (test l.h l.most l.m) l.initial.numbers l.i l.numbers l.count
-
-abbrev pub decreases-loop-i : goal.decreases-loop-i
-decreases-loop-i l = l.n - l.i
+invariant-loop-i l = FindsTo l.b.head.size l.b.bytes.now (test l.b.head l.most l.b.bytes.now) l.initial.numbers l.i l.numbers l.count

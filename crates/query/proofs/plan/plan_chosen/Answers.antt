@@ -4,13 +4,13 @@ use mathlib.Core.List.{List}
 use mathlib.Core.Logic.{inl, inr}
 use mathlib.Core.Path.{◌≡◌, refl, ap, ◌∙◌}
 use native.Mathlib.Omega.{arith}
+use Rattle.memory.specs.Laws.Held.{held-readable}
 use Rattle.zorder.proofs.Bits.{shl_one}
 use Rattle.promises.specs.Layout.{dimension_in}
 use Rattle.model.specs.Calls.{chosen_query}
 use Rattle.model.specs.Opening.{query_opens}
 use Rattle.memory.specs.Held.{SoundRows}
 use Rattle.memory.specs.Laws.Held.{held-dimension}
-use Rattle.soundness.specs.Laws.Held.{sound-held, unsound-held, only-unsound}
 use Rattle.rows.proofs.Planned.{query-unsound, query-bad}
 use Rattle.query.specs.Rule.{Fair}
 use Rattle.query.specs.Unbeaten.{unbeaten}
@@ -28,15 +28,15 @@ module _ {c d n : ℕ} {m : List ℕ} (s : SoundRows c d n m) where
 pub returns-in_default : goal.returns-in_default
 returns-in_default c =
     let a = c.args in
-    query-unsound (chosen_query a.set) a.m.now a.lent c.refused.ensures (unsound-held c.sound_head.ensures (only-unsound c.sound_head.result c.in_default.not-Sound))
+    query-unsound (chosen_query a.set) a.m.now a.lent c.refused.ensures c.in_default.ensures
 
 pub overflow_shl-h : goal.overflow_shl-h
-overflow_shl-h c = let s = sound-held c.sound_head.ensures c.in-Sound.is in omega (arith, held-dimension _ _ _ _ s)
+overflow_shl-h c = let s = c.in-Some.ensures in omega (arith, held-dimension _ _ _ _ s)
 
 pub returns-then-set-eq0 : goal.returns-then-set-eq0
 returns-then-set-eq0 c =
     let a = c.args in
-    let s = sound-held c.sound_head.ensures c.in-Sound.is in
+    let s = c.in-Some.ensures in
     query-bad (chosen_query a.set) a.m.now a.lent c.refused-then-set-eq0.ensures s.sound
     (chosen-bad a.m.now a.set (elim c.then-set-eq0.branch [
       | then-set-eq0-via-then-set-eq0 w ↦ inl w.if-set-eq0.true
@@ -45,13 +45,16 @@ returns-then-set-eq0 c =
 
 pub find_unbeaten-requires : goal.find_unbeaten-requires
 unfolding Fair
-find_unbeaten-requires c = (sound-held c.sound_head.ensures c.in-Sound.is, tt)
+find_unbeaten-requires c = (c.in-Some.ensures, tt)
 
 pub returns : goal.returns
 unfolding query_opens
 returns c =
     let a = c.args in
-    let s = sound-held c.sound_head.ensures c.in-Sound.is in
+    let s = c.in-Some.ensures in
     found-planned (λ d. unbeaten d (Chosen a.set)) (chosen_query a.set) s c.find_unbeaten.ensures c.plan_found.ensures
     (chosen-right a.m.now a.set c.if-set-eq0.false (omega (arith, c.if-h-set.false, power s)))
     (chosen-rows a.m.now a.set) (λ _. refl)
+
+pub invariant_of-board : goal.invariant_of-board
+invariant_of-board c = record { readable = held-readable c.in-Some.ensures; fits = λ k. omega (arith, c.type_inv.m k) }

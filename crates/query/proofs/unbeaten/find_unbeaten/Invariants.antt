@@ -1,6 +1,6 @@
 -- `unbeaten::find_unbeaten` meets its contract. The loop's invariant: of the moves passed those that none beats are found.
 -- Assumes nothing.
-use Prim.Native.Nat.{ℕ, ◌-◌, ◌≤◌}
+use Prim.Native.Nat.{ℕ}
 use mathlib.Core.Bool.{Bool}
 use mathlib.Core.List.{List}
 use Rattle.memory.specs.declared.head.Head.{Head}
@@ -15,7 +15,4 @@ abbrev pub test : Head → Rule → List ℕ → ℕ → Bool
 test h rule m k = unbeaten_of h rule m (move_of h.size h.dimension m k)
 
 abbrev pub invariant-loop-i : goal.invariant-loop-i
-invariant-loop-i l = (l.i ≤ l.n) × FindsTo l.h.size l.m (test l.h l.rule l.m) l.initial.numbers l.i l.numbers l.count
-
-abbrev pub decreases-loop-i : goal.decreases-loop-i
-decreases-loop-i l = l.n - l.i
+invariant-loop-i l = FindsTo l.b.head.size l.b.bytes.now (test l.b.head l.rule l.b.bytes.now) l.initial.numbers l.i l.numbers l.count

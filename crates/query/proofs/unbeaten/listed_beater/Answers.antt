@@ -6,43 +6,28 @@ use Rattle.model.proofs.Laws.Bool.{and-false-right}
 use Rattle.promises.specs.Run.{Bytes}
 use Rattle.search.specs.Search.{None}
 use Rattle.memory.specs.Tests.{is_listed}
-use Rattle.memory.specs.Laws.Held.{held-readable}
 use Rattle.search.specs.Laws.Search.{none_more, none-join}
 use Rattle.query.specs.Rule as rules
 use Rattle.query.specs.Unbeaten.{beats_at, listed_beats}
 use Rattle.query.specs.Laws.Unbeaten.{none-beats}
 use Rattle.query.proofs.unbeaten.listed_beater.Goals as goal
 
-pub candidate-j-requires : goal.candidate-j-requires
-candidate-j-requires c = let pre = c.requires in record { readable = (held-readable pre.sound_at.0, omega arith); listed_corners = pre.listed_corners }
-
 pub loop-j-init : goal.loop-j-init
 loop-j-init c = (c.candidate-j.ensures.to, c.candidate-j.ensures.passed)
-
-pub costs_at-requires : goal.costs_at-requires
-costs_at-requires c = (held-readable c.requires.sound_at.0, omega arith)
-
-pub beats-requires : goal.beats-requires
-beats-requires c = let pre = c.requires.sound_at in ((held-readable pre.0).dimension, pre.1)
 
 pub returns-then-beats : goal.returns-then-beats
 returns-then-beats c =
     let a = c.args in
-    let beat = ap (λ (p : List ℕ). rules.beats a.h.dimension a.rule p a.costs) (sym c.costs_at.ensures) ∙ sym c.beats.ensures in
+    let beat = ap (λ (p : List ℕ). rules.beats a.listed.now.board.head.dimension a.rule p a.costs) (sym c.costs_at.ensures) ∙ sym c.beats.ensures in
     record { to = omega arith; found = λ l. beat ∙ c.if-beats.true; none = λ l. absurd (omega arith) }
-
-pub candidate-j-requires-in-loop-j : goal.candidate-j-requires-in-loop-j
-candidate-j-requires-in-loop-j c =
-    let pre = c.requires in
-    record { readable = (held-readable pre.sound_at.0, omega (arith, c.loop-j-test.true)); listed_corners = pre.listed_corners }
 
 pub loop-j-preserved : goal.loop-j-preserved
 loop-j-preserved c =
     let a = c.args in
     let own = c.loop-j in
-    let test = listed_beats a.h.size a.h.dimension a.rule a.m.now a.costs in
-    let beat = ap (λ (p : List ℕ). rules.beats a.h.dimension a.rule p a.costs) (sym c.costs_at.ensures) ∙ sym c.beats.ensures in
-    let here = and-false-right (is_listed a.h.size a.m.now own.j) (beats_at a.h.size a.h.dimension a.rule a.m.now a.costs own.j) (beat ∙ c.if-beats.false) in
+    let test = listed_beats a.listed.now.board.head.size a.listed.now.board.head.dimension a.rule a.listed.now.board.bytes.now a.costs in
+    let beat = ap (λ (p : List ℕ). rules.beats a.listed.now.board.head.dimension a.rule p a.costs) (sym c.costs_at.ensures) ∙ sym c.beats.ensures in
+    let here = and-false-right (is_listed a.listed.now.board.head.size a.listed.now.board.bytes.now own.j) (beats_at a.listed.now.board.head.size a.listed.now.board.head.dimension a.rule a.listed.now.board.bytes.now a.costs own.j) (beat ∙ c.if-beats.false) in
     (c.candidate-j-in-loop-j.ensures.to, none-join test 0 _ _ (none_more test 0 own.j own.invariant.1 here) c.candidate-j-in-loop-j.ensures.passed)
 
 pub returns : goal.returns
@@ -50,11 +35,11 @@ unfolding Bytes
 returns c =
     let a = c.args in
     let own = c.loop-j in
-    let all : own.j ≡ a.h.count = omega arith in
-    let bytes : Bytes a.m.now = λ i. omega (arith, c.shared_slice_known-1.given i) in
+    let all : own.j ≡ a.listed.now.board.head.count = omega arith in
+    let bytes : Bytes a.listed.now.board.bytes.now = c.args.listed.now.board.fits in
     record {
       to = omega arith;
       found = λ l. absurd (omega arith);
       none = λ l. none-beats c.requires.sound_at.0 bytes a.rule a.costs
-          (subst (None (listed_beats a.h.size a.h.dimension a.rule a.m.now a.costs) 0) all own.invariant.1);
+          (subst (None (listed_beats a.listed.now.board.head.size a.listed.now.board.head.dimension a.rule a.listed.now.board.bytes.now a.costs) 0) all own.invariant.1);
     }

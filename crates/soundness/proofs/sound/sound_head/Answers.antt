@@ -5,15 +5,13 @@ use Rattle.soundness.specs.Held.{HeldIn}
 use Rattle.soundness.proofs.sound.sound_head.Goals as goal
 
 pub returns-then-m-lt16 : goal.returns-then-m-lt16
-unfolding HeldIn memory_need
+unfolding memory_need
 returns-then-m-lt16 c = λ s. omega (arith, s.stands.room)
 
 pub returns-then-not-is_sound : goal.returns-then-not-is_sound
-unfolding HeldIn
 returns-then-not-is_sound c = let s = c.is_sound in s.ensures.unsound (c.if-not-is_sound.true)
 
 pub returns : goal.returns
-unfolding HeldIn
 returns c =
     let s = c.is_sound in
     let own = c.head_of-h.ensures in
