@@ -14,12 +14,8 @@ pub fn give_blocks(m: &mut [u8], c: usize, rows: &[[u16; INPUT]])
     ensures { BlocksGiven c (map input_row rows.now) m.old
         m.new }
 {
-    let mut left = rows.len();
-    while 0 < left {
-        left -= 1;
+    for left in (0..rows.len()).rev() {
         let row = rows[left];
-        let number = number_of(row);
-        let block = block_of(row);
-        set_block(m, c, number, block);
+        set_block(m, c, number_of(row), block_of(row));
     }
 }

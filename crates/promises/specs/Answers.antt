@@ -19,6 +19,11 @@ reason_number FewRows = 8
 reason_number BlockTooLarge = 11
 reason_number BadHours = 12
 
+-- The number of what a check says, 0 if it passes.
+abbrev pub check_number : Result ⊤ Reason → ℕ
+check_number (Ok _) = 0
+check_number (Err r) = reason_number r
+
 -- What a call says: accepted, or refused for a reason with a detail.
 abbrev pub Verdict : Type 0
 Verdict = Result ⊤ Refusal

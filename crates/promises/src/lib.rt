@@ -3,6 +3,8 @@
 // promises.
 #![tactic(auto)]
 
+ghost use Rattle.std.specs.Prelude.{◌≡◌};
+
 mod answers;
 mod ranges;
 mod row;
@@ -31,6 +33,14 @@ pub enum Reason {
 pub struct Refusal {
     pub reason: Reason,
     pub detail: usize,
+}
+
+impl From<Reason> for Refusal {
+    ghost from_gives = { λ reason r. r ≡ record { reason = reason; detail = 0 } };
+
+    fn from(reason: Reason) -> Refusal {
+        Refusal { reason, detail: 0 }
+    }
 }
 
 // What a call says: that it is accepted, or how it is refused.

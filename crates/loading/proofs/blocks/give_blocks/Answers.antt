@@ -1,7 +1,6 @@
 use Prim.Native.Nat.{ℕ, ◌-◌}
 use mathlib.Core.List.{[], map}
 use mathlib.Core.Path.{◌≡◌, sym, subst}
-use native.Mathlib.Nat.{le_refl}
 use native.Mathlib.Omega.{arith}
 use lib.ListN.{drop}
 use Rattle.promises.specs.Answers.{input_row}
@@ -13,36 +12,34 @@ use Rattle.loading.proofs.blocks.give_blocks.Goals as goal
 pub loop-left-init : goal.loop-left-init
 loop-left-init c =
     let a = c.args in
-    (le_refl _, lent_none a.c a.rows.now a.m.now)
+    lent_none a.c a.rows.now a.m.now
 
 pub set_block-requires : goal.set_block-requires
 set_block-requires c =
     let a = c.args in
     let own = c.loop-left in
-    let able = lent-storable a.c a.rows.now a.m.now own.left (omega arith) own.invariant.0 [] c.requires.1 in (
-      room-over a.c own.invariant.1.frame c.requires.0,
-      omega (arith, able.0, c.number_of-number.ensures.0),
-      omega (arith, able.1, c.block_of-block.ensures),
+    let able = lent-storable a.c a.rows.now a.m.now own.left (omega arith) (omega arith) [] c.requires.1 in (
+      room-over a.c own.invariant.frame c.requires.0,
+      omega (arith, able.0, c.number_of.ensures.0),
+      omega (arith, able.1, c.block_of.ensures),
     )
 
 pub loop-left-preserved : goal.loop-left-preserved
 loop-left-preserved c =
     let a = c.args in
     let own = c.loop-left in
-    let number = c.number_of-number in
-    let block = c.block_of-block in
-    let stored = c.set_block in (
-      omega arith,
-      subst (BlocksGiven a.c (drop (own.left - 1) (map input_row a.rows.now)) a.m.now) (sym stored.ensures)
-          (lent-more a.c a.rows.now a.m.now own.left (omega arith) own.invariant.0 [] c.requires.1 number.result block.result own.m number.ensures.0 block.ensures c.requires.0 own.invariant.1),
-    )
+    let number = c.number_of in
+    let block = c.block_of in
+    let stored = c.set_block in
+    subst (BlocksGiven a.c (drop (own.left - 1) (map input_row a.rows.now)) a.m.now) (sym stored.ensures)
+    (lent-more a.c a.rows.now a.m.now own.left (omega arith) (omega arith) [] c.requires.1 number.result block.result own.m number.ensures.0 block.ensures c.requires.0 own.invariant)
 
 pub shape_of-m : goal.shape_of-m
-shape_of-m c = c.loop-left.invariant.1.frame.length
+shape_of-m c = c.loop-left.invariant.frame.length
 
 pub returns : goal.returns
 returns c =
     let a = c.args in
     let own = c.loop-left in
     let none : own.left ≡ 0 = omega arith in
-    subst (λ (k : ℕ). BlocksGiven a.c (drop k (map input_row a.rows.now)) a.m.now own.m) none own.invariant.1
+    subst (λ (k : ℕ). BlocksGiven a.c (drop k (map input_row a.rows.now)) a.m.now own.m) none own.invariant
