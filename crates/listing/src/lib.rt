@@ -5,7 +5,7 @@ ghost use Rattle.model.specs.Calls.{list};
 ghost use Rattle.rows.specs.Planned.{QueryPlanned};
 
 use nodes::nodes_opened;
-use promises::Outcome;
+use promises::Reason;
 use rows::{Plan, plan_found, refused};
 use soundness::{Held, sound_head};
 use upkeep::find_listed;
@@ -15,7 +15,7 @@ pub fn plan_list(m: &[u8], lent: usize) -> Plan
     ensures { QueryPlanned list m.now lent result }
 {
     let Held::Sound(h) = sound_head(m) else {
-        return refused(Outcome::Unsound, 0);
+        return refused(Reason::Unsound, 0);
     };
     let found = find_listed(m, h);
     let opened = nodes_opened(m, h);

@@ -6,7 +6,7 @@ ghost use Rattle.rows.specs.Planned.{QueryPlanned};
 use crate::band::find_band;
 use crate::rule::Rule;
 use crate::unbeaten::find_unbeaten;
-use promises::Outcome;
+use promises::Reason;
 use rows::{Plan, plan_found, refused};
 use soundness::{Held, sound_head};
 
@@ -15,10 +15,10 @@ pub fn plan_band(m: &[u8], b: usize, lent: usize) -> Plan
     ensures { QueryPlanned (band_query b) m.now lent result }
 {
     let Held::Sound(h) = sound_head(m) else {
-        return refused(Outcome::Unsound, 0);
+        return refused(Reason::Unsound, 0);
     };
     if 4095 < b {
-        return refused(Outcome::BadArgument, 0);
+        return refused(Reason::BadArgument, 0);
     }
     plan_found(h, find_band(m, h, b), 0, lent)
 }
@@ -28,10 +28,10 @@ pub fn plan_on_k(m: &[u8], k: usize, lent: usize) -> Plan
     ensures { QueryPlanned (on_k_query k) m.now lent result }
 {
     let Held::Sound(h) = sound_head(m) else {
-        return refused(Outcome::Unsound, 0);
+        return refused(Reason::Unsound, 0);
     };
     if k < 1 || h.dimension < k {
-        return refused(Outcome::BadArgument, 0);
+        return refused(Reason::BadArgument, 0);
     }
     plan_found(h, find_unbeaten(m, h, Rule::OnK(k)), 0, lent)
 }
@@ -42,10 +42,10 @@ pub fn plan_chosen(m: &[u8], set: usize, lent: usize) -> Plan
     ensures { QueryPlanned (chosen_query set) m.now lent result }
 {
     let Held::Sound(h) = sound_head(m) else {
-        return refused(Outcome::Unsound, 0);
+        return refused(Reason::Unsound, 0);
     };
     if set == 0 || (1usize << h.dimension) <= set {
-        return refused(Outcome::BadArgument, 0);
+        return refused(Reason::BadArgument, 0);
     }
     plan_found(h, find_unbeaten(m, h, Rule::Chosen(set)), 0, lent)
 }
