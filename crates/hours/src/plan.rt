@@ -7,7 +7,7 @@ use crate::shown::find_shown;
 use crate::windows::minute_bad;
 use crate::{BLOCKS, HOURS};
 use memory::Board;
-use promises::Outcome;
+use promises::Reason;
 use rows::{Plan, plan_found, refused};
 use soundness::sound_head;
 
@@ -17,15 +17,15 @@ pub fn plan_hours(m: &[u8], minute: usize, hours: &[[u16; HOURS]], lent: usize) 
     ensures { HoursPlanned minute hours.now m.now lent result }
 {
     let Some(h) = sound_head(m) else {
-        return refused(Outcome::Unsound, 0);
+        return refused(Reason::Unsound, 0);
     };
     let board = Board { bytes: m, head: h };
     if minute_bad(minute) {
-        return refused(Outcome::BadArgument, 0);
+        return refused(Reason::BadArgument, 0);
     }
     let bad = first_bad(hours);
     if bad < BLOCKS {
-        return refused(Outcome::BadHours, bad);
+        return refused(Reason::BadHours, bad);
     }
     let blocks = open_blocks(minute as u16, hours);
     plan_found(h, find_shown(&board, blocks), 0, lent)

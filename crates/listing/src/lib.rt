@@ -6,7 +6,7 @@ ghost use Rattle.rows.specs.Planned.{QueryPlanned};
 
 use memory::Board;
 use nodes::nodes_opened;
-use promises::Outcome;
+use promises::Reason;
 use rows::{Plan, plan_found, refused};
 use soundness::sound_head;
 use upkeep::find_listed;
@@ -16,7 +16,7 @@ pub fn plan_list(m: &[u8], lent: usize) -> Plan
     ensures { QueryPlanned list m.now lent result }
 {
     let Some(h) = sound_head(m) else {
-        return refused(Outcome::Unsound, 0);
+        return refused(Reason::Unsound, 0);
     };
     let board = Board { bytes: m, head: h };
     let found = find_listed(&board);

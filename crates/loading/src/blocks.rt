@@ -14,10 +14,8 @@ pub fn give_blocks(m: &mut [u8], c: usize, rows: &[[u16; INPUT]])
     ensures { BlocksGiven c (map input_row rows.now) m.old
         m.new }
 {
-    for i in (0..rows.len()).rev() {
-        let row = rows[i];
-        let number = number_of(row);
-        let block = block_of(row);
-        set_block(m, c, number, block);
+    for left in (0..rows.len()).rev() {
+        let row = rows[left];
+        set_block(m, c, number_of(row), block_of(row));
     }
 }

@@ -1,9 +1,9 @@
 -- The three changes as the code has them: a kind, a number, and a block and costs, which a withdrawal does not look at.
-use Rattle.std.specs.Prelude.{ℕ, Bool, true, false, List, ◌≡◌}
+use Rattle.std.specs.Prelude.{ℕ, Bool, true, false, List, ◌≡◌, Result, ⊤}
 use Rattle.model.specs.Calls as calls
 use Rattle.model.specs.Calls.{Board, on_board, change_refusal}
-use Rattle.promises.specs.Answers.{outcome_number}
-use Rattle.promises.specs.declared.Outcome.{Outcome}
+use Rattle.promises.specs.Answers.{check_number}
+use Rattle.promises.specs.declared.Reason.{Reason}
 use Rattle.dominance.specs.declared.Move.{Move}
 use Rattle.memory.specs.declared.head.Head.{Head}
 use Rattle.upkeep.specs.declared.exchange.Exchange.{Exchange}
@@ -38,10 +38,10 @@ abbrev pub exchange_of : Change → ℕ → Exchange
 exchange_of x goes = record { goes = goes; comes = comes x.kind; coming = coming_of x }
 
 -- The refusal, 3 and 8 apart, on each board with this head where the number is or is not on the board.
-pub record JudgesBy (h : Head) (x : Change) (on : Bool) (r : Outcome) : Type 0 where
+pub record JudgesBy (h : Head) (x : Change) (on : Bool) (r : Result ⊤ Reason) : Type 0 where
   pub is :
       (b : Board)
       → b.size ≡ h.size
       → b.dimension ≡ h.dimension
       → on_board x.number b.moves ≡ on
-      → outcome_number r ≡ change_refusal b (call_of x)
+      → check_number r ≡ change_refusal b (call_of x)

@@ -6,8 +6,7 @@ use Rattle.model.specs.Calls.{refused_with, change_refusal, change_notice, keeps
 use Rattle.model.specs.Opening.{change_opens}
 use Rattle.promises.specs.Layout.{size_in, dimension_in, number_in, costs_in, board_in}
 use Rattle.promises.specs.Sound.{Sound}
-use Rattle.promises.specs.Answers.{number_of, counted, refused_by}
-use Rattle.promises.specs.declared.Outcome.{Outcome}
+use Rattle.promises.specs.Answers.{Verdict, number_of, counted}
 use Rattle.memory.specs.Room.{Room}
 use Rattle.memory.specs.Stores.{set_block}
 use Rattle.search.specs.declared.search.Among.TheVariants.{Listed, Hidden}
@@ -128,8 +127,8 @@ pub record Planned (x : Change) (m : List ℕ) (lent : ℕ) (p : ChangePlan) : T
   pub nothing : Sound m → keeps_moves (board_in m) (call_of x) ≡ true → number_of p.verdict ≡ 0 → p.makes ≡ false
 
 -- No move changes, and no row is told.
-pub record KeepsMoves (h : Head) (x : Change) (outcome : Outcome) (p : ChangePlan) : Type 0 where
-  pub verdict : p.verdict ≡ refused_by outcome 0
+pub record KeepsMoves (h : Head) (x : Change) (v : Verdict) (p : ChangePlan) : Type 0 where
+  pub verdict : p.verdict ≡ v
   pub need : p.need ≡ 0
   pub opened : p.opened ≡ 0
   pub makes : p.makes ≡ false

@@ -5,31 +5,31 @@ ghost use Rattle.planning.specs.Kind.{JudgesBy};
 
 use crate::change::{Change, comes, is_new};
 use memory::Head;
-use promises::{Outcome, block_bad};
+use promises::{Reason, block_bad};
 use zorder::zero_past;
 
 // `on` says whether the number is on the board. The detail is zero in every case.
-pub fn judge(h: Head, x: Change, on: bool) -> Outcome
+pub fn judge(h: Head, x: Change, on: bool) -> Result<(), Reason>
     requires { h.dimension ≤ row_costs }
     ensures { JudgesBy h x on result }
 {
     let kind = x.kind;
     if h.size <= (x.number as usize) {
-        return Outcome::NumberTooLarge;
+        return Err(Reason::NumberTooLarge);
     }
     if comes(kind) && block_bad(x.block) {
-        return Outcome::BlockTooLarge;
+        return Err(Reason::BlockTooLarge);
     }
     let costs = x.costs;
     if comes(kind) && !zero_past(h.dimension, costs) {
-        return Outcome::BadArgument;
+        return Err(Reason::BadArgument);
     }
     if is_new(kind) != on {
-        return Outcome::Accepted;
+        return Ok(());
     }
-    if on {
-        Outcome::NumberTwice
+    Err(if on {
+        Reason::NumberTwice
     } else {
-        Outcome::NumberAbsent
-    }
+        Reason::NumberAbsent
+    })
 }

@@ -6,7 +6,7 @@ use crate::change::{Change, comes, exchange_of};
 use crate::foresee::{alike, coming_place, needed, no_upkeep, reported};
 use crate::judge::judge;
 use memory::Head;
-use promises::{Outcome, Verdict, accepts, enough};
+use promises::{Reason, Refusal, Verdict, enough};
 use soundness::{Held, sound_head};
 use tree::place_of;
 use upkeep::{Upkeep, upkeep_of};
@@ -29,11 +29,11 @@ pub struct ChangePlan {
 }
 
 // No move changes, and no row is told.
-fn keeps_moves(head: Head, change: Change, outcome: Outcome) -> ChangePlan
-    ensures { spec.KeepsMoves head change outcome result }
+fn keeps_moves(head: Head, change: Change, verdict: Verdict) -> ChangePlan
+    ensures { spec.KeepsMoves head change verdict result }
 {
     ChangePlan {
-        verdict: Verdict { outcome, detail: 0 },
+        verdict,
         need: 0,
         opened: 0,
         makes: false,
@@ -52,14 +52,12 @@ pub fn plan_on(m: &[u8], h: Head, x: Change, lent: usize) -> ChangePlan
     ensures { spec.Planned x m.now lent result }
 {
     let goes = place_of(m, h.size, h.count, x.number);
-    let outcome = judge(h, x, goes < h.count);
-    let verdict = Verdict { outcome, detail: 0 };
-    if !accepts(verdict) {
-        return keeps_moves(h, x, outcome);
+    if let Err(reason) = judge(h, x, goes < h.count) {
+        return keeps_moves(h, x, Err(Refusal::from(reason)));
     }
     let k = exchange_of(x, goes);
     if alike(m, h, k) {
-        return keeps_moves(h, x, outcome);
+        return keeps_moves(h, x, Ok(()));
     }
     let place = coming_place(m, h, k);
     let upkeep = upkeep_of(m, h, k, place);
@@ -87,7 +85,7 @@ pub fn plan_change(m: &[u8], x: Change, lent: usize) -> ChangePlan
             dimension: 0,
             count: 0,
         };
-        return keeps_moves(none, x, Outcome::Unsound);
+        return keeps_moves(none, x, Err(Refusal::from(Reason::Unsound)));
     };
     plan_on(m, h, x, lent)
 }

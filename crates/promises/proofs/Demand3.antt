@@ -21,11 +21,10 @@ use Rattle.model.proofs.Laws.Holder.{SameShape, change-shape, lists-held, Reads,
 use Rattle.promises.specs.Layout.{size_in, dimension_in}
 use Rattle.promises.specs.Written.{change_writes, load_writes}
 use Rattle.promises.specs.Sound.{Holding}
-use Rattle.promises.specs.Answers.{answer_of, number_of, counted, rows_after}
+use Rattle.promises.specs.Answers.{Verdict, answer_of, number_of, counted, rows_after}
 use Rattle.promises.specs.Promise.{MemoryAfter, LoadPromise, Said, QueryPromise, QuerySaidOn, ChangeSaidOn, ChangeSaid, ChangePromise}
 use Rattle.promises.specs.Run.{Bytes, Step, changes, previews, lists, load_refused, leaves, Steps, done, then, event_of, events_of, History, end, call, load, run_of, EachRun}
 use Rattle.promises.proofs.Laws.Stands.{holding-sound, holding-board}
-use Rattle.promises.specs.declared.Verdict.{Verdict}
 use Rattle.promises.specs.declared.CallResult.{CallResult}
 
 -- ---- what a call says
@@ -87,7 +86,7 @@ module _ (answer : calls.Answer) (nodes : ℕ) (writes : ℕ → Bool) (next : B
   plain-after = ap (λ (a : calls.Answer). cond (is_accepted a) next b) (sym said.answers)
 
   after-at : Bytes m' → At m' (cond (is_accepted answer) next b)
-  unfolding is_accepted answer_of
+  unfolding is_accepted
   after-at k = subst (At m') (sym plain-after) (left_at writes m m' next t (number_of r.verdict) left k a)
 
   rows_told : take r.count lent' ≡ cond (is_accepted (answer_of r.verdict)) (notice_of (list_of b) (list_of next)) []

@@ -1,37 +1,50 @@
--- Document 01's number of each outcome, and what lent rows hold.
-use Rattle.std.specs.Prelude.{ℕ, zero, suc, ◌+◌, ◌*◌, List, [], ◌∷◌, ◌++◌, length, get_or, drop}
+-- Document 01's number of each refusal, and what lent rows hold.
+use Rattle.std.specs.Prelude.{ℕ, zero, suc, ◌+◌, ◌*◌, List, [], ◌∷◌, ◌++◌, length, get_or, drop, Result, Ok, Err, ⊤}
 use Rattle.model.specs.Moves.{InputRow, Row}
 use Rattle.model.specs.Hours.{Window, Hours}
 use Rattle.model.specs.Calls as calls
-use Rattle.promises.specs.declared.Verdict.{Verdict}
-use Rattle.promises.specs.declared.Outcome.{Outcome}
-use Rattle.promises.specs.declared.Outcome.TheVariants.{Accepted, ShortMemory, OutOfRange, Unsound, NumberTooLarge, NumberTwice, NumberAbsent, BadArgument, FewRows, BlockTooLarge, BadHours}
+use Rattle.promises.specs.declared.Refusal.{Refusal}
+use Rattle.promises.specs.declared.Reason.{Reason}
+use Rattle.promises.specs.declared.Reason.TheVariants.{ShortMemory, OutOfRange, Unsound, NumberTooLarge, NumberTwice, NumberAbsent, BadArgument, FewRows, BlockTooLarge, BadHours}
 
-unfoldable pub outcome_number : Outcome → ℕ
-outcome_number Accepted = 0
-outcome_number ShortMemory = 1
-outcome_number OutOfRange = 2
-outcome_number Unsound = 3
-outcome_number NumberTooLarge = 4
-outcome_number NumberTwice = 5
-outcome_number NumberAbsent = 6
-outcome_number BadArgument = 7
-outcome_number FewRows = 8
-outcome_number BlockTooLarge = 11
-outcome_number BadHours = 12
+abbrev pub reason_number : Reason → ℕ
+reason_number ShortMemory = 1
+reason_number OutOfRange = 2
+reason_number Unsound = 3
+reason_number NumberTooLarge = 4
+reason_number NumberTwice = 5
+reason_number NumberAbsent = 6
+reason_number BadArgument = 7
+reason_number FewRows = 8
+reason_number BlockTooLarge = 11
+reason_number BadHours = 12
+
+-- The number of what a check says, 0 if it passes.
+abbrev pub check_number : Result ⊤ Reason → ℕ
+check_number (Ok _) = 0
+check_number (Err r) = reason_number r
+
+-- What a call says: accepted, or refused for a reason with a detail.
+abbrev pub Verdict : Type 0
+Verdict = Result ⊤ Refusal
 
 abbrev pub number_of : Verdict → ℕ
-number_of v = outcome_number v.outcome
+number_of (Ok _) = 0
+number_of (Err r) = reason_number r.reason
+
+abbrev pub detail_of : Verdict → ℕ
+detail_of (Ok _) = 0
+detail_of (Err r) = r.detail
 
 abbrev pub answer_of : Verdict → calls.Answer
-answer_of v = record { number = number_of v; detail = v.detail }
+answer_of v = record { number = number_of v; detail = detail_of v }
 
--- The verdicts by their outcome and detail.
+-- The verdicts: accepted, and refused by their reason and detail.
 abbrev pub accepted_verdict : Verdict
-accepted_verdict = record { outcome = Accepted; detail = 0 }
+accepted_verdict = Ok tt
 
-abbrev pub refused_by : Outcome → ℕ → Verdict
-refused_by o detail = record { outcome = o; detail = detail }
+abbrev pub refused_by : Reason → ℕ → Verdict
+refused_by reason detail = Err (record { reason = reason; detail = detail })
 
 -- A row in memory as numbers: for load the number, the block and the costs, for a result a mark, the number and the costs.
 unfoldable pub input_row : List ℕ → InputRow

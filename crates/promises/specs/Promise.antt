@@ -11,8 +11,7 @@ use Rattle.model.specs.Opening.{query_opens, change_opens}
 use Rattle.promises.specs.Layout.{size_in, dimension_in, board_in}
 use Rattle.promises.specs.Written.{Only, block_writes, change_writes, load_writes}
 use Rattle.promises.specs.Sound.{Sound, Holding}
-use Rattle.promises.specs.Answers.{answer_of, number_of, counted, rows_after}
-use Rattle.promises.specs.declared.Verdict.{Verdict}
+use Rattle.promises.specs.Answers.{Verdict, answer_of, number_of, counted, rows_after}
 use Rattle.promises.specs.declared.CallResult.{CallResult}
 
 -- The memory after a call that answered with this number: refused, "every byte as before"; accepted, sound with this board and

@@ -5,9 +5,8 @@ use Rattle.model.specs.Moves.{InputRow, Row}
 use Rattle.model.specs.Calls as calls
 use Rattle.model.specs.Calls.{Change, list, loaded}
 use Rattle.model.specs.Holder.{change, preview, list_call, other, Event, Demand3}
-use Rattle.promises.specs.Answers.{answer_of, number_of}
+use Rattle.promises.specs.Answers.{Verdict, answer_of, number_of}
 use Rattle.promises.specs.Promise.{LoadPromise, QueryPromise, ChangePromise, PreviewPromise}
-use Rattle.promises.specs.declared.Verdict.{Verdict}
 use Rattle.promises.specs.declared.CallResult.{CallResult}
 
 -- The lent memory is a list of bytes, as its type in the code says.

@@ -7,7 +7,7 @@ use crate::band::find_band;
 use crate::rule::Rule;
 use crate::unbeaten::find_unbeaten;
 use memory::Board;
-use promises::Outcome;
+use promises::Reason;
 use rows::{Plan, plan_found, refused};
 use soundness::sound_head;
 
@@ -16,11 +16,11 @@ pub fn plan_band(m: &[u8], b: usize, lent: usize) -> Plan
     ensures { QueryPlanned (band_query b) m.now lent result }
 {
     let Some(h) = sound_head(m) else {
-        return refused(Outcome::Unsound, 0);
+        return refused(Reason::Unsound, 0);
     };
     let board = Board { bytes: m, head: h };
     if 4095 < b {
-        return refused(Outcome::BadArgument, 0);
+        return refused(Reason::BadArgument, 0);
     }
     plan_found(h, find_band(&board, b), 0, lent)
 }
@@ -30,11 +30,11 @@ pub fn plan_on_k(m: &[u8], k: usize, lent: usize) -> Plan
     ensures { QueryPlanned (on_k_query k) m.now lent result }
 {
     let Some(h) = sound_head(m) else {
-        return refused(Outcome::Unsound, 0);
+        return refused(Reason::Unsound, 0);
     };
     let board = Board { bytes: m, head: h };
     if k < 1 || h.dimension < k {
-        return refused(Outcome::BadArgument, 0);
+        return refused(Reason::BadArgument, 0);
     }
     plan_found(h, find_unbeaten(&board, Rule::OnK(k)), 0, lent)
 }
@@ -45,11 +45,11 @@ pub fn plan_chosen(m: &[u8], set: usize, lent: usize) -> Plan
     ensures { QueryPlanned (chosen_query set) m.now lent result }
 {
     let Some(h) = sound_head(m) else {
-        return refused(Outcome::Unsound, 0);
+        return refused(Reason::Unsound, 0);
     };
     let board = Board { bytes: m, head: h };
     if set == 0 || (1usize << h.dimension) <= set {
-        return refused(Outcome::BadArgument, 0);
+        return refused(Reason::BadArgument, 0);
     }
     plan_found(h, find_unbeaten(&board, Rule::Chosen(set)), 0, lent)
 }

@@ -17,11 +17,10 @@ use Rattle.promises.specs.Layout.{dimension_in, board_in}
 use Rattle.model.specs.Opening.{query_opens}
 use Rattle.memory.specs.declared.head.Head.{Head}
 use Rattle.promises.specs.Sound.{Stands, Sound}
-use Rattle.promises.specs.Answers.{answer_of, number_of, counted, rows_after, result_row, refused_by, outcome_number}
+use Rattle.promises.specs.Answers.{Verdict, answer_of, number_of, counted, rows_after, result_row, refused_by, reason_number}
 use Rattle.promises.specs.Promise.{Said, UnsoundSaid, QueryPromise}
-use Rattle.promises.specs.declared.Verdict.{Verdict}
-use Rattle.promises.specs.declared.Outcome.{Outcome}
-use Rattle.promises.specs.declared.Outcome.TheVariants.{Unsound, BadArgument}
+use Rattle.promises.specs.declared.Reason.{Reason}
+use Rattle.promises.specs.declared.Reason.TheVariants.{Unsound, BadArgument}
 use Rattle.upkeep.specs.declared.found.Found.{Found}
 use Rattle.rows.specs.Telling.{told_rows, filled_rows, listing}
 use Rattle.rows.specs.Planned.{answer_by, Foreseen, Tells, QueryPlanned, Refuses, PlansFound, put, answered}
@@ -115,7 +114,7 @@ module _ {refusal : calls.Answer} {rows : List Row} {nodes : Tree → ℕ} {m : 
         }
 
     pub foreseen-unsaid : (Sound m → ⊥) → UnsoundSaid before (answered v need opened) after
-    unfolding refused_with counted rows_after outcome_number
+    unfolding refused_with counted rows_after
     foreseen-unsaid n =
         let three = f.unsound n in
         record {
@@ -237,14 +236,13 @@ module _ (q : Query) (m : List ℕ) (lent : ℕ) {p : Plan} where
       }
 
   pub query-unsound : Refuses (refused_by Unsound 0) p → (Sound m → ⊥) → QueryPlanned q m lent p
-  unfolding outcome_number
   query-unsound e h = refuses-plans e (omega arith) (foreseen-unsound _ _ _ m lent _ _ h)
 
-  pub query-refused : {o : Outcome} {detail : ℕ} → Refuses (refused_by o detail) p → Sound m → 0 < outcome_number o → query_refusal (board_in m) q ≡ answer_of (refused_by o detail) → QueryPlanned q m lent p
+  pub query-refused : {o : Reason} {detail : ℕ} → Refuses (refused_by o detail) p → Sound m → 0 < reason_number o → query_refusal (board_in m) q ≡ answer_of (refused_by o detail) → QueryPlanned q m lent p
   query-refused {o} {detail} e s h f = refuses-plans e h (foreseen-refused _ _ _ m lent _ _ s (refused_by o detail) (sym f) h)
 
   pub query-bad : Refuses (refused_by BadArgument 0) p → Sound m → query_refusal (board_in m) q ≡ refused_with 7 → QueryPlanned q m lent p
-  unfolding refused_with outcome_number
+  unfolding refused_with
   query-bad e s f = query-refused e s (omega arith) f
 
 pub found-plans : (h : Head) (found : Found) (opened lent : ℕ) (v : Verdict) (k : ℕ) → answer_of v ≡ rows_answer found.count lent → k ≡ counted (number_of v) found.count

@@ -8,9 +8,8 @@ use Rattle.model.specs.Calls.{accepted, or_else, rows_answer, Query, query_refus
 use Rattle.model.specs.Opening.{query_opens}
 use Rattle.promises.specs.Layout.{dimension_in, board_in}
 use Rattle.promises.specs.Sound.{Stands, Sound}
-use Rattle.promises.specs.Answers.{answer_of, number_of, counted, result_row, refused_by}
-use Rattle.promises.specs.declared.Verdict.{Verdict}
-use Rattle.promises.specs.declared.Outcome.TheVariants.{Unsound}
+use Rattle.promises.specs.Answers.{Verdict, answer_of, number_of, counted, result_row, refused_by}
+use Rattle.promises.specs.declared.Reason.TheVariants.{Unsound}
 use Rattle.promises.specs.declared.CallResult.{CallResult}
 use Rattle.memory.specs.Held.{SoundAt}
 use Rattle.memory.specs.declared.head.Head.{Head}

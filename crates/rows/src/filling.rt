@@ -15,13 +15,10 @@ pub fn fill(rows: &mut [Row], m: &[u8], t: Telling, from: usize)
 {
     let told = t.told;
     let numbers = t.numbers;
-    let end = from + t.count;
     let mut i = 0;
-    let mut k = from;
-    while k < end {
+    for k in 0..t.count {
         let s = told_next(m, told, &numbers, i);
-        rows[k] = row_from(s.row);
+        rows[from + k] = row_from(s.row);
         i = s.next;
-        k += 1;
     }
 }

@@ -4,7 +4,7 @@ ghost use Rattle.rows.specs.Planned as spec;
 
 use crate::telling::{Telling, listing_of, no_telling};
 use memory::Head;
-use promises::{Outcome, Verdict, counted, enough};
+use promises::{Reason, Refusal, Verdict, counted, enough};
 use upkeep::Found;
 
 // `need` rows are needed, also where too few are lent, and `opened` nodes were opened: the answer
@@ -18,11 +18,11 @@ pub struct Plan {
 }
 
 // Nothing is told: a check before 8 turned the call down.
-pub fn refused(outcome: Outcome, detail: usize) -> Plan
-    ensures { spec.Refuses (refused_by outcome detail) result }
+pub fn refused(reason: Reason, detail: usize) -> Plan
+    ensures { spec.Refuses (refused_by reason detail) result }
 {
     Plan {
-        verdict: Verdict { outcome, detail },
+        verdict: Err(Refusal { reason, detail }),
         need: 0,
         opened: 0,
         telling: no_telling(),

@@ -21,15 +21,10 @@ pub struct Row {
 pub fn row_of(x: Move, mark: u16) -> [u16; ROW]
     ensures { result ≡ move_numbers mark (as_move x) }
 {
-    let p = x.costs;
     let mut row = [0u16; ROW];
     row[0] = mark;
     row[1] = x.number;
-    let mut j = 0;
-    while j < COSTS {
-        row[j + 2] = p[j];
-        j += 1;
-    }
+    row[2..].copy_from_slice(&x.costs);
     row
 }
 

@@ -133,15 +133,13 @@ pub fn told_next(m: &[u8], t: View, numbers: &[u64; WORDS], i: usize) -> Step
 {
     let h = t.head;
     let end = h.count + 1;
-    let mut j = i;
-    while j < end {
+    for j in i..end {
         if is_told(m, t, numbers, j) {
             return Step {
                 row: row_at(m, t, j),
                 next: j + 1,
             };
         }
-        j += 1;
     }
     Step {
         row: [0u16; ROW],

@@ -6,9 +6,9 @@ use Rattle.zorder.specs.Refusal.{refusal}
 use Rattle.model.specs.Hours.{Hours, block_count, minute_bad}
 use Rattle.model.specs.Opening.{query_opens}
 use Rattle.model.specs.Calls.{Answer, accepted, refused_with, or_else, Board, hours_query, hours_refusal, query_refusal}
-use Rattle.promises.specs.Answers.{answer_of, outcome_number, refused_by}
+use Rattle.promises.specs.Answers.{answer_of, refused_by}
 use Rattle.promises.specs.Layout.{board_in}
-use Rattle.promises.specs.declared.Outcome.TheVariants.{BadHours}
+use Rattle.promises.specs.declared.Reason.TheVariants.{BadHours}
 use Rattle.memory.specs.Held.{SoundAt}
 use Rattle.memory.specs.declared.head.Head.{Head}
 use Rattle.upkeep.specs.Found.{FindsMoves}
@@ -32,7 +32,6 @@ module _ (b : Board) (t : ℕ) (hours : List Hours) where
 
   module _ (l : minute_bad t ≡ false) {k : ℕ} (f : FirstBad hours k) where
     pub hours-refused : k < 64 → query_refusal b (hours_query t hours) ≡ answer_of (refused_by BadHours k)
-    unfolding outcome_number
     hours-refused h = by_entries l ∙ f.bad h
 
     pub hours-right : 64 ≤ k → query_refusal b (hours_query t hours) ≡ accepted

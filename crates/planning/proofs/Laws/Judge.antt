@@ -1,5 +1,5 @@
 -- The refusal of a change, from the answers of its checks on sound memory.
-use Rattle.std.specs.Prelude.{ℕ, suc, Bool, true, false, cond, not, ◌&&◌, ◌||◌, List, [], ◌∷◌, ◌≡◌, refl, ltb, eqb, length}
+use Rattle.std.specs.Prelude.{ℕ, suc, Bool, true, false, cond, not, ◌&&◌, ◌||◌, List, [], ◌∷◌, ◌≡◌, refl, ltb, eqb, length, Result, ⊤}
 use Rattle.std.proofs.Common.{zero-le, suc-le-suc, sym, ap₂, ◌∙◌, lt-ltb}
 use Rattle.std.proofs.Math.Path.{ap}
 use Rattle.std.proofs.Math.Dec.{leb, leb-suc-suc}
@@ -10,8 +10,8 @@ use Rattle.model.specs.Calls.{block_bad, on_board, change_refusal}
 use Rattle.line.specs.Line.{Placed, moves_in}
 use Rattle.line.specs.Withdraw.{place_of}
 use Rattle.promises.specs.Layout.{board_in, line_from}
-use Rattle.promises.specs.Answers.{outcome_number}
-use Rattle.promises.specs.declared.Outcome.{Outcome}
+use Rattle.promises.specs.Answers.{check_number}
+use Rattle.promises.specs.declared.Reason.{Reason}
 use Rattle.memory.specs.Held.{SoundRows}
 use Rattle.memory.specs.Laws.Lines.{length-line, line_in-line}
 use Rattle.tree.specs.Withdraw.{PlaceOf}
@@ -68,11 +68,11 @@ refusal-of Withdraw b number block costs = refl
 refusal-of Recost b number block costs = refl
 
 -- Each check by its answer, known or not.
-pub judges-by : (h : Head) (x : Change) (on : Bool) {o : Outcome} (large high past new : Bool) → leb h.size x.number ≡ large
+pub judges-by : (h : Head) (x : Change) (on : Bool) {o : Result ⊤ Reason} (large high past new : Bool) → leb h.size x.number ≡ large
     → (comes x.kind && block_bad x.block) ≡ high
     → (comes x.kind && cost_past_bad h.dimension x.costs) ≡ past
     → is_new x.kind ≡ new
-    → outcome_number o ≡ refusal ((large, 4) ∷ (high, 11) ∷ (past, 7) ∷ (cond new on (not on), cond new 5 6) ∷ [])
+    → check_number o ≡ refusal ((large, 4) ∷ (high, 11) ∷ (past, 7) ∷ (cond new on (not on), cond new 5 6) ∷ [])
     → JudgesBy h x on o
 judges-by h x on large high past new e k f g a =
     record {
@@ -89,8 +89,8 @@ judges-by h x on large high past new e k f g a =
           ∷ [])));
     }
 
-pub judged : {c d n p : ℕ} {m : List ℕ} (s : SoundRows c d n m) {x : Change} {o : Outcome} → PlaceOf c n x.number m p
-    → JudgesBy (record { size = c; dimension = d; count = n }) x (ltb p n) o → outcome_number o ≡ change_refusal (board_in m) (call_of x)
+pub judged : {c d n p : ℕ} {m : List ℕ} (s : SoundRows c d n m) {x : Change} {o : Result ⊤ Reason} → PlaceOf c n x.number m p
+    → JudgesBy (record { size = c; dimension = d; count = n }) x (ltb p n) o → check_number o ≡ change_refusal (board_in m) (call_of x)
 unfolding board_in
 judged {c} {d} {n} {p} {m} s {x = x} e j =
     j.is (board_in m) (sym s.size) (sym s.dimension) (on-board c d n m s x.number p e)

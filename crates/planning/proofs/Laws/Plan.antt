@@ -18,12 +18,11 @@ use Rattle.model.proofs.Laws.Bool.{both_ways, and_left, and_right}
 use Rattle.model.proofs.Laws.Basics.{equal-refl}
 use Rattle.promises.specs.Layout.{size_in, dimension_in, number_in, costs_in, board_in}
 use Rattle.promises.specs.Sound.{Stands, Sound}
-use Rattle.promises.specs.Answers.{answer_of, number_of, counted, refused_by, outcome_number}
+use Rattle.promises.specs.Answers.{Verdict, answer_of, number_of, counted, refused_by, accepted_verdict, reason_number}
 use Rattle.promises.specs.Run.{Bytes}
-use Rattle.promises.proofs.Laws.Answers.{counted-zero}
-use Rattle.promises.specs.declared.Verdict.{Verdict}
-use Rattle.promises.specs.declared.Outcome.{Outcome}
-use Rattle.promises.specs.declared.Outcome.TheVariants.{Unsound}
+use Rattle.promises.proofs.Laws.Answers.{reason-above, counted-zero}
+use Rattle.promises.specs.declared.Reason.{Reason}
+use Rattle.promises.specs.declared.Reason.TheVariants.{Unsound}
 use Rattle.memory.specs.Held.{SoundRows}
 use Rattle.memory.specs.Laws.Held.{held-room, held-readable}
 use Rattle.memory.specs.declared.head.Head.{Head}
@@ -61,22 +60,21 @@ counted-parts zero a n lent h few = omega arith
 counted-parts (suc k) a n lent h few = omega arith
 
 -- Where no row is needed 8 does not arise.
-none_needed : (o : Outcome) (need lent : ℕ) → outcome_number o ≡ 0 → need ≡ 0 → answer_of (refused_by o 0) ≡ rows_answer need lent
+none_needed : (need lent : ℕ) → need ≡ 0 → answer_of accepted_verdict ≡ rows_answer need lent
 unfolding rows_answer accepted
-none_needed o need lent z e =
-    (λ i. record { number = z i; detail = 0 })
-    ∙ sym (ap (λ (b : Bool). cond b (record { number = 8; detail = need }) accepted) (le-ltb lent need (omega (arith, e))))
+none_needed need lent e =
+    sym (ap (λ (b : Bool). cond b (record { number = 8; detail = need }) accepted) (le-ltb lent need (omega (arith, e))))
 
-module _ {h : Head} {x : Change} {o : Outcome} {m : List ℕ} {lent : ℕ} {p : ChangePlan} (e : KeepsMoves h x o p) where
+module _ {h : Head} {x : Change} {v : Verdict} {m : List ℕ} {lent : ℕ} {p : ChangePlan} (e : KeepsMoves h x v p) where
   keeps-planned :
-      Foreseen (refused_with (change_refusal (board_in m) (call_of x))) (change_notice (board_in m) (call_of x)) (change_opens (dimension_in m) (call_of x)) m lent (refused_by o 0) p.need p.opened
-      → (outcome_number o ≡ 0 → [] ≡ change_notice (board_in m) (call_of x))
-      → (outcome_number o ≡ 0 → h.size ≡ size_in m)
-      → (outcome_number o ≡ 0 → Made (call_of x) m m)
-      → (outcome_number o ≡ 0 → comes x.kind ≡ true → Giveable h.size x m)
+      Foreseen (refused_with (change_refusal (board_in m) (call_of x))) (change_notice (board_in m) (call_of x)) (change_opens (dimension_in m) (call_of x)) m lent v p.need p.opened
+      → (number_of v ≡ 0 → [] ≡ change_notice (board_in m) (call_of x))
+      → (number_of v ≡ 0 → h.size ≡ size_in m)
+      → (number_of v ≡ 0 → Made (call_of x) m m)
+      → (number_of v ≡ 0 → comes x.kind ≡ true → Giveable h.size x m)
       → Planned x m lent p
   keeps-planned f none size idle block =
-      let number : number_of p.verdict ≡ outcome_number o = ap (λ (v : Verdict). number_of v) e.verdict in
+      let number : number_of p.verdict ≡ number_of v = ap (λ (v : Verdict). number_of v) e.verdict in
       let zero_left = counted-zero (number_of p.verdict) p.upkeep.left e.none in
       let zero-entered = counted-zero (number_of p.verdict) (p.need - p.upkeep.left) (omega (arith, e.need)) in
       record {
@@ -102,18 +100,18 @@ module _ {h : Head} {x : Change} {o : Outcome} {m : List ℕ} {lent : ℕ} {p : 
         nothing = λ _ _ _. e.makes;
       }
 
-pub plan-unsound : {h : Head} {x : Change} {m : List ℕ} {lent : ℕ} {p : ChangePlan} → (Sound m → ⊥) → KeepsMoves h x Unsound p → Planned x m lent p
-unfolding outcome_number
+pub plan-unsound : {h : Head} {x : Change} {m : List ℕ} {lent : ℕ} {p : ChangePlan} → (Sound m → ⊥) → KeepsMoves h x (refused_by Unsound 0) p → Planned x m lent p
 plan-unsound {m = m} {lent} bad e =
     keeps-planned e (foreseen-unsound _ _ _ m lent _ _ bad) (λ z. absurd (omega arith)) (λ z. absurd (omega arith)) (λ z. absurd (omega arith)) (λ z. absurd (omega arith))
 
 -- ---- the plan on sound memory
 
-pub plan-refused : {c d n : ℕ} {m : List ℕ} → SoundRows c d n m → {x : Change} {o : Outcome} → outcome_number o ≡ change_refusal (board_in m) (call_of x) → {lent : ℕ} {p : ChangePlan}
-    → 0 < outcome_number o → KeepsMoves (record { size = c; dimension = d; count = n }) x o p → Planned x m lent p
+pub plan-refused : {c d n : ℕ} {m : List ℕ} → SoundRows c d n m → {x : Change} {r : Reason} → reason_number r ≡ change_refusal (board_in m) (call_of x) → {lent : ℕ} {p : ChangePlan}
+    → KeepsMoves (record { size = c; dimension = d; count = n }) x (refused_by r 0) p → Planned x m lent p
 unfolding refused_with
-plan-refused {m = m} s {o = o} judged {lent} h k =
-    keeps-planned k (foreseen-refused _ _ _ m lent _ _ s.sound (refused_by o 0) (ap refused_with judged) h)
+plan-refused {m = m} s {r = r} judged {lent} k =
+    let h = reason-above r in
+    keeps-planned k (foreseen-refused _ _ _ m lent _ _ s.sound (refused_by r 0) (ap refused_with judged) h)
     (λ z. absurd (omega arith)) (λ z. absurd (omega arith)) (λ z. absurd (omega arith)) (λ z. absurd (omega arith))
 
 module _ {c d n g : ℕ} {m : List ℕ} (s : SoundRows c d n m) (b : Bytes m) (x : Change) (w : Costs row_costs x.costs) (e : PlaceOf c n x.number m g)
@@ -159,12 +157,12 @@ module _ {c d n g : ℕ} {m : List ℕ} (s : SoundRows c d n m) (b : Bytes m) (x
         let on = recost-on (board_in m) x.number x.block x.costs passes in
         (sym (no-notice s b (coming_of x) fit on alike-costs.2 x.block), same-made s b (coming_of x) fit on alike-costs.2 x.block, λ _. refl)
 
-    pub plan-idle : {o : Outcome} → outcome_number o ≡ 0 → {lent : ℕ} {p : ChangePlan} → KeepsMoves head x o p → Planned x m lent p
+    pub plan-idle : {lent : ℕ} {p : ChangePlan} → KeepsMoves head x accepted_verdict p → Planned x m lent p
     unfolding rows_answer
-    plan-idle {o} z {lent} {p} k =
+    plan-idle {lent} {p} k =
         let own = by_kind x.kind refl in
         keeps-planned k
-        (foreseen-judged _ _ _ m lent p.need p.opened s.sound (refused_by o 0) (not-refused ok) (none_needed o p.need lent z k.need) (k.need ∙ ap length own.0) (λ t _. k.opened ∙ own.2 t))
+        (foreseen-judged _ _ _ m lent p.need p.opened s.sound accepted_verdict (not-refused ok) (none_needed p.need lent k.need) (k.need ∙ ap length own.0) (λ t _. k.opened ∙ own.2 t))
         (λ _. own.0) (λ _. s.size) (λ _. own.1) (λ _. giveable)
 
   module _ (different : alike c d n (exchange_of x g) m ≡ false) where

@@ -19,8 +19,7 @@ use Rattle.promises.specs.Layout.{count_place, number_place, block_place, cost_p
 use Rattle.promises.specs.Sound.{Sound}
 use Rattle.promises.specs.Written.{in_area, moves_write, block_writes, change_writes, load_writes}
 use Rattle.promises.specs.Promise.{Leaves, MemoryAfter, LoadPromise, ChangePromise}
-use Rattle.promises.specs.Answers.{number_of}
-use Rattle.promises.specs.declared.Verdict.{Verdict}
+use Rattle.promises.specs.Answers.{Verdict, number_of}
 use Rattle.promises.specs.declared.CallResult.{CallResult}
 
 -- ---- areas

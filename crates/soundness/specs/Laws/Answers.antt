@@ -1,6 +1,6 @@
 -- No answer depends on bytes not in use, and a preview says what the call would: what two calls say, from their promises alone.
 use Prim.Native.Nat.{ℕ, zero, suc}
-use Rattle.std.specs.Prelude.{Bool, cond, List, map, ◌≡◌, refl, eqb, length}
+use Rattle.std.specs.Prelude.{Bool, cond, List, map, ◌≡◌, refl, eqb, length, Ok, Err}
 use Rattle.std.proofs.Common.{sym, ap, ◌∙◌, subst, subst₂}
 use Rattle.std.proofs.Math.Path.{subst₃}
 use Rattle.model.specs.Moves.{InputRow, Row, move_of}
@@ -13,44 +13,47 @@ use Rattle.model.specs.Opening.{query_opens, change_opens}
 use Rattle.promises.specs.Layout.{size_in, dimension_in, board_in}
 use Rattle.promises.specs.Written.{change_writes, load_writes}
 use Rattle.promises.specs.Used.{SameInUse}
-use Rattle.promises.specs.Answers.{answer_of, number_of, counted, rows_after, outcome_number}
+use Rattle.promises.specs.Answers.{Verdict, answer_of, number_of, accepted_verdict, refused_by, counted, rows_after}
 use Rattle.promises.specs.Promise.{MemoryAfter, LoadPromise, Said, QuerySaidOn, QueryPromise, ChangeSaidOn, ChangeSaid, ChangePromise, PreviewPromise}
 use Rattle.promises.specs.Run.{Bytes}
-use Rattle.promises.specs.declared.Verdict.{Verdict}
-use Rattle.promises.specs.declared.Outcome.{Outcome}
-use Rattle.promises.specs.declared.Outcome.TheVariants.{Accepted, ShortMemory, OutOfRange, Unsound, NumberTooLarge, NumberTwice, NumberAbsent, BadArgument, FewRows, BlockTooLarge, BadHours}
+use Rattle.promises.specs.declared.Reason.{Reason}
+use Rattle.promises.specs.declared.Reason.TheVariants.{ShortMemory, OutOfRange, Unsound, NumberTooLarge, NumberTwice, NumberAbsent, BadArgument, FewRows, BlockTooLarge, BadHours}
 use Rattle.promises.specs.declared.CallResult.{CallResult}
 use Rattle.soundness.specs.Laws.Alike.{Alike, same_alike, used-alike, holding-alike, alike-dimension, alike-sound, by-soundness}
 
 -- ---- what is said
 
--- The outcome with this number.
-outcome_of : ℕ → Outcome
-outcome_of k =
-    cond (eqb k 0) Accepted
-    (cond (eqb k 1) ShortMemory
+-- The verdict with this answer.
+reason_of : ℕ → Reason
+reason_of k =
+    cond (eqb k 1) ShortMemory
     (cond (eqb k 2) OutOfRange
     (cond (eqb k 3) Unsound
-    (cond (eqb k 4) NumberTooLarge (cond (eqb k 5) NumberTwice (cond (eqb k 6) NumberAbsent (cond (eqb k 7) BadArgument (cond (eqb k 8) FewRows (cond (eqb k 11) BlockTooLarge BadHours)))))))))
+    (cond (eqb k 4) NumberTooLarge (cond (eqb k 5) NumberTwice (cond (eqb k 6) NumberAbsent (cond (eqb k 7) BadArgument (cond (eqb k 8) FewRows (cond (eqb k 11) BlockTooLarge BadHours))))))))
 
-outcome-of : (o : Outcome) → outcome_of (outcome_number o) ≡ o
-unfolding outcome_of outcome_number
-outcome-of Accepted = refl
-outcome-of ShortMemory = refl
-outcome-of OutOfRange = refl
-outcome-of Unsound = refl
-outcome-of NumberTooLarge = refl
-outcome-of NumberTwice = refl
-outcome-of NumberAbsent = refl
-outcome-of BadArgument = refl
-outcome-of FewRows = refl
-outcome-of BlockTooLarge = refl
-outcome-of BadHours = refl
+verdict_of : calls.Answer → Verdict
+verdict_of a = cond (eqb a.number 0) accepted_verdict (refused_by (reason_of a.number) a.detail)
+
+refused-of : (r : Reason) (detail : ℕ) → verdict_of (answer_of (refused_by r detail)) ≡ refused_by r detail
+unfolding verdict_of reason_of
+refused-of ShortMemory detail = refl
+refused-of OutOfRange detail = refl
+refused-of Unsound detail = refl
+refused-of NumberTooLarge detail = refl
+refused-of NumberTwice detail = refl
+refused-of NumberAbsent detail = refl
+refused-of BadArgument detail = refl
+refused-of FewRows detail = refl
+refused-of BlockTooLarge detail = refl
+refused-of BadHours detail = refl
+
+verdict-of : (v : Verdict) → verdict_of (answer_of v) ≡ v
+unfolding verdict_of
+verdict-of (Ok u) = refl
+verdict-of (Err r) = refused-of r.reason r.detail
 
 verdict-same : (v w : Verdict) → answer_of v ≡ answer_of w → v ≡ w
-verdict-same v w e =
-    let outcome = sym (outcome-of v.outcome) ∙ ap (λ (a : calls.Answer). outcome_of a.number) e ∙ outcome-of w.outcome in
-    (λ i. record { outcome = outcome i; detail = (e i).detail })
+verdict-same v w e = sym (verdict-of v) ∙ ap verdict_of e ∙ verdict-of w
 
 said_same : {a : calls.Answer} {rows : List Row} {nodes : ℕ} {lent lent' lent'' : List Row} {r s : CallResult}
     → Said a rows nodes lent r lent' → Said a rows nodes lent s lent'' → (s ≡ r) × (lent'' ≡ lent')

@@ -5,7 +5,7 @@ use native.Mathlib.Omega.{arith}
 use Rattle.memory.specs.Laws.Held.{held-readable}
 use Rattle.model.specs.Calls.{hours_query}
 use Rattle.model.proofs.Laws.Hours.{minute-most}
-use Rattle.promises.specs.Answers.{block_hours, outcome_number}
+use Rattle.promises.specs.Answers.{block_hours}
 use Rattle.promises.specs.Layout.{board_in}
 use Rattle.rows.proofs.Planned.{query-unsound, query-bad, query-refused}
 use Rattle.hours.specs.Laws.Calls.{minute-refused, hours-refused, hours-right, hours-planned}
@@ -24,7 +24,6 @@ returns-then-minute_bad c =
     (minute-refused (board_in a.m.now) a.minute hours (sym c.minute_bad.ensures ∙ c.if-minute_bad.true))
 
 pub returns-then-bad-lt-BLOCKS : goal.returns-then-bad-lt-BLOCKS
-unfolding outcome_number
 returns-then-bad-lt-BLOCKS c =
     let a = c.args in
     let hours = map block_hours a.hours.now in

@@ -1,89 +1,29 @@
-use Prim.Native.Nat.{ℕ}
-use mathlib.Core.Bool.{true, false}
-use mathlib.Core.List.{[]}
-use mathlib.Core.Path.{refl, sym, ap, ◌∙◌}
-use native.Mathlib.Nat.{add_comm}
-use native.Mathlib.Omega.{arith}
-use borrow.Author.Tests.{eq-eqb, ne_eqb, le-leb, lt-leb}
-use lib.ListN.{drop, get_or}
-use lib.Seq.{drop-drop}
-use Rattle.zorder.specs.Refusal.{all_zero}
-use Rattle.zorder.proofs.Laws.Refusal.{all-zero-step, all-zero-end}
-use Rattle.loading.proofs.Judging.{none_passed, too_large, block-bad, past-bad, number-twice, row-passed, all-passed}
+use Rattle.std.proofs.Common.{arith, rules, subst, ◌≡◌}
+use Rattle.loading.specs.Judge.{RowJudged}
+use Rattle.std.proofs.lemmas.Result.{err_from_is_err_and}
+use Rattle.loading.proofs.Judging.{none_passed, mapped-err, mapped-ok, row-below, row-refused, row-passed, all-passed}
 use Rattle.loading.proofs.judge.judge.Goals as goal
 
-pub empty-seen-requires : goal.empty-seen-requires
-empty-seen-requires c = tt
+pub loop-place-init : goal.loop-place-init
+loop-place-init c = none_passed c.args.c c.args.d c.args.rows.now c.empty-seen.result c.empty-seen.ensures
 
-pub rows-init : goal.rows-init
-rows-init c =
-    let a = c.args in
-    (refl, none_passed a.c a.d a.rows.now c.empty-seen.result c.empty-seen.ensures)
+pub returns-in_err-map_err : goal.returns-in_err-map_err
+returns-in_err-map_err c =
+    let p = err_from_is_err_and c.from_residual.result c.from_residual.ensures.1 in
+    let q = mapped-err c.judge_row.result _ c.map_err.ensures.cases c.in_err-map_err.was in
+    let h = q.2 in
+    let at : c.in_err-map_err.field-0.0 ≡ record { reason = q.0; detail = c.loop-place.place-counter } = search rules in
+    rw (p.1, p.2, at) (row-refused c.loop-place.invariant (omega arith) (subst (RowJudged c.args.c c.args.d _ c.loop-place.seen) q.1 c.judge_row.ensures))
 
-pub number_of-number-requires : goal.number_of-number-requires
-number_of-number-requires c = tt
+pub add-requires : goal.add-requires
+add-requires c =
+    let q = mapped-ok c.judge_row.result _ c.map_err.ensures.cases c.in_ok-map_err.was in
+    omega (arith, c.number_of.ensures.0, c.requires, row-below (subst (RowJudged c.args.c c.args.d _ c.loop-place.seen) q c.judge_row.ensures))
 
-pub overflow_cast-number : goal.overflow_cast-number
-overflow_cast-number c = omega (arith, c.number_of-number.ensures.1.small 0)
+pub loop-place-preserved : goal.loop-place-preserved
+loop-place-preserved c =
+    let q = mapped-ok c.judge_row.result _ c.map_err.ensures.cases c.in_ok-map_err.was in
+    row-passed c.loop-place.invariant (omega arith) (subst (RowJudged c.args.c c.args.d _ c.loop-place.seen) q c.judge_row.ensures) c.number_of.ensures.0 c.add.ensures
 
-pub block_of-block-requires : goal.block_of-block-requires
-block_of-block-requires c = tt
-
-pub loop-j-init : goal.loop-j-init
-loop-j-init c =
-    let own = c.rows in
-    let a = c.args in
-    let row = get_or a.rows.now own.place [] in
-    (own.invariant.0, omega arith, ap (λ (k : ℕ). all_zero (drop k row)) (add_comm a.d 2) ∙ ap all_zero (sym (drop-drop a.d 2 row)))
-
-pub loop-j-preserved : goal.loop-j-preserved
-loop-j-preserved c =
-    let own = c.loop-j in
-    let held = c.number_of-number.ensures.1 in
-    let row = get_or c.args.rows.now c.rows.place [] in
-    let step = all-zero-step row own.j true (omega arith) (eq-eqb _ 0 c.if-row-j-ne0.false) in
-    (own.invariant.0, omega arith, sym step ∙ own.invariant.2)
-
-pub rows-preserved : goal.rows-preserved
-rows-preserved c =
-    let own = c.loop-j in
-    let number = c.number_of-number in
-    let rows = c.rows in
-    let row = get_or c.args.rows.now rows.place [] in
-    let zeros = sym own.invariant.2 ∙ all-zero-end row own.j (omega arith) in
-    let small = lt-leb _ _ c.if-c-number.false in
-    let new = sym c.has.ensures ∙ c.if-has.false in
-    (own.invariant.0, row-passed rows.invariant.1 (omega arith) number.ensures.0 small c.block_of-block.ensures (sym c.block_bad.ensures ∙ c.if-block_bad.false) zeros c.add.new.set new c.add.ensures number.ensures.1)
-
-pub returns-after-rows : goal.returns-after-rows
-returns-after-rows c =
-    let rows = c.rows in
-    all-passed rows.invariant.0 rows.invariant.1 (omega arith)
-
-pub returns-then-c-number : goal.returns-then-c-number
-returns-then-c-number c =
-    too_large c.rows.invariant.1 (omega arith) c.number_of-number.ensures.0 (le-leb _ _ c.if-c-number.true)
-
-pub returns-then-block_bad : goal.returns-then-block_bad
-returns-then-block_bad c =
-    block-bad c.rows.invariant.1 (omega arith) c.number_of-number.ensures.0 (lt-leb _ _ c.if-c-number.false) c.block_of-block.ensures (sym c.block_bad.ensures ∙ c.if-block_bad.true)
-
-pub returns-then-row-j-ne0 : goal.returns-then-row-j-ne0
-returns-then-row-j-ne0 c =
-    let own = c.loop-j in
-    let number = c.number_of-number in
-    let rows = c.rows in
-    let row = get_or c.args.rows.now rows.place [] in
-    let step = all-zero-step row own.j false (omega (arith, number.ensures.1.count)) (ne_eqb _ 0 c.if-row-j-ne0.true) in
-    let small = lt-leb _ _ c.if-c-number.false in
-    past-bad rows.invariant.1 (omega arith) number.ensures.0 small c.block_of-block.ensures (sym c.block_bad.ensures ∙ c.if-block_bad.false) (sym own.invariant.2 ∙ step)
-
-pub returns-then-has : goal.returns-then-has
-returns-then-has c =
-    let own = c.loop-j in
-    let number = c.number_of-number in
-    let rows = c.rows in
-    let row = get_or c.args.rows.now rows.place [] in
-    let zeros = sym own.invariant.2 ∙ all-zero-end row own.j (omega arith) in
-    let small = lt-leb _ _ c.if-c-number.false in
-    number-twice rows.invariant.1 (omega arith) number.ensures.0 small c.block_of-block.ensures (sym c.block_bad.ensures ∙ c.if-block_bad.false) zeros (sym c.has.ensures ∙ c.if-has.true)
+pub returns : goal.returns
+returns c = all-passed c.loop-place.invariant (omega arith)

@@ -7,7 +7,6 @@ use borrow.Author.Tests.{le-leb, lt-leb}
 use Rattle.zorder.specs.Refusal.{refusal, cost_past_bad}
 use Rattle.model.specs.Calls.{block_bad}
 use Rattle.model.proofs.Laws.Bool.{both_ways}
-use Rattle.promises.specs.Answers.{outcome_number}
 use Rattle.planning.specs.Kind.{comes}
 use Rattle.planning.proofs.Laws.Judge.{judges-by}
 use Rattle.planning.proofs.judge.judge.Goals.{else-comes-2-via-else-comes-2, else-comes-2-via-then-comes-2+else-not-zero_past, else-comes-via-else-comes, else-comes-via-then-comes+else-block_bad}
@@ -51,13 +50,13 @@ absent false true e f = both_ways refl f
 absent false false e f = refl
 
 pub returns-then-h-x : goal.returns-then-h-x
-unfolding refusal outcome_number
+unfolding refusal
 returns-then-h-x c =
     let a = c.args in
     judges-by a.h a.x a.on true _ _ _ (le-leb a.h.size a.x.number c.if-h-x.true) refl refl refl refl
 
 pub returns-then-block_bad : goal.returns-then-block_bad
-unfolding refusal outcome_number
+unfolding refusal
 returns-then-block_bad c =
     let a = c.args in
     judges-by a.h a.x a.on false true _ _ (lt-leb a.h.size a.x.number (omega (arith, c.if-h-x.false)))
@@ -65,7 +64,7 @@ returns-then-block_bad c =
     refl refl refl
 
 pub returns-then-not-zero_past : goal.returns-then-not-zero_past
-unfolding refusal outcome_number cost_past_bad
+unfolding refusal cost_past_bad
 returns-then-not-zero_past c =
     let a = c.args in
     judges-by a.h a.x a.on false false true _ (lt-leb a.h.size a.x.number (omega (arith, c.if-h-x.false)))
@@ -74,7 +73,7 @@ returns-then-not-zero_past c =
     refl refl
 
 pub returns-then-is_new-on : goal.returns-then-is_new-on
-unfolding refusal outcome_number
+unfolding refusal
 returns-then-is_new-on c =
     let a = c.args in
     judges-by a.h a.x a.on false false false _ (lt-leb a.h.size a.x.number (omega (arith, c.if-h-x.false)))
@@ -82,7 +81,7 @@ returns-then-is_new-on c =
     (passes c.is_new.result a.on c.if-is_new-on.true)
 
 pub returns-then-on : goal.returns-then-on
-unfolding refusal outcome_number
+unfolding refusal
 returns-then-on c =
     let a = c.args in
     judges-by a.h a.x a.on false false false _ (lt-leb a.h.size a.x.number (omega (arith, c.if-h-x.false)))
@@ -90,7 +89,7 @@ returns-then-on c =
     (twice c.is_new.result a.on c.if-is_new-on.false c.if-on.true)
 
 pub returns-else-on : goal.returns-else-on
-unfolding refusal outcome_number
+unfolding refusal
 returns-else-on c =
     let a = c.args in
     judges-by a.h a.x a.on false false false _ (lt-leb a.h.size a.x.number (omega (arith, c.if-h-x.false)))

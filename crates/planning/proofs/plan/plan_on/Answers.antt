@@ -2,11 +2,10 @@
 use mathlib.Core.Bool.{true, false, cond}
 use mathlib.Core.Path.{◌≡◌, sym, ap, ◌∙◌, subst}
 use native.Mathlib.Omega.{arith}
-use borrow.Author.Tests.{eqb-true, eqb-false}
 use Rattle.zorder.specs.Address.{row_costs}
 use Rattle.zorder.proofs.Laws.Address.{Costs}
 use Rattle.zorder.proofs.Row.{row-costs}
-use Rattle.promises.specs.Answers.{outcome_number}
+use Rattle.promises.specs.Answers.{check_number}
 use Rattle.promises.specs.Run.{Bytes}
 use Rattle.memory.specs.Laws.Held.{held-dimension, held-room, held-few, held-readable, held-ordered}
 use Rattle.upkeep.specs.Change.{ChangeAsked, ComingPlace, Upkept}
@@ -14,7 +13,10 @@ use Rattle.upkeep.specs.declared.exchange.Exchange.{Exchange}
 use Rattle.model.specs.Calls.{change_refusal}
 use Rattle.promises.specs.Layout.{board_in}
 use Rattle.planning.specs.Kind.{call_of}
-use Rattle.planning.specs.Plan.{alike}
+use Rattle.planning.specs.Plan.{alike, KeepsMoves}
+use Rattle.std.specs.Prelude.{Err}
+use Rattle.std.proofs.Common.{rules}
+use Rattle.promises.specs.declared.Refusal.{Refusal}
 use Rattle.planning.proofs.Laws.Judge.{judged}
 use Rattle.planning.proofs.Laws.Notice.{upkeep-counted}
 use Rattle.planning.proofs.Laws.Plan.{ready, plan-refused, plan-idle, plan-full}
@@ -30,11 +32,11 @@ module _ (c : After-exchange_of-k) where
   costs : Costs row_costs c.args.x.costs
   costs = row-costs c.well_formed.1.1.0.1.1.1.1.1.0
 
-  accepted : outcome_number c.judge-outcome.result ≡ 0
-  accepted = eqb-true _ 0 (sym c.accepts.ensures ∙ c.if-not-accepts.false)
+  accepted : check_number c.judge.result ≡ 0
+  accepted = search rules
 
   none : change_refusal (board_in c.args.m.now) (call_of c.args.x) ≡ 0
-  none = sym (judged c.requires c.place_of-goes.ensures c.judge-outcome.ensures) ∙ accepted
+  none = sym (judged c.requires c.place_of-goes.ensures c.judge.ensures) ∙ accepted
 
   -- The exchange of moves is that of the change.
   asked : ChangeAsked c.args.h c.exchange_of-k.result c.args.m.now
@@ -45,14 +47,13 @@ module _ (c : After-exchange_of-k) where
 pub place_of-goes-requires : goal.place_of-goes-requires
 place_of-goes-requires c = let s = c.requires in record { room = held-room _ _ _ _ s; rows = held-few _ _ _ _ s }
 
-pub judge-outcome-requires : goal.judge-outcome-requires
-judge-outcome-requires c = held-dimension _ _ _ _ c.requires
+pub judge-requires : goal.judge-requires
+judge-requires c = held-dimension _ _ _ _ c.requires
 
-pub returns-then-not-accepts : goal.returns-then-not-accepts
-returns-then-not-accepts c =
-    let refused = eqb-false (outcome_number c.judge-outcome.result) 0 (sym c.accepts.ensures ∙ c.if-not-accepts.true) in
-    plan-refused c.requires (judged c.requires c.place_of-goes.ensures c.judge-outcome.ensures)
-    (omega (arith, refused)) c.keeps_moves.ensures
+pub returns-in-Err : goal.returns-in-Err
+returns-in-Err c =
+    plan-refused c.requires (judged c.requires c.place_of-goes.ensures c.in-Err.ensures)
+    (subst (λ (r : Refusal). KeepsMoves c.args.h c.args.x (Err r) c.keeps_moves.result) c.from.ensures c.keeps_moves.ensures)
 
 pub alike-requires : goal.alike-requires
 alike-requires c = held-readable c.requires
@@ -62,8 +63,7 @@ returns-then-alike c =
     let a = c.args in
     let made = (goal.at.returns-then-alike c).After-exchange_of-k in
     plan-idle c.requires (bytes made) a.x (costs made) c.place_of-goes.ensures (none made)
-    (subst (λ (k : Exchange). alike a.h.size a.h.dimension a.h.count k a.m.now ≡ true) c.exchange_of-k.ensures (sym c.alike.ensures ∙ c.if-alike.true))
-    (accepted made) c.keeps_moves-then-alike.ensures
+    (subst (λ (k : Exchange). alike a.h.size a.h.dimension a.h.count k a.m.now ≡ true) c.exchange_of-k.ensures (sym c.alike.ensures ∙ c.if-alike.true)) c.keeps_moves-then-alike.ensures
 
 pub coming_place-place-requires : goal.coming_place-place-requires
 coming_place-place-requires c = let s = c.requires in record { readable = held-readable s; in_order = held-ordered _ _ _ _ s }
