@@ -25,7 +25,7 @@ pub fn node_start(m: &[u8], c: usize, l: u8, p: usize) -> usize
     requires { Room c m.now × (p < c) }
     ensures { NodeStart c l p m.now result }
 {
-    for s in (1..=p).rev() {
+    for s in (1..p + 1).rev() {
         if l <= height_at(m, c, s) {
             return s;
         }

@@ -40,9 +40,7 @@ fn takes_over(m: &[u8], h: Head, p: usize, x: Move) -> bool
         h.dimension,
         number_at(m, h.size, node_end(m, h.size, n, k, p) - 1),
     );
-    let a = x.costs;
-    let b = x.costs;
-    side_of(h.dimension, a, last) < side_of(h.dimension, first, b)
+    side_of(h.dimension, x.costs, last) < side_of(h.dimension, first, x.costs)
 }
 
 // The row of x put at place p.
@@ -64,11 +62,7 @@ fn put_row(m: &mut [u8], h: Head, p: usize, x: Move)
 pub fn with_rows(h: Head, n: usize) -> Head
     ensures { result ≡ enter.with_rows h n }
 {
-    Head {
-        size: h.size,
-        dimension: h.dimension,
-        count: n,
-    }
+    Head { count: n, ..h }
 }
 
 // Enters x among the rows. Its costs stand in the memory already.

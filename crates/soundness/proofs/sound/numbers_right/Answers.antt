@@ -1,11 +1,10 @@
 use Prim.Native.Nat.{ℕ}
-use mathlib.Core.Bool.{Bool, true}
+use mathlib.Core.Bool.{Bool}
 use mathlib.Core.List.{List}
-use mathlib.Core.Path.{◌≡◌, sym, ap, ◌∙◌, subst}
+use mathlib.Core.Path.{◌≡◌, sym, ap, ◌∙◌}
 use native.Mathlib.Omega.{arith}
 use Rattle.model.specs.Calls.{block_bad}
 use Rattle.promises.specs.Layout.{number_in, block_in}
-use Rattle.memory.specs.Tests.{numbers_right}
 use Rattle.memory.specs.Laws.Turns.{numbers-none, numbers_more, numbers-fail, blocks-fail}
 use Rattle.soundness.proofs.sound.numbers_right.Goals as goal
 
@@ -34,10 +33,3 @@ loop-i-preserved c =
     let own = c.loop-i in
     numbers_more a.c a.m.now own.i own.invariant (omega arith)
     (said a.c a.m.now own.i c.number_at-number.ensures c.block_of-block.ensures c.block_bad.ensures ∙ c.if-block_bad.false)
-
-pub returns : goal.returns
-returns c =
-    let a = c.args in
-    let own = c.loop-i in
-    let all : own.i ≡ a.n = omega arith in
-    sym (subst (λ (k : ℕ). numbers_right a.c k a.m.now ≡ true) all own.invariant)

@@ -3,19 +3,14 @@ use mathlib.Core.Path.{sym, subst}
 use native.Mathlib.Omega.{arith}
 use Rattle.memory.specs.declared.head.Head.{Head}
 use Rattle.tree.specs.Split.{CascadeAsked, Cascaded}
-use Rattle.tree.specs.Laws.Entered.{holds-ordered, entered-first, put-asked, cascade-asked, entered-more}
+use Rattle.tree.specs.Laws.Entered.{holds-ordered, entered-first, cascade-asked, entered-more}
 use Rattle.tree.proofs.enter.enter_line.Goals as goal
 
 pub returns-then-n-eq0 : goal.returns-then-n-eq0
 returns-then-n-eq0 c = entered-first c.requires c.if-n-eq0.true c.insert_row.ensures
 
-pub place_for-p-requires : goal.place_for-p-requires
-place_for-p-requires c =
-    let holds = c.requires.tree.holds in
-    record { readable = holds.readable; in_order = holds-ordered holds }
-
-pub put_row-requires : goal.put_row-requires
-put_row-requires c = put-asked c.requires (omega (arith, c.if-n-eq0.false)) c.place_for-p.ensures.1
+pub place_for-p-requires-clause-in_order : goal.place_for-p-requires-clause-in_order
+place_for-p-requires-clause-in_order c = holds-ordered c.requires.tree.holds
 
 pub cascade-requires : goal.cascade-requires
 cascade-requires c =

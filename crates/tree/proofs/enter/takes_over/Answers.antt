@@ -1,5 +1,4 @@
 -- `enter::takes_over` meets its contract. Assumes nothing.
-use Prim.Native.Nat.{◌-◌}
 use native.Mathlib.Omega.{arith}
 use Rattle.dominance.specs.Move.{as_move}
 use Rattle.tree.specs.Laws.Putting.{over_first, over-past, over_none, over-gap}
@@ -14,16 +13,6 @@ returns-then-n-p c = over-past c.requires (as_move c.args.x) (omega arith) (omeg
 pub returns-then-k-eq0 : goal.returns-then-k-eq0
 returns-then-k-eq0 c =
     over_none c.requires (as_move c.args.x) (omega arith) (omega arith) (omega arith)
-
-pub costs_of-first-requires : goal.costs_of-first-requires
-costs_of-first-requires c =
-    let p = c.requires in
-    (p.readable.room, omega (arith, p.readable.numbers c.node_start.result (omega arith)), p.readable.dimension)
-
-pub costs_of-last-requires : goal.costs_of-last-requires
-costs_of-last-requires c =
-    let p = c.requires in
-    (p.readable.room, omega (arith, p.readable.numbers (c.node_end.result - 1) (omega arith)), p.readable.dimension)
 
 pub returns : goal.returns
 returns c =

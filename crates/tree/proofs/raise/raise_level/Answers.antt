@@ -1,13 +1,8 @@
 use mathlib.Core.Path.{sym, ◌∙◌}
 use native.Mathlib.Omega.{arith}
-use Rattle.tree.specs.Laws.Raising.{raising-none, raising-at, raising-low, raising-same, raising-more, raising-all}
+use Rattle.tree.specs.Laws.Raising.{raising-at, raising-low, raising-same, raising-more, raising-all}
 use Rattle.tree.proofs.raise.raise_level.Goals.{else-l-height_at, then-l-height_at, then-starts_group, else-starts_group}
 use Rattle.tree.proofs.raise.raise_level.Goals as goal
-
-pub loop-i-init : goal.loop-i-init
-loop-i-init c =
-    let a = c.args in
-    (omega arith, raising-none a.c a.n a.l a.entries a.m.now)
 
 pub loop-i-preserved : goal.loop-i-preserved
 loop-i-preserved c =
@@ -28,9 +23,6 @@ loop-i-preserved c =
         | else-l-height_at w ↦ raising-at w.j-is w.m-is (raising-low a.c a.n a.l a.entries own.i own.j m own.m (omega arith) own.invariant.1 (omega arith) (omega arith))
       ],
     )
-
-pub shape_of-m : goal.shape_of-m
-shape_of-m c = c.loop-i.invariant.1.frame.length
 
 pub returns : goal.returns
 returns c =

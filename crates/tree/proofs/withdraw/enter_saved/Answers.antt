@@ -1,10 +1,10 @@
 use Prim.Native.Nat.{◌+◌}
-use mathlib.Core.Path.{◌≡◌, sym, subst}
+use mathlib.Core.Path.{sym, subst}
 use native.Mathlib.Omega.{arith}
 use Rattle.dominance.specs.Move.{as_move}
 use Rattle.memory.specs.declared.head.Head.{Head}
 use Rattle.tree.specs.Enter.{EnterAsked, Entered}
-use Rattle.tree.specs.Laws.Again.{Entering, entering-none, entering-low, entering-read, entering-asked, entering-more, entering-all}
+use Rattle.tree.specs.Laws.Again.{entering-none, entering-low, entering-read, entering-asked, entering-more}
 use Rattle.tree.proofs.withdraw.enter_saved.Goals as goal
 
 pub loop-j-init : goal.loop-j-init
@@ -37,10 +37,3 @@ loop-j-preserved c =
     (subst (λ x. Entered a.h.size a.h.dimension (a.h.count + own.j) x own.m after.new.m)
     (sym (entering-read c.requires own.invariant (omega (arith, c.loop-j-test.true)) (record { number = number.result; costs = costs.result }) number.ensures costs.ensures))
     (subst (λ (g : Head). Entered g.size g.dimension g.count (as_move (record { number = number.result; costs = costs.result })) own.m after.new.m) c.with_rows.ensures after.ensures))
-
-pub returns : goal.returns
-returns c =
-    let a = c.args in
-    let own = c.loop-j in
-    let end : own.j ≡ a.k = omega arith in
-    entering-all c.requires own.m (subst (λ j. Entering a.h.size a.h.dimension a.h.count a.k j a.m.now own.m) end own.invariant)

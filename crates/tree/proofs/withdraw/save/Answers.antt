@@ -1,8 +1,7 @@
 use Prim.Native.Nat.{◌+◌}
-use mathlib.Core.Path.{◌≡◌, sym, ap, ◌∙◌, subst₂}
+use mathlib.Core.Path.{sym, ap, ◌∙◌, subst₂}
 use native.Mathlib.Omega.{arith}
 use Rattle.memory.specs.Stores.{set_work}
-use Rattle.tree.specs.Withdraw.{others}
 use Rattle.tree.specs.Laws.Saving.{Saving, saving-none, saving-less, saving-more}
 use Rattle.tree.proofs.withdraw.save.Goals.{else-other-number, then-other-number}
 use Rattle.tree.proofs.withdraw.save.Goals as goal
@@ -25,15 +24,3 @@ loop-i-preserved c =
       | else-other-number w ↦ subst₂ (λ k m. Saving a.c from (own.i + 1) a.number k a.m.now m) (sym w.k-is) (sym w.m-is)
           (saving-less a.c from a.number a.m.now own.i own.k own.m own.invariant (omega arith) (sym read ∙ w.if-other-number.false))
     ]
-
-pub returns : goal.returns
-returns c =
-    let a = c.args in
-    let own = c.loop-i in
-    let end : own.i ≡ a.rows.now.end = omega arith in
-    let s = own.invariant in
-    record {
-      few = omega arith;
-      numbers = s.numbers ∙ ap (λ i. others a.c a.rows.now.start i a.number a.m.now) end;
-      frame = s.frame;
-    }
