@@ -27,8 +27,6 @@ pub fn add(set: &mut [u64; WORDS], n: u16)
     requires { n < 4096 }
     ensures { With set.old n set.new }
 {
-    // As a slice its length is known to proofs.
-    let words: &mut [u64] = set;
     let at = (n / 64) as usize;
-    words[at] = words[at] | (1u64 << (n % 64));
+    set[at] |= 1u64 << (n % 64);
 }

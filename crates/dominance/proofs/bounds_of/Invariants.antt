@@ -1,12 +1,6 @@
--- `bounds_of` meets its contract. The loop's invariant: the places before i are filled. Assumes nothing.
-use Prim.Native.Nat.{◌-◌, ◌≤◌}
-use Rattle.zorder.specs.Address.{row_costs}
-use Rattle.dominance.specs.Lanes.{bound, is_first}
-use Rattle.dominance.specs.Laws.Lanes.{FilledTo}
+-- `bounds_of` meets its contract. Assumes nothing.
+use Rattle.dominance.specs.Lanes.{is_first}
 use Rattle.dominance.proofs.bounds_of.Given as goal
 
-abbrev pub invariant-loop-i : goal.invariant-loop-i
-invariant-loop-i l = (l.i ≤ row_costs) × FilledTo (bound (is_first l.d) l.q) l.i l.bounds
-
-abbrev pub decreases-loop-i : goal.decreases-loop-i
-decreases-loop-i l = row_costs - l.i
+abbrev pub ghost-bounds_by : goal.ghost-bounds_by
+ghost-bounds_by a = is_first a.of

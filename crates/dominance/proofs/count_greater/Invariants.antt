@@ -1,11 +1,8 @@
 -- `count_greater` meets its contract. The loop's invariant: the costs passed are summed up. Assumes nothing.
-use Prim.Native.Nat.{◌-◌, ◌≤◌}
 use Rattle.zorder.specs.Address.{row_costs}
-use Rattle.dominance.specs.Laws.Sums.{SumTo, first_of, first_small}
+use Rattle.dominance.specs.Lanes.{is_first}
+use Rattle.dominance.specs.Laws.Sums.{SumTo}
 use Rattle.dominance.proofs.count_greater.Given as goal
 
 abbrev pub invariant-loop-i : goal.invariant-loop-i
-invariant-loop-i l = (l.i ≤ row_costs) × SumTo (first_of l.d) (first_small l.d) l.q l.p row_costs l.i l.greater
-
-abbrev pub decreases-loop-i : goal.decreases-loop-i
-decreases-loop-i l = row_costs - l.i
+invariant-loop-i l = SumTo (is_first l.d) l.q l.p row_costs l.i l.greater

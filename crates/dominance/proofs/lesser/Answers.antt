@@ -1,0 +1,7 @@
+-- `lesser` meets its contract. Assumes nothing.
+use native.Mathlib.Omega.{arith}
+use Rattle.dominance.specs.Laws.Lanes.{lesser-number}
+use Rattle.dominance.proofs.lesser.Goals as goal
+
+pub returns : goal.returns
+returns c = omega (arith, c.over.ensures, lesser-number c.args.a c.args.b)
