@@ -1,6 +1,6 @@
 -- What the code keeps of a line that it reads byte by byte, and the frame that it finds there.
 use Rattle.zorder.specs.Address.{row_costs}
-use Rattle.std.specs.Prelude.{ℕ, suc, ◌+◌, ◌*◌, ◌%◌, ◌<◌, ◌≤◌, min, Bool, true, false, cond, List, [], ◌∷◌, ◌++◌, ◌≡◌, eqb, ltb, length, get_or, take, drop}
+use Rattle.std.specs.Prelude.{ℕ, suc, ◌+◌, ◌*◌, ◌%◌, ◌<◌, ◌≤◌, min, Bool, true, false, cond, List, [], ◌∷◌, ◌++◌, ◌≡◌, eqb, ltb, length, get_or, take, drop, Option, Some, None}
 use Rattle.promises.specs.Layout.{tab}
 use Rattle.model.specs.Basics.{all, has}
 use Rattle.model.specs.Calls.{enter, withdraw, recost}
@@ -12,9 +12,8 @@ use Rattle.frame_lines.specs.Text.{line_end}
 use Rattle.frame_lines.specs.Lines.{lines_from}
 use Rattle.frame_lines.specs.declared.reading.Line.{Line}
 use Rattle.frame_lines.specs.declared.reading.Read.{Read}
-use Rattle.frame_lines.specs.declared.frame.FrameKind.{FrameKind}
-use Rattle.frame_lines.specs.declared.frame.FrameKind.TheVariants.{Load, Enter, Withdraw, Recost, List as ListAll, Early, Wrong}
 use Rattle.frame_lines.specs.declared.frame.Frame.{Frame}
+use Rattle.frame_lines.specs.declared.frame.Frame.TheVariants.{Load, Enter, Withdraw, Recost, List as ListAll, Early, Wrong}
 
 -- No frame is longer than an enter with all its costs: of a longer line it is enough to know whether it has whole bytes, and
 -- its first byte.
@@ -46,11 +45,15 @@ pub record ReadOn (l : Line) (bytes : List ℕ) (n : ℕ) (l' : Line) : Type 0 w
   pub line : (line : List ℕ) → Judged line l → Judged (line ++ take n bytes) l'
   pub lines : (line more : List ℕ) → lines_from line (bytes ++ more) ≡ lines_from (line ++ take n bytes) (drop n bytes ++ more)
 
--- .. up to a line end, or all.
+-- How many bytes are read up to a line end at a place, or all.
+unfoldable pub taken_of : Option ℕ → List ℕ → ℕ
+taken_of (Some n) bytes = n
+taken_of None bytes = length bytes
+
+-- .. and so many were read.
 pub record LineRead (l : Line) (bytes : List ℕ) (r : Read) : Type 0 where
-  pub read : ReadOn l bytes r.taken r.line
-  pub ended : r.ended ≡ true → (r.taken < length bytes) × (get_or bytes r.taken 0 ≡ line_end)
-  pub whole : r.ended ≡ false → r.taken ≡ length bytes
+  pub read : ReadOn l bytes (taken_of r.end bytes) r.line
+  pub ended : (n : ℕ) → r.end ≡ Some n → (n < length bytes) × (get_or bytes n 0 ≡ line_end)
 
 -- The byte, the number and the cost that digits spell, at places counted in bytes.
 unfoldable pub byte_at : List ℕ → ℕ → ℕ
@@ -65,50 +68,48 @@ cost_at digits d j = cond (ltb j d) (word_spelled digits (3 + 2 * j)) 0
 unfoldable pub costs_at : List ℕ → ℕ → List ℕ
 costs_at digits d = tab (cost_at digits d) row_costs
 
--- The kind of a frame of whole bytes, by its first byte and the number of its digits.
-unfoldable pub sized_kind : ℕ → ℕ → FrameKind → FrameKind
-sized_kind count n k = cond (eqb count n) k Wrong
+-- The frame of a line of whole bytes, by its first byte and the number of its digits.
+unfoldable pub sized_frame : ℕ → ℕ → Frame → Frame
+sized_frame count n f = cond (eqb count n) f Wrong
 
-unfoldable pub kind_on : ℕ → ℕ → ℕ → FrameKind
-kind_on d code count =
-    cond (eqb code 0x20) (sized_kind count (6 + 4 * d) Enter)
-    (cond (eqb code 0x30) (sized_kind count 6 Withdraw)
-    (cond (eqb code 0x40) (sized_kind count (6 + 4 * d) Recost) (sized_kind count 2 ListAll)))
+unfoldable pub frame_on : ℕ → ℕ → Line → Frame
+frame_on d code l =
+    cond (eqb code 0x20) (sized_frame l.count (6 + 4 * d) (Enter (word_spelled l.first 1) (costs_at l.first d)))
+    (cond (eqb code 0x30) (sized_frame l.count 6 (Withdraw (word_spelled l.first 1)))
+    (cond (eqb code 0x40) (sized_frame l.count (6 + 4 * d) (Recost (word_spelled l.first 1) (costs_at l.first d)))
+    (sized_frame l.count 2 ListAll)))
 
-unfoldable pub kind_of : ℕ → ℕ → ℕ → FrameKind
-kind_of d code count =
-    cond (eqb code 0x10) (sized_kind count 4 Load)
-    (cond (has code call_codes) (cond (eqb d 0) Early (kind_on d code count)) Wrong)
+unfoldable pub frame_by : ℕ → ℕ → Line → Frame
+frame_by d code l =
+    cond (eqb code 0x10) (sized_frame l.count 4 (Load (byte_at l.first 1)))
+    (cond (has code call_codes) (cond (eqb d 0) Early (frame_on d code l)) Wrong)
 
-unfoldable pub line_kind : ℕ → Line → FrameKind
-line_kind d l =
-    cond l.odd Wrong (cond l.spelled (kind_of d (byte_at l.first 0) l.count) Wrong)
+unfoldable pub line_frame : ℕ → Line → Frame
+line_frame d l =
+    cond l.odd Wrong (cond l.spelled (frame_by d (byte_at l.first 0) l) Wrong)
 
 -- The code's frame as one of the definitions.
-unfoldable pub framed : FrameKind → ℕ → ℕ → List ℕ → frames.Frame
-framed Load d number costs = frames.load d
-framed Enter d number costs = frames.change (enter number 0 costs)
-framed Withdraw d number costs = frames.change (withdraw number)
-framed Recost d number costs = frames.change (recost number 0 costs)
-framed ListAll d number costs = frames.list
-framed Early d number costs = frames.early
-framed Wrong d number costs = frames.wrong
-
 unfoldable pub as_frame : Frame → frames.Frame
-as_frame f = framed f.kind f.dimension f.number f.costs
+as_frame (Load d) = frames.load d
+as_frame (Enter number costs) = frames.change (enter number 0 costs)
+as_frame (Withdraw number) = frames.change (withdraw number)
+as_frame (Recost number costs) = frames.change (recost number 0 costs)
+as_frame ListAll = frames.list
+as_frame Early = frames.early
+as_frame Wrong = frames.wrong
 
 -- Before an accepted 10 no call is made on the board.
-unfoldable pub calling : FrameKind → Bool
-calling Load = false
-calling Enter = true
-calling Withdraw = true
-calling Recost = true
+unfoldable pub calling : Frame → Bool
+calling (Load d) = false
+calling (Enter number costs) = true
+calling (Withdraw number) = true
+calling (Recost number costs) = true
 calling ListAll = true
 calling Early = false
 calling Wrong = false
 
-unfoldable pub Timely : ℕ → FrameKind → Type 0
-Timely d k = calling k ≡ true → 0 < d
+unfoldable pub Timely : ℕ → Frame → Type 0
+Timely d f = calling f ≡ true → 0 < d
 
 -- The number by which the code knows what is held: 0 before an accepted 10, then the board's number of costs.
 unfoldable pub CostsHeld : State → ℕ → Type 0
@@ -118,4 +119,4 @@ CostsHeld (holds b t) d = (b.dimension ≡ d) × (0 < d)
 -- The frame of a line, whatever is held and whatever the line was.
 pub record Framed (d : ℕ) (l : Line) (r : Frame) : Type 0 where
   pub frame : (s : State) (line : List ℕ) → CostsHeld s d → Judged line l → as_frame r ≡ frame_of s line
-  pub timely : Timely d r.kind
+  pub timely : Timely d r

@@ -9,35 +9,18 @@ const LETTER: u8 = b'A' - 10;
 pub fn is_digit(b: u8) -> bool
     ensures { result ≡ is_digit b }
 {
-    if b < b'0' {
-        return false;
-    }
-    if b <= b'9' {
-        return true;
-    }
-    if b < b'A' {
-        return false;
-    }
-    b <= b'F'
+    matches!(b, b'0'..=b'9' | b'A'..=b'F')
 }
 
 // Gives what a digit counts; 0 for any other byte.
 pub fn value(b: u8) -> u8
     ensures { (result ≡ value_of b) × (result < 16) }
 {
-    if b < b'0' {
-        return 0;
+    match b {
+        b'0'..=b'9' => b - b'0',
+        b'A'..=b'F' => b - LETTER,
+        _ => 0,
     }
-    if b <= b'9' {
-        return b - b'0';
-    }
-    if b < b'A' {
-        return 0;
-    }
-    if b <= b'F' {
-        return b - LETTER;
-    }
-    0
 }
 
 // Gives the digit that counts n.

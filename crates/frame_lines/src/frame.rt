@@ -5,28 +5,21 @@ ghost use Rattle.zorder.specs.Address.{row_costs};
 
 use crate::digits::value;
 use crate::reading::{DIGITS, Line};
+use std::array;
 use zorder::COSTS;
 
+// A frame, with what it carries: the number of costs that a load asks for, the number of a move,
+// its costs as a row holds them.
 #[derive(Clone, Copy)]
-pub enum FrameKind {
-    Load,
-    Enter,
-    Withdraw,
-    Recost,
+pub enum Frame {
+    Load { dimension: usize },
+    Enter { number: u16, costs: [u16; COSTS] },
+    Withdraw { number: u16 },
+    Recost { number: u16, costs: [u16; COSTS] },
     List,
     // A frame of a board before the first accepted load.
     Early,
     Wrong,
-}
-
-// The kind, and what that kind of frame carries: the number of costs that a load asks for, the
-// number of a move, its costs.
-#[derive(Clone, Copy)]
-pub struct Frame {
-    pub kind: FrameKind,
-    pub dimension: usize,
-    pub number: u16,
-    pub costs: [u16; COSTS],
 }
 
 // The byte that two digits spell, at a place counted in bytes.
@@ -58,79 +51,60 @@ fn costs_at(digits: [u8; DIGITS], d: usize) -> [u16; COSTS]
     requires { d ≤ row_costs }
     ensures { result ≡ spec.costs_at digits d }
 {
-    let mut costs = [0u16; COSTS];
-    let mut j = 0;
-    while j < COSTS {
-        costs[j] = cost_at(digits, d, j);
-        j += 1;
-    }
-    costs
+    array::from_fn(|j| cost_at(digits, d, j))
 }
 
-// The kind, if the frame has as many digits as it asks for.
-fn sized(count: usize, n: usize, kind: FrameKind) -> FrameKind
-    ensures { result ≡ spec.sized_kind count n kind }
+// The frame, if the line has as many digits as it asks for.
+fn sized(count: usize, n: usize, frame: Frame) -> Frame
+    ensures { result ≡ spec.sized_frame count n frame }
 {
-    if count == n { kind } else { FrameKind::Wrong }
+    if count == n { frame } else { Frame::Wrong }
 }
 
-// The kind of a frame for a board of d costs, which has two digits of its first byte, four of a
+// The frame of a line for a board of d costs, which has two digits of its first byte, four of a
 // number and four of each cost.
-fn kind_on(d: usize, code: u8, count: usize) -> FrameKind
+fn frame_on(d: usize, code: u8, line: Line) -> Frame
     requires { d ≤ row_costs }
-    ensures { result ≡ spec.kind_on d code count }
-{
-    let all = 6 + 4 * d;
-    match code {
-        0x20 => sized(count, all, FrameKind::Enter),
-        0x30 => sized(count, 6, FrameKind::Withdraw),
-        0x40 => sized(count, all, FrameKind::Recost),
-        _ => sized(count, 2, FrameKind::List),
-    }
-}
-
-// The kind of a frame of whole bytes, by its first byte and how many digits it has; d is 0 before
-// the first accepted load.
-fn kind_of(d: usize, code: u8, count: usize) -> FrameKind
-    requires { d ≤ row_costs }
-    ensures { result ≡ spec.kind_of d code count }
-{
-    match code {
-        0x10 => return sized(count, 4, FrameKind::Load),
-        0x20 | 0x30 | 0x40 | 0x50 => {}
-        _ => return FrameKind::Wrong,
-    }
-    if d == 0 {
-        return FrameKind::Early;
-    }
-    kind_on(d, code, count)
-}
-
-// The kind of a line: half a byte, or a byte that is no digit, is wrong form.
-fn line_kind(d: usize, line: Line) -> FrameKind
-    requires { d ≤ row_costs }
-    ensures { result ≡ spec.line_kind d line }
+    ensures { result ≡ spec.frame_on d code line }
 {
     let digits = line.first;
-    if line.odd {
-        return FrameKind::Wrong;
+    let number = word_at(digits, 1);
+    let costs = costs_at(digits, d);
+    let all = 6 + 4 * d;
+    match code {
+        0x20 => sized(line.count, all, Frame::Enter { number, costs }),
+        0x30 => sized(line.count, 6, Frame::Withdraw { number }),
+        0x40 => sized(line.count, all, Frame::Recost { number, costs }),
+        _ => sized(line.count, 2, Frame::List),
     }
-    if line.spelled {
-        return kind_of(d, byte_at(digits, 0), line.count);
-    }
-    FrameKind::Wrong
 }
 
-// Gives the frame of a line on a board of d costs; d is 0 before the first accepted load.
+// The frame of a line of whole bytes, by its first byte and how many digits it has; d is 0 before
+// the first accepted load.
+fn frame_by(d: usize, code: u8, line: Line) -> Frame
+    requires { d ≤ row_costs }
+    ensures { result ≡ spec.frame_by d code line }
+{
+    let dimension = byte_at(line.first, 1) as usize;
+    match code {
+        0x10 => return sized(line.count, 4, Frame::Load { dimension }),
+        0x20 | 0x30 | 0x40 | 0x50 => {}
+        _ => return Frame::Wrong,
+    }
+    if d == 0 {
+        return Frame::Early;
+    }
+    frame_on(d, code, line)
+}
+
+// Gives the frame of a line on a board of d costs; d is 0 before the first accepted load. Half a
+// byte, or a byte that is no digit, is wrong form.
 pub fn frame_of(d: usize, line: Line) -> Frame
     requires { d ≤ row_costs }
     ensures { spec.Framed d line result }
 {
-    let digits = line.first;
-    Frame {
-        kind: line_kind(d, line),
-        dimension: byte_at(digits, 1) as usize,
-        number: word_at(digits, 1),
-        costs: costs_at(digits, d),
+    if line.odd || !line.spelled {
+        return Frame::Wrong;
     }
+    frame_by(d, byte_at(line.first, 0), line)
 }

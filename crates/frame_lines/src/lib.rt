@@ -7,6 +7,6 @@ mod frame;
 mod reading;
 mod text;
 
-pub use frame::{Frame, FrameKind, frame_of};
+pub use frame::{Frame, frame_of};
 pub use reading::{DIGITS, Line, Read, read_on};
 pub use text::{put_byte, put_head, put_refusal, put_word, two_bytes};

@@ -22,30 +22,29 @@ pub struct Line {
     pub spelled: bool,
 }
 
-// A line with `taken` bytes more, and whether it ends after them.
+// A line with bytes more, and the place of the line end that it ends at; none where none came, and
+// all of them were read.
 #[derive(Clone, Copy)]
 pub struct Read {
     pub line: Line,
-    pub taken: usize,
-    pub ended: bool,
+    pub end: Option<usize>,
 }
 
 // The kept bytes with byte n, if it is among them.
-fn placed(first: [u8; DIGITS], n: usize, b: u8) -> [u8; DIGITS]
+fn placed(mut first: [u8; DIGITS], n: usize, b: u8) -> [u8; DIGITS]
     ensures { spec.ByteKept first n b result }
 {
-    let mut f = first;
     if n < DIGITS {
-        f[n] = b;
+        first[n] = b;
     }
-    f
+    first
 }
 
 // The count with one byte more.
 fn counted(n: usize) -> usize
     ensures { result ≡ min (n + 1) (spec.most_digits + 1) }
 {
-    if n < DIGITS + 1 { n + 1 } else { DIGITS + 1 }
+    n.min(DIGITS) + 1
 }
 
 impl Line {
@@ -88,22 +87,14 @@ pub fn read_on(line: Line, bytes: &[u8]) -> Read
     ensures { spec.LineRead line bytes.now result }
 {
     let mut l = line;
-    let mut i = 0;
-    while i < bytes.len() {
-        let b = bytes[i];
+    for (i, &b) in bytes.iter().enumerate() {
         if b == b'\n' {
             return Read {
                 line: l,
-                taken: i,
-                ended: true,
+                end: Some(i),
             };
         }
         l = l.step(b);
-        i += 1;
     }
-    Read {
-        line: l,
-        taken: i,
-        ended: false,
-    }
+    Read { line: l, end: None }
 }

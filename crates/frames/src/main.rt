@@ -3,20 +3,13 @@
 // `framing::feed`.
 #![tactic(auto)]
 
-ghost use Rattle.std.specs.Prelude.{MatchResult};
+ghost use Rattle.std.specs.Prelude.{MatchResult, MatchOption};
 ghost use Rattle.frames.specs.Left.{HoldsSome};
 ghost use Rattle.framing.specs.Serving.{HoldsState, Lent};
 
 use framing::{BYTES, Point, TEXT, feed, finish, start};
 use std::io;
 use std::io::Read;
-
-// What one read leaves; `more` is false at the end of the input.
-#[derive(Clone, Copy)]
-struct Turn {
-    point: Point,
-    more: bool,
-}
 
 // Feeds all of these bytes, and writes the answers to the lines that they end. An error of writing
 // leaves a state held, as an answer does.
@@ -32,34 +25,36 @@ fn answer_all(
     ensures { MatchResult result (λ q. HoldsState q.dimension m.new) (λ e. HoldsSome m.new) }
 {
     let mut q = p;
-    let mut i = 0;
-    while i < bytes.len() {
-        let fed = feed(q, &bytes[i..], m, out);
-        let n = fed.answered;
-        rt.write_all(&out[..n])?;
-        let next = fed.point;
-        q = next;
-        i += fed.taken;
+    let mut rest = bytes;
+    while !rest.is_empty() {
+        let fed = feed(q, rest, m, out);
+        rt.write_all(&out[..fed.answered])?;
+        q = fed.point;
+        rest = &rest[fed.taken..];
     }
     Ok(q)
 }
 
-// Answers the bytes of one read.
+// Answers the bytes of one read; none at the end of the input.
 fn answer_read(
     rt: &impl Print,
     input: &mut impl Read,
     p: Point,
     m: &mut [u8],
     out: &mut [u8],
-) -> io::Result<Turn>
+) -> io::Result<Option<Point>>
     requires holds_state { HoldsState p.dimension m.old }
     requires lent { Lent m.old out.old }
-    ensures { MatchResult result (λ t. HoldsState t.point.dimension m.new) (λ e. HoldsSome m.new) }
+    ensures { MatchResult result
+        (λ t. MatchOption t (HoldsState p.dimension m.new) (λ q. HoldsState q.dimension m.new))
+        (λ e. HoldsSome m.new) }
 {
     let mut buffer = [0u8; 512];
     let n = input.read(&mut buffer)?;
-    let point = answer_all(rt, p, &buffer[..n], m, out)?;
-    Ok(Turn { point, more: 0 < n })
+    if n == 0 {
+        return Ok(None);
+    }
+    Ok(Some(answer_all(rt, p, &buffer[..n], m, out)?))
 }
 
 // Nothing says that the input ends, so the loop counts up to a number that no run reaches.
@@ -69,12 +64,10 @@ fn main(rt: HostRuntime) -> io::Result<()> {
     let mut out = [0u8; TEXT];
     let mut p = start();
     for _ in 0..u64::MAX {
-        let t = answer_read(&rt, &mut input, p, &mut m, &mut out)?;
-        let next = t.point;
-        p = next;
-        if !t.more {
+        let Some(next) = answer_read(&rt, &mut input, p, &mut m, &mut out)? else {
             break;
-        }
+        };
+        p = next;
     }
     let n = finish(p, &mut m, &mut out);
     rt.write_all(&out[..n])

@@ -38,20 +38,18 @@ pub fn feed(p: Point, bytes: &[u8], m: &mut [u8], out: &mut [u8]) -> Fed
     ensures { Feeds p bytes.now m.old
         result m.new out.new }
 {
-    let begun = p.line;
-    let read = read_on(begun, bytes);
-    let n = read.taken;
+    let read = read_on(p.line, bytes);
     let line = read.line;
-    if !read.ended {
+    let Some(n) = read.end else {
         return Fed {
             point: Point {
                 line,
                 dimension: p.dimension,
             },
-            taken: n,
+            taken: bytes.len(),
             answered: 0,
         };
-    }
+    };
     let r = answer(m, p.dimension, line, out);
     Fed {
         point: Point {

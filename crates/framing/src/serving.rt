@@ -7,11 +7,12 @@ ghost use Rattle.framing.specs.Serving.{Served, ChangeServed};
 use crate::said::{put_change, put_list, put_loaded};
 use crate::{ROWS, SIZE};
 use board::carry_out;
-use frame_lines::{Frame, FrameKind, Line, frame_of, put_refusal};
+use frame_lines::{Frame, Line, frame_of, put_refusal};
 use listing::plan_list;
 use loading::{INPUT, load};
-use planning::{Change, plan_change};
+use planning::{Change, Kind, plan_change};
 use promises::number_of;
+use zorder::COSTS;
 
 // The answer has `answered` bytes, and the board `dimension` costs from now on: 0 before the first
 // accepted load.
@@ -65,13 +66,12 @@ fn listed(m: &[u8], d: usize, out: &mut [u8]) -> usize
 }
 
 // What a frame of a change asks, in block 0.
-fn asked(kind: planning::Kind, f: Frame) -> Change
-    ensures { result ≡ asked_by kind f }
+fn asked(kind: Kind, number: u16, costs: [u16; COSTS]) -> Change
+    ensures { result ≡ asked_by kind number costs }
 {
-    let costs = f.costs;
     Change {
         kind,
-        number: f.number,
+        number,
         block: 0,
         costs,
     }
@@ -83,16 +83,14 @@ pub fn answer(m: &mut [u8], d: usize, line: Line, out: &mut [u8]) -> Response
     requires lent { Lent m.old out.old }
     ensures { Answers d line m.old result m.new out.new }
 {
-    let f = frame_of(d, line);
-    let kind = f.kind;
-    let answered = match kind {
-        FrameKind::Load => return loaded(m, d, f.dimension, out),
-        FrameKind::List => listed(m, d, out),
-        FrameKind::Early => put_refusal(out, 3, 0),
-        FrameKind::Wrong => put_refusal(out, 9, 0),
-        FrameKind::Enter => change(m, d, asked(planning::Kind::Enter, f), out),
-        FrameKind::Withdraw => change(m, d, asked(planning::Kind::Withdraw, f), out),
-        FrameKind::Recost => change(m, d, asked(planning::Kind::Recost, f), out),
+    let answered = match frame_of(d, line) {
+        Frame::Load { dimension } => return loaded(m, d, dimension, out),
+        Frame::List => listed(m, d, out),
+        Frame::Early => put_refusal(out, 3, 0),
+        Frame::Wrong => put_refusal(out, 9, 0),
+        Frame::Enter { number, costs } => change(m, d, asked(Kind::Enter, number, costs), out),
+        Frame::Withdraw { number } => change(m, d, asked(Kind::Withdraw, number, [0; COSTS]), out),
+        Frame::Recost { number, costs } => change(m, d, asked(Kind::Recost, number, costs), out),
     };
     Response {
         answered,

@@ -18,10 +18,8 @@ fn put_row(out: &mut [u8], at: usize, d: usize, row: [u16; ROW]) -> usize
         out.old at out.new result }
 {
     let mut next = put_byte(out, at, row[0]);
-    let mut j = 0;
-    while j <= d {
+    for j in 0..d + 1 {
         next = put_word(out, next, row[j + 1]);
-        j += 1;
     }
     next
 }
@@ -32,17 +30,12 @@ pub fn put_told(out: &mut [u8], at: usize, d: usize, m: &[u8], t: Telling) -> us
     ensures { TextPut (rows_text d (telling_rows t m.now))
         out.old at out.new result }
 {
-    let told = t.told;
-    let count = t.count;
     let mut next = at;
     let mut i = 0;
-    let mut k = 0;
-    while k < count {
-        let s = told_next(m, told, &t.numbers, i);
-        let row = s.row;
-        next = put_row(out, next, d, row);
+    for k in 0..t.count {
+        let s = told_next(m, t.told, &t.numbers, i);
+        next = put_row(out, next, d, s.row);
         i = s.next;
-        k += 1;
     }
     next
 }

@@ -1,13 +1,13 @@
 -- An input taken in parts prints what the whole prints.
-use Rattle.std.specs.Prelude.{ℕ, ◌+◌, Bool, true, false, ◌≡◌, get_or, drop}
+use Rattle.std.specs.Prelude.{ℕ, ◌+◌, Bool, true, false, ◌≡◌, length, get_or, drop, Option, Some, None}
 use Rattle.std.proofs.Math.Bool.{cond}
 use mathlib.Core.List.{List, [], ◌∷◌, ◌++◌, append-nil}
-use Rattle.std.proofs.Math.Path.{sym, ap}
+use Rattle.std.proofs.Math.Path.{sym, ap, subst}
 use Rattle.std.proofs.Common.{◌∙◌, arith}
 use Rattle.std.proofs.Math.ListN.{take}
 use Rattle.frame_lines.specs.State.{State}
 use Rattle.frame_lines.specs.Lines.{lines_from}
-use Rattle.frame_lines.specs.Reading.{Judged, LastLine, LineRead}
+use Rattle.frame_lines.specs.Reading.{Judged, LastLine, ReadOn, taken_of, LineRead}
 use Rattle.frame_lines.specs.Laws.Lines.{lines_end, drop_more}
 use Rattle.frame_lines.specs.declared.reading.Line.{Line}
 use Rattle.frame_lines.specs.declared.reading.Read.{Read}
@@ -21,49 +21,54 @@ use Rattle.framing.specs.declared.feeding.Point.{Point}
 
 module _ (p : Point) (bytes m : List ℕ) (x : Read) (reads : LineRead p.line bytes x) where
   -- No line ended.
-  pub feeds-none : (out : List ℕ) → x.ended ≡ false → HoldsState p.dimension m
-      → Feeds p bytes m (record { point = record { line = x.line; dimension = p.dimension }; taken = x.taken; answered = 0 }) m out
-  unfolding printed
+  pub feeds-none : (out : List ℕ) → x.end ≡ None → HoldsState p.dimension m
+      → Feeds p bytes m (record { point = record { line = x.line; dimension = p.dimension }; taken = length bytes; answered = 0 }) m out
+  unfolding printed taken_of
   feeds-none out e ready =
+      let read : ReadOn p.line bytes (length bytes) x.line = subst (λ (o : Option ℕ). ReadOn p.line bytes (taken_of o bytes) x.line) e reads.read in
       record {
         onward = λ s line at.
             record {
               state = s;
-              begun = line ++ take x.taken bytes;
-              at = record { held = at.held; read = reads.read.line line at.read };
-              prints = λ more. ap (answers_to s) (reads.read.lines line more);
+              begun = line ++ take (length bytes) bytes;
+              at = record { held = at.held; read = read.line line at.read };
+              prints = λ more. ap (answers_to s) (read.lines line more);
             };
-        taken = reads.read.within;
-        some = λ h. omega (arith, reads.whole e);
+        taken = read.within;
+        some = λ h. h;
         within = omega arith;
         ready = ready;
       }
 
   -- A line ended, and was answered.
-  module _ (l : Line) (a : Response) (m' out' : List ℕ) (e : x.ended ≡ true) (fresh : Judged [] l) (answers : Answers p.dimension x.line m a m' out') where
-    ended-lines : (line more : List ℕ) → lines_from line (bytes ++ more) ≡ (line ++ take x.taken bytes) ∷ lines_from [] (drop (x.taken + 1) bytes ++ more)
-    ended-lines line more =
-        reads.read.lines line more
-        ∙ ap (λ (y : List ℕ). lines_from (line ++ take x.taken bytes) (y ++ more)) (drop_more bytes x.taken (reads.ended e).0)
-        ∙ lines_end (line ++ take x.taken bytes) (get_or bytes x.taken 0) (drop (x.taken + 1) bytes ++ more) (reads.ended e).1
+  module _ (n : ℕ) (l : Line) (a : Response) (m' out' : List ℕ) (e : x.end ≡ Some n) (fresh : Judged [] l) (answers : Answers p.dimension x.line m a m' out') where
+    read-here : ReadOn p.line bytes n x.line
+    unfolding taken_of
+    read-here = subst (λ (o : Option ℕ). ReadOn p.line bytes (taken_of o bytes) x.line) e reads.read
 
-    pub feeds-line : Feeds p bytes m (record { point = record { line = l; dimension = a.dimension }; taken = x.taken + 1; answered = a.answered }) m' out'
+    ended-lines : (line more : List ℕ) → lines_from line (bytes ++ more) ≡ (line ++ take n bytes) ∷ lines_from [] (drop (n + 1) bytes ++ more)
+    ended-lines line more =
+        read-here.lines line more
+        ∙ ap (λ (y : List ℕ). lines_from (line ++ take n bytes) (y ++ more)) (drop_more bytes n (reads.ended n e).0)
+        ∙ lines_end (line ++ take n bytes) (get_or bytes n 0) (drop (n + 1) bytes ++ more) (reads.ended n e).1
+
+    pub feeds-line : Feeds p bytes m (record { point = record { line = l; dimension = a.dimension }; taken = n + 1; answered = a.answered }) m' out'
     unfolding printed answers_to
     feeds-line =
         record {
           onward = λ s line at.
-              let whole = line ++ take x.taken bytes in
-              let judged = reads.read.line line at.read in
+              let whole = line ++ take n bytes in
+              let judged = read-here.line line at.read in
               record {
                 state = after s whole;
                 begun = [];
                 at = record { held = answers.left s whole at.held judged; read = fresh };
                 prints = λ more.
                     ap (answers_to s) (ended-lines line more)
-                    ∙ ap (λ (y : List ℕ). y ++ answers_to (after s whole) (lines_from [] (drop (x.taken + 1) bytes ++ more)))
+                    ∙ ap (λ (y : List ℕ). y ++ answers_to (after s whole) (lines_from [] (drop (n + 1) bytes ++ more)))
                     (sym (answers.text s whole at.held judged));
               };
-          taken = omega (arith, (reads.ended e).0);
+          taken = omega (arith, (reads.ended n e).0);
           some = λ h. omega arith;
           within = answers.within;
           ready = answers.ready;

@@ -6,26 +6,32 @@ use Rattle.model.specs.Basics.{within}
 use Rattle.frame_lines.specs.Digits.{is_digit}
 use Rattle.frame_lines.proofs.digits.is_digit.Goals as goal
 
-pub returns-then-b-lt48 : goal.returns-then-b-lt48
+pub returns-in-48-to-57 : goal.returns-in-48-to-57
 unfolding is_digit within
-returns-then-b-lt48 c =
+returns-in-48-to-57 c =
     let b : ℕ = c.args.b in
-    simp (lt-leb 48 b c.if-b-lt48.true, lt-leb 65 b (omega arith))
+    simp (le-leb 48 b (omega arith), le-leb b 57 (omega arith))
 
-pub returns-then-b-le57 : goal.returns-then-b-le57
+pub returns-in-48-to-57-2 : goal.returns-in-48-to-57-2
 unfolding is_digit within
-returns-then-b-le57 c =
+returns-in-48-to-57-2 c =
     let b : ℕ = c.args.b in
-    simp (le-leb 48 b c.if-b-lt48.false, le-leb b 57 c.if-b-le57.true)
+    simp (le-leb 48 b (omega arith), lt-leb b 57 (omega arith), le-leb 65 b (omega arith), le-leb b 70 (omega arith))
 
-pub returns-then-b-lt65 : goal.returns-then-b-lt65
+pub returns-in_default : goal.returns-in_default
 unfolding is_digit within
-returns-then-b-lt65 c =
+returns-in_default c =
     let b : ℕ = c.args.b in
-    simp (le-leb 48 b c.if-b-lt48.false, lt-leb b 57 c.if-b-le57.false, lt-leb 65 b c.if-b-lt65.true)
+    simp (lt-leb 48 b (omega arith), lt-leb 65 b (omega arith))
 
-pub returns : goal.returns
+pub returns-in_default-2 : goal.returns-in_default-2
 unfolding is_digit within
-returns c =
+returns-in_default-2 c =
     let b : ℕ = c.args.b in
-    simp (le-leb 48 b c.if-b-lt48.false, lt-leb b 57 c.if-b-le57.false, le-leb 65 b c.if-b-lt65.false)
+    simp (le-leb 48 b (omega arith), lt-leb b 57 (omega arith), lt-leb 65 b (omega arith))
+
+pub returns-in_default-3 : goal.returns-in_default-3
+unfolding is_digit within
+returns-in_default-3 c =
+    let b : ℕ = c.args.b in
+    simp (le-leb 48 b (omega arith), lt-leb b 57 (omega arith), le-leb 65 b (omega arith), lt-leb b 70 (omega arith))

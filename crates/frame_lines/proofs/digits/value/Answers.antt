@@ -6,36 +6,32 @@ use Rattle.model.specs.Basics.{within}
 use Rattle.frame_lines.specs.Digits.{value_of}
 use Rattle.frame_lines.proofs.digits.value.Goals as goal
 
-pub returns-then-b-lt48 : goal.returns-then-b-lt48
+pub returns-in-48-to-57 : goal.returns-in-48-to-57
 unfolding value_of within
-returns-then-b-lt48 c =
+returns-in-48-to-57 c =
     let b : ℕ = c.args.b in
-    (simp (lt-leb 48 b c.if-b-lt48.true, lt-leb 65 b (omega arith)), omega arith)
+    (simp (le-leb 48 b (omega arith), le-leb b 57 (omega arith)), omega arith)
 
-pub returns-then-b-le57 : goal.returns-then-b-le57
+pub returns-in-65-to-70 : goal.returns-in-65-to-70
 unfolding value_of within
-returns-then-b-le57 c =
+returns-in-65-to-70 c =
     let b : ℕ = c.args.b in
-    (simp (le-leb 48 b c.if-b-lt48.false, le-leb b 57 c.if-b-le57.true), omega arith)
+    (simp (le-leb 48 b (omega arith), lt-leb b 57 (omega arith), le-leb 65 b (omega arith), le-leb b 70 (omega arith)), omega arith)
 
-pub returns-then-b-lt65 : goal.returns-then-b-lt65
+pub returns-in_default : goal.returns-in_default
 unfolding value_of within
-returns-then-b-lt65 c =
+returns-in_default c =
     let b : ℕ = c.args.b in
-    (simp (le-leb 48 b (omega arith), lt-leb b 57 c.if-b-le57.false, lt-leb 65 b c.if-b-lt65.true), omega arith)
+    (simp (lt-leb 48 b (omega arith), lt-leb 65 b (omega arith)), omega arith)
 
-pub returns-then-b-le70 : goal.returns-then-b-le70
+pub returns-in_default-2 : goal.returns-in_default-2
 unfolding value_of within
-returns-then-b-le70 c =
-    let b : ℕ = c.args.b in (
-      simp (le-leb 48 b (omega arith), lt-leb b 57 (omega arith), le-leb 65 b (omega arith), le-leb b 70 c.if-b-le70.true),
-      omega arith,
-    )
+returns-in_default-2 c =
+    let b : ℕ = c.args.b in
+    (simp (le-leb 48 b (omega arith), lt-leb b 57 (omega arith), lt-leb 65 b (omega arith)), omega arith)
 
-pub returns : goal.returns
+pub returns-in_default-3 : goal.returns-in_default-3
 unfolding value_of within
-returns c =
-    let b : ℕ = c.args.b in (
-      simp (le-leb 48 b (omega arith), lt-leb b 57 (omega arith), le-leb 65 b (omega arith), lt-leb b 70 c.if-b-le70.false),
-      omega arith,
-    )
+returns-in_default-3 c =
+    let b : ℕ = c.args.b in
+    (simp (le-leb 48 b (omega arith), lt-leb b 57 (omega arith), le-leb 65 b (omega arith), lt-leb b 70 (omega arith)), omega arith)

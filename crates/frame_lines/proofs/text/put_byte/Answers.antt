@@ -1,12 +1,8 @@
 -- `text::put_byte` meets its contract. Assumes nothing.
 use native.Mathlib.Omega.{arith}
-use lib.ListN.{length-set}
 use Rattle.frame_lines.specs.Laws.Put.{put_two, put_as}
 use Rattle.frame_lines.specs.Laws.Texts.{byte_text-digits}
 use Rattle.frame_lines.proofs.text.put_byte.Goals as goal
-
-pub bounds-out-at-2 : goal.bounds-out-at-2
-bounds-out-at-2 c = simp length-set (omega arith)
 
 pub returns : goal.returns
 returns c =

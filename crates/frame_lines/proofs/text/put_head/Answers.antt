@@ -19,6 +19,3 @@ returns c =
     put_as
     (ap (λ (l : List ℕ). byte_text a.number ++ l) (ap word_text c.two_bytes.ensures ∙ word_text-low a.n))
     (put_both c.put_byte-next.ensures c.put_word.ensures)
-
-pub shape_of-out : goal.shape_of-out
-shape_of-out c = c.put_word.ensures.kept ∙ c.put_byte-next.ensures.kept

@@ -11,11 +11,6 @@ bounds-out-end c =
     let a = c.args in
     omega (arith, head-length a.number a.detail)
 
-pub overflow_add-result : goal.overflow_add-result
-overflow_add-result c =
-    let a = c.args in
-    omega (arith, head-length a.number a.detail)
-
 pub returns : goal.returns
 unfolding head_text said_text answer_text
 returns c = put_both c.put_head-end.ensures (put_one _ _ _ (bounds-out-end c))

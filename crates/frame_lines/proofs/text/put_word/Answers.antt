@@ -1,6 +1,5 @@
 -- `text::put_word` meets its contract. Assumes nothing.
 use Prim.Native.Nat.{◌/◌}
-use mathlib.Core.Path.{◌∙◌}
 use native.Mathlib.Omega.{arith}
 use Rattle.frame_lines.specs.Laws.Put.{put_both}
 use Rattle.frame_lines.specs.Laws.Texts.{byte_text-length}
@@ -15,6 +14,3 @@ pub returns : goal.returns
 unfolding word_text
 returns c =
     put_both c.put_byte-next.ensures c.put_byte.ensures
-
-pub shape_of-out : goal.shape_of-out
-shape_of-out c = c.put_byte.ensures.kept ∙ c.put_byte-next.ensures.kept

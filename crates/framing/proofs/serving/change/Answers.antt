@@ -8,6 +8,3 @@ put_change-answered-requires c = change-room c.plan_change-p.ensures c.requires
 pub returns : goal.returns
 returns c =
     served-change c.plan_change-p.ensures c.carry_out.ensures _ _ _ _ c.requires.loaded c.put_change-answered.ensures
-
-pub carry_out-requires : goal.carry_out-requires
-carry_out-requires c = c.plan_change-p.ensures.able

@@ -1,24 +1,17 @@
 use native.Mathlib.Omega.{arith}
 use lib.ListN.{get_or, take, drop}
-use Prim.Native.Nat.{ℕ, ◌+◌, ◌-◌, ◌≤◌, ◌<◌}
+use Prim.Native.Nat.{ℕ, ◌+◌}
 use mathlib.Core.Path.{◌≡◌, ◌∙◌, ap}
 use mathlib.Core.List.{◌++◌, flat_map}
 use Rattle.frame_lines.specs.Laws.Put.{put-none, put_both, put_as}
 use Rattle.frame_lines.specs.Laws.Texts.{byte_text-length}
 use Rattle.framing.specs.Laws.Rows.{numbers_more, numbers-length, numbers-all}
-use Rattle.frame_lines.specs.Reading.{most_digits}
 use Rattle.frame_lines.specs.Text.{byte_text, word_text}
 use Rattle.framing.proofs.told.put_row.Goals as goal
 
-room-byte : (at long : ℕ) → at + most_digits ≤ long → at + 2 ≤ long
-room-byte at long room = omega arith
-
-less : (j d : ℕ) → j ≤ d → d + 1 - (j + 1) < d + 1 - j
-less j d more = omega arith
-
 pub loop-j-init : goal.loop-j-init
 unfolding flat_map
-loop-j-init c = (omega arith, put-none _ _)
+loop-j-init c = put-none _ _
 
 pub put_word-next-requires : goal.put_word-next-requires
 put_word-next-requires c =
@@ -34,7 +27,7 @@ pub loop-j-preserved : goal.loop-j-preserved
 loop-j-preserved c =
     let a = c.args in
     let own = c.loop-j in
-    (omega arith, put_as (numbers_more a.row (omega arith) own.j (omega arith)) (put_both own.invariant.1 c.put_word-next.ensures))
+    put_as (numbers_more a.row (omega arith) own.j (omega arith)) (put_both own.invariant c.put_word-next.ensures)
 
 pub returns : goal.returns
 returns c =
@@ -43,13 +36,4 @@ returns c =
     let all : own.j ≡ a.d + 1 = omega arith in
     put_as
     (ap (λ (n : ℕ). byte_text (get_or a.row 0 0) ++ flat_map word_text (take n (drop 1 a.row))) all ∙ numbers-all a.row (omega arith) a.d)
-    (put_both c.put_byte-next.ensures own.invariant.1)
-
-pub put_byte-next-requires : goal.put_byte-next-requires
-put_byte-next-requires c = room-byte _ _ c.requires.1
-
-pub loop-j-smaller : goal.loop-j-smaller
-loop-j-smaller c = less _ _ c.loop-j-test.true
-
-pub shape_of-out : goal.shape_of-out
-shape_of-out c = c.loop-j.invariant.1.kept ∙ c.put_byte-next.ensures.kept
+    (put_both c.put_byte-next.ensures own.invariant)

@@ -1,6 +1,5 @@
 -- `told::put_row` meets its contract. Assumes nothing.
 use lib.ListN.{take, drop}
-use Prim.Native.Nat.{◌+◌, ◌-◌, ◌≤◌}
 use mathlib.Core.List.{flat_map}
 use Rattle.frame_lines.specs.Text.{word_text}
 use Rattle.frame_lines.specs.Put.{TextPut}
@@ -8,7 +7,4 @@ use Rattle.framing.proofs.told.put_row.Given as goal
 
 abbrev pub invariant-loop-j : goal.invariant-loop-j
 invariant-loop-j l =
-    (l.j ≤ l.d + 1) × TextPut (flat_map word_text (take l.j (drop 1 l.row))) l.initial.out l.initial.next l.out l.next
-
-abbrev pub decreases-loop-j : goal.decreases-loop-j
-decreases-loop-j l = l.d + 1 - l.j
+    TextPut (flat_map word_text (take l.j (drop 1 l.row))) l.initial.out l.initial.next l.out l.next

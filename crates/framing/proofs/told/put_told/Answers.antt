@@ -1,4 +1,3 @@
-use Prim.Native.Nat.{ℕ, ◌+◌, ◌-◌, ◌<◌}
 use mathlib.Core.List.{flat_map}
 use mathlib.Core.Path.{refl}
 use native.Mathlib.Omega.{arith}
@@ -9,41 +8,24 @@ use Rattle.framing.specs.Laws.Rows.{row_text-most}
 use Rattle.framing.specs.Laws.Told.{position-more, told_more, told-end}
 use Rattle.framing.proofs.told.put_told.Goals as goal
 
-some : (k count : ℕ) → k < count → 0 < count
-some k count more = omega arith
-
-less : (k count : ℕ) → k < count → count - (k + 1) < count - k
-less k count more = omega arith
-
 pub loop-k-init : goal.loop-k-init
 unfolding flat_map position
-loop-k-init c = (omega arith, omega arith, refl, put-none _ _)
-
-pub told_next-s-requires : goal.told_next-s-requires
-told_next-s-requires c =
-    c.requires.asked (some _ _ c.loop-k-test.true)
+loop-k-init c = (omega arith, refl, put-none _ _)
 
 pub loop-k-preserved : goal.loop-k-preserved
 loop-k-preserved c =
     let a = c.args in
     let own = c.loop-k in
     let told = c.told_next-s in (
-      omega arith,
       omega (arith, row_text-most a.d (result_row told.result.row)),
-      position-more a.t a.m.now own.k own.invariant.2 told.ensures.1,
+      position-more a.t a.m.now own.k own.invariant.1 told.ensures.1,
       put_as
-          (told_more a.t a.m.now c.requires own.k (omega arith) own.invariant.2 told.ensures.0)
-          (put_both own.invariant.3 c.put_row-next.ensures),
+          (told_more a.t a.m.now c.requires own.k (omega arith) own.invariant.1 told.ensures.0)
+          (put_both own.invariant.2 c.put_row-next.ensures),
     )
 
 pub returns : goal.returns
 returns c =
     let a = c.args in
     let own = c.loop-k in
-    put_as (told-end a.t a.m.now c.requires {k = own.k} (omega arith)) own.invariant.3
-
-pub loop-k-smaller : goal.loop-k-smaller
-loop-k-smaller c = less _ _ c.loop-k-test.true
-
-pub shape_of-out : goal.shape_of-out
-shape_of-out c = c.loop-k.invariant.3.kept
+    put_as (told-end a.t a.m.now c.requires {k = own.k} (omega arith)) own.invariant.2

@@ -1,5 +1,5 @@
 -- `told::put_told` meets its contract. Assumes nothing.
-use Prim.Native.Nat.{◌+◌, ◌-◌, ◌*◌, ◌≤◌}
+use Prim.Native.Nat.{◌+◌, ◌*◌, ◌≤◌}
 use mathlib.Core.List.{flat_map}
 use mathlib.Core.Path.{◌≡◌}
 use lib.ListN.{take}
@@ -12,10 +12,6 @@ use Rattle.framing.proofs.told.put_told.Given as goal
 
 abbrev pub invariant-loop-k : goal.invariant-loop-k
 invariant-loop-k l =
-    (l.k ≤ l.count)
-    × (l.next ≤ l.initial.next + most_digits * l.k)
+    (l.next ≤ l.initial.next + most_digits * l.k)
     × (l.i ≡ position l.t.told l.t.numbers l.m l.k)
     × TextPut (flat_map (row_text l.d) (take l.k (telling_rows l.t l.m))) l.initial.out l.initial.next l.out l.next
-
-abbrev pub decreases-loop-k : goal.decreases-loop-k
-decreases-loop-k l = l.count - l.k

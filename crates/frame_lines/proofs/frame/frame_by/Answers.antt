@@ -1,4 +1,4 @@
--- `frame::kind_of` meets its contract. Assumes nothing.
+-- `frame::frame_by` meets its contract. Assumes nothing.
 use borrow.Author.Tests.{eq-eqb, ne_eqb}
 use Prim.Native.Nat.{ℕ}
 use mathlib.Core.Bool.{Bool, false, cond}
@@ -9,18 +9,19 @@ use lib.Dec.{eqb}
 use types.Run.{OneOf}
 use Rattle.model.specs.Basics.{any, has}
 use Rattle.frame_lines.specs.Frames.{call_codes}
-use Rattle.frame_lines.specs.Reading.{kind_on, kind_of}
-use Rattle.frame_lines.specs.declared.frame.FrameKind.TheVariants.{Early}
-use Rattle.frame_lines.proofs.frame.kind_of.Goals as goal
+use Rattle.frame_lines.specs.Reading.{sized_frame, frame_on, frame_by}
+use Rattle.frame_lines.specs.declared.frame.Frame.TheVariants.{Load, Early}
+use Rattle.frame_lines.specs.declared.reading.Line.{Line}
+use Rattle.frame_lines.proofs.frame.frame_by.Goals as goal
 
-module _ (d code count : ℕ) where
+module _ (d code : ℕ) (line : Line) where
   -- Of a call, at the number that its code is.
-  at_code : (n : ℕ) → code ≡ n → cond (eqb d 0) Early (kind_on d n count) ≡ kind_of d n count → cond (eqb d 0) Early (kind_on d code count) ≡ kind_of d code count
+  at_code : (n : ℕ) → code ≡ n → cond (eqb d 0) Early (frame_on d n line) ≡ frame_by d n line → cond (eqb d 0) Early (frame_on d code line) ≡ frame_by d code line
   at_code n e same =
-      ap (λ (x : ℕ). cond (eqb d 0) Early (kind_on d x count)) e ∙ same ∙ ap (λ (x : ℕ). kind_of d x count) (sym e)
+      ap (λ (x : ℕ). cond (eqb d 0) Early (frame_on d x line)) e ∙ same ∙ ap (λ (x : ℕ). frame_by d x line) (sym e)
 
-  called : OneOf (0x20 ∷ 0x30 ∷ 0x40 ∷ 0x50 ∷ []) code → cond (eqb d 0) Early (kind_on d code count) ≡ kind_of d code count
-  unfolding kind_of has any call_codes
+  called : OneOf (0x20 ∷ 0x30 ∷ 0x40 ∷ 0x50 ∷ []) code → cond (eqb d 0) Early (frame_on d code line) ≡ frame_by d code line
+  unfolding frame_by has any call_codes
   called (inl e) = at_code 0x20 e refl
   called (inr (inl e)) = at_code 0x30 e refl
   called (inr (inr (inl e))) = at_code 0x40 e refl
@@ -37,24 +38,26 @@ other code none =
     )
 
 pub returns-in-16 : goal.returns-in-16
-unfolding kind_of
+unfolding frame_by
 returns-in-16 c =
     let a = c.args in
-    c.sized.ensures ∙ ap (λ (code : ℕ). kind_of a.d code a.count) (sym c.in-16.is)
+    c.sized.ensures
+    ∙ ap (λ (n : ℕ). sized_frame a.line.count 4 (Load n)) c.byte_at-dimension.ensures
+    ∙ ap (λ (code : ℕ). frame_by a.d code a.line) (sym c.in-16.is)
 
 pub returns-in_default : goal.returns-in_default
-unfolding kind_of
+unfolding frame_by
 returns-in_default c = simp (ne_eqb _ _ c.in_default.in_default-own.rest.0.1, other c.args.code c.in_default.in_default-own.rest.1)
 
 pub returns-then-d-eq0 : goal.returns-then-d-eq0
 returns-then-d-eq0 c =
     let a = c.args in
-    ap (λ (b : Bool). cond b Early (kind_on a.d a.code a.count)) (sym (eq-eqb a.d 0 c.if-d-eq0.true))
-    ∙ called a.d a.code a.count c.in-32.is
+    ap (λ (b : Bool). cond b Early (frame_on a.d a.code a.line)) (sym (eq-eqb a.d 0 c.if-d-eq0.true))
+    ∙ called a.d a.code a.line c.in-32.is
 
 pub returns : goal.returns
 returns c =
     let a = c.args in
-    c.kind_on.ensures
-    ∙ ap (λ (b : Bool). cond b Early (kind_on a.d a.code a.count)) (sym (ne_eqb a.d 0 c.if-d-eq0.false))
-    ∙ called a.d a.code a.count c.in-32.is
+    c.frame_on.ensures
+    ∙ ap (λ (b : Bool). cond b Early (frame_on a.d a.code a.line)) (sym (ne_eqb a.d 0 c.if-d-eq0.false))
+    ∙ called a.d a.code a.line c.in-32.is
