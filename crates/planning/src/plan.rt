@@ -5,9 +5,9 @@ ghost use Rattle.planning.specs.Plan as spec;
 use crate::change::{Change, comes, exchange_of};
 use crate::foresee::{alike, coming_place, needed, no_upkeep, reported};
 use crate::judge::judge;
-use memory::Head;
+use memory::{Board, Head};
 use promises::{Reason, Refusal, Verdict, enough};
-use soundness::{Held, sound_head};
+use soundness::sound_head;
 use tree::place_of;
 use upkeep::{Upkeep, upkeep_of};
 
@@ -55,12 +55,13 @@ pub fn plan_on(m: &[u8], h: Head, x: Change, lent: usize) -> ChangePlan
     if let Err(reason) = judge(h, x, goes < h.count) {
         return keeps_moves(h, x, Err(Refusal::from(reason)));
     }
+    let board = Board { bytes: m, head: h };
     let k = exchange_of(x, goes);
-    if alike(m, h, k) {
+    if alike(&board, k) {
         return keeps_moves(h, x, Ok(()));
     }
-    let place = coming_place(m, h, k);
-    let upkeep = upkeep_of(m, h, k, place);
+    let place = coming_place(&board, k);
+    let upkeep = upkeep_of(&board, k, place);
     let need = needed(upkeep);
     ChangePlan {
         verdict: enough(need, lent),
@@ -79,7 +80,7 @@ pub fn plan_on(m: &[u8], h: Head, x: Change, lent: usize) -> ChangePlan
 pub fn plan_change(m: &[u8], x: Change, lent: usize) -> ChangePlan
     ensures { spec.Planned x m.now lent result }
 {
-    let Held::Sound(h) = sound_head(m) else {
+    let Some(h) = sound_head(m) else {
         let none = Head {
             size: 0,
             dimension: 0,

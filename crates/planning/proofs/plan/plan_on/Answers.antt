@@ -27,7 +27,7 @@ use Rattle.planning.proofs.plan.plan_on.Goals as goal
 module _ (c : After-exchange_of-k) where
   bytes : Bytes c.args.m.now
   unfolding Bytes
-  bytes i = omega (arith, c.shared_slice_known-1.given i)
+  bytes i = omega (arith, c.type_inv.m i)
 
   costs : Costs row_costs c.args.x.costs
   costs = row-costs c.well_formed.1.1.0.1.1.1.1.1.0
@@ -55,8 +55,8 @@ returns-in-Err c =
     plan-refused c.requires (judged c.requires c.place_of-goes.ensures c.in-Err.ensures)
     (subst (λ (r : Refusal). KeepsMoves c.args.h c.args.x (Err r) c.keeps_moves.result) c.from.ensures c.keeps_moves.ensures)
 
-pub alike-requires : goal.alike-requires
-alike-requires c = held-readable c.requires
+pub invariant_of-board : goal.invariant_of-board
+invariant_of-board c = record { readable = held-readable c.requires; fits = λ k. omega (arith, c.type_inv.m k) }
 
 pub returns-then-alike : goal.returns-then-alike
 returns-then-alike c =
@@ -66,7 +66,7 @@ returns-then-alike c =
     (subst (λ (k : Exchange). alike a.h.size a.h.dimension a.h.count k a.m.now ≡ true) c.exchange_of-k.ensures (sym c.alike.ensures ∙ c.if-alike.true)) c.keeps_moves-then-alike.ensures
 
 pub coming_place-place-requires : goal.coming_place-place-requires
-coming_place-place-requires c = let s = c.requires in record { readable = held-readable s; in_order = held-ordered _ _ _ _ s }
+coming_place-place-requires c = held-ordered _ _ _ _ c.requires
 
 pub upkeep_of-upkeep-requires : goal.upkeep_of-upkeep-requires
 upkeep_of-upkeep-requires c = record {
