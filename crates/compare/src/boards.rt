@@ -1,11 +1,11 @@
 // One board after the other, each loaded over the one before; and memory that is too short for any.
 use crate::ask::load;
+use crate::call::Call;
 use crate::dice;
-use crate::expect::answer;
 use crate::judge::judged;
 use crate::plain::{Plain, bare, listed};
 use crate::runs::run;
-use crate::table::{BOARD, Row, Table, number_of, put_in};
+use crate::table::{Area, Row, Table, number_of, put_in};
 use crate::tally::{Tally, add, count};
 use crate::told::spoken;
 use crate::week::block_of;
@@ -25,21 +25,19 @@ fn input_of(r: Row) -> [u16; INPUT] {
 }
 
 fn put_input(input: &mut [[u16; INPUT]], i: usize, r: Row) {
-    if i < input.len() {
-        input[i] = input_of(r);
+    if let Some(place) = input.get_mut(i) {
+        *place = input_of(r);
     }
 }
 
 // The rows of a load, put on the plain board too; numbers go down.
 fn fill(b: Plain, t: &mut Table, input: &mut [[u16; INPUT]], seed: usize, n: usize) {
     let mut s = seed;
-    let mut i = 0;
-    while i < n {
-        let r = dice::row(s, 0, ((n - 1 - i) % 65536) as u16, b.d, b.style);
-        put_in(t, BOARD, i, r);
+    for i in 0..n {
+        let r = dice::row(s, ((n - 1 - i) % 65536) as u16, b.d, b.style);
+        put_in(t, Area::Board, i, r);
         put_input(input, i, r);
         s = dice::next(s);
-        i += 1;
     }
 }
 
@@ -47,8 +45,7 @@ fn loaded(b: Plain, t: &mut Table, m: &mut [u8], s: usize, n: usize) -> Plain {
     let mut input = [[0u16; INPUT]; 4096];
     fill(b, t, &mut input, s, n);
     let said = spoken(b, load(m, b.c, b.d, &input, n), 0, 0);
-    let want = listed(b, t, n);
-    judged(want, said, t, b'L', 0)
+    judged(listed(b, t, n), said, t, 0)
 }
 
 // No rows, few, all, or some.
@@ -79,52 +76,40 @@ fn first(t: &mut Table, m: &mut [u8], i: usize, s: usize) -> Plain {
     loaded(none, t, m, s, rows(s / 65536, c))
 }
 
-fn counted(rt: &impl Print, u: Tally, b: Plain) -> io::Result<Tally> {
-    let boards = add(u, b'#', 1);
-    let largest = add(boards, b'^', b.c / 4096);
-    count(rt, largest, b'L', b)
-}
-
 fn one(
     rt: &impl Print,
     t: &mut Table,
     m: &mut [u8; MEMORY],
-    u: Tally,
+    u: &mut Tally,
     i: usize,
     s: usize,
-) -> io::Result<Tally> {
+) -> io::Result<()> {
     let b = first(t, m, i, s);
-    run(
-        rt,
-        b,
-        t,
-        m,
-        counted(rt, u, b)?,
-        s / 2,
-        if b.c == 4096 { 30 } else { 300 },
-    )
+    add(u, b'#', 1);
+    add(u, b'^', b.c / 4096);
+    count(rt, u, Call::Load(b.c), b)?;
+    let calls = if b.c == 4096 { 30 } else { 300 };
+    run(rt, b, t, m, u, s / 2, calls)
 }
 
 // Memory a byte too short for the least board: no load, and no board.
-fn short(rt: &impl Print, t: &mut Table) -> io::Result<Tally> {
+fn short(rt: &impl Print, t: &mut Table, u: &mut Tally) -> io::Result<()> {
     let mut m = [0u8; 2047];
     let b = bare(0, 2, 0);
     let said = spoken(b, load(&mut m, 16, 2, &[], 0), 0, 0);
-    let after = judged(answer(b, 1, 0, 0), said, t, b'L', 0);
-    let counts = count(rt, [0u64; 128], b'L', after)?;
-    run(rt, after, t, &mut m, counts, 1, 300)
+    let after = judged(b.refused(1, 0), said, t, 0);
+    count(rt, u, Call::Load(16), after)?;
+    run(rt, after, t, &mut m, u, 1, 300)
 }
 
 // Runs so many boards.
 pub fn all(rt: &impl Print, t: &mut Table, m: &mut [u8; MEMORY], n: usize) -> io::Result<Tally> {
-    let mut counts = short(rt, t)?;
+    let mut u = [0u64; 128];
+    short(rt, t, &mut u)?;
     let mut s = 88172645463325252;
-    let mut i = 0;
-    while i < n {
-        let more = one(rt, t, m, counts, i, s)?;
-        counts = more;
+    for i in 0..n {
+        one(rt, t, m, &mut u, i, s)?;
         s = dice::next(s ^ 12345);
-        i += 1;
     }
-    Ok(counts)
+    Ok(u)
 }

@@ -1,9 +1,10 @@
 // Numbers that look random, the same at each run; costs made of them, and the calls that the runs
 // make: most are accepted, some are to be refused.
-use crate::expect::Call;
+use crate::call::{Call, Change, Query, Read};
 use crate::plain::{Plain, find};
-use crate::table::{BOARD, NONE, Row, Table, mark_of, number_of, row_at};
-use crate::week::block_of;
+use crate::table::{Area, Row, Table, number_of, row_at};
+use crate::week::{bad_block, block_of};
+use planning::Kind;
 use rows::ROW;
 use zorder::COSTS;
 
@@ -29,17 +30,13 @@ fn cost(s: usize, style: usize, second: bool, last: u16) -> u16 {
 }
 
 // Gives a row with d costs drawn.
-pub fn row(seed: usize, mark: u16, number: u16, d: usize, style: usize) -> Row {
+pub fn row(seed: usize, number: u16, d: usize, style: usize) -> Row {
     let mut r = [0u16; ROW];
-    r[0] = mark;
     r[1] = number;
-    let n = d % (COSTS + 1);
     let mut s = seed ^ 11400714819323198485;
-    let mut i = 0;
-    while i < n {
+    for i in 0..d % (COSTS + 1) {
         s = next(s);
         r[2 + i] = cost(s, style, i % 2 == 1, r[1 + i]);
-        i += 1;
     }
     r
 }
@@ -54,18 +51,18 @@ fn number(b: Plain, t: &Table, n: usize, growing: bool) -> u16 {
     if growing {
         (n % (b.c % 5000 + b.c % 5000 / 16 + 1) % 65536) as u16
     } else {
-        number_of(row_at(t, BOARD, n % (b.n % 5000 + 1)))
+        number_of(row_at(t, Area::Board, n % (b.n % 5000 + 1)))
     }
 }
 
 // A number on the board is withdrawn or re-costed, another entered; at times the other way round.
-fn letter(n: usize, present: bool, growing: bool) -> u8 {
+fn kind(n: usize, present: bool, growing: bool) -> Kind {
     if present == (n % 12 == 0) {
-        b'e'
+        Kind::Enter
     } else if n % 96 < if growing { 12 } else { 50 } {
-        b'w'
+        Kind::Withdraw
     } else {
-        b'c'
+        Kind::Recost
     }
 }
 
@@ -79,33 +76,18 @@ fn lent(b: Plain, n: usize) -> usize {
     }
 }
 
-// One of the other lists, or at times a load.
-fn other(n: usize) -> u8 {
-    match n % 26 / 5 {
-        0 => b'B',
-        1 => b'R',
-        2 => b'K',
-        3 => b'S',
-        4 => b'Y',
-        _ => b'L',
-    }
-}
-
 // A change, at times with costs past d or a block past the last.
-fn change(b: Plain, t: &Table, s: usize, growing: bool) -> Call {
+fn change(b: Plain, t: &Table, s: usize, growing: bool) -> Change {
     let n = s / 65536;
     let number = number(b, t, n, growing);
-    let letter = letter(s, mark_of(find(t, b.n, number)) != NONE, growing);
-    let mark = if letter == b'w' { NONE } else { 0 };
-    let d = if n % 24 == 0 { COSTS } else { b.d };
-    let r = row(s, mark, number, d, b.style);
+    let kind = kind(s, find(t, b.n, number).is_some(), growing);
+    let row = row(s, number, if n % 24 == 0 { COSTS } else { b.d }, b.style);
     let past = if n % 32 == 5 { 64 } else { 0 };
-    Call {
-        letter,
+    Change {
+        kind,
         number,
-        block: block_of(r) | past,
-        row: r,
-        argument: 0,
+        block: block_of(row) | past,
+        row,
         lent: lent(b, n / 32),
     }
 }
@@ -116,41 +98,53 @@ pub fn looks(s: usize) -> bool {
 }
 
 // Draws such a change aside, so that the calls are those that they are without it.
-pub fn looked_at(b: Plain, t: &Table, s: usize, i: usize) -> Call {
+pub fn looked_at(b: Plain, t: &Table, s: usize, i: usize) -> Change {
     change(b, t, next(s ^ 54321), is_growing(i))
 }
 
-// The argument is mostly small, at times at the ends of the range and past them; of chosen costs
-// any set, none or one too many; of hours a minute and a block.
-fn argument(b: Plain, n: usize, letter: u8) -> usize {
-    if letter == b'Y' {
-        n % 4096000
-    } else if n % 60 < 10 {
+// The argument is mostly small, at times at the ends of the range and past them.
+fn argument(n: usize) -> usize {
+    if n % 60 < 10 { 4094 + n % 4 } else { n % 10 }
+}
+
+// Of chosen costs any set, none or one too many, at times far past them.
+fn chosen(b: Plain, n: usize) -> usize {
+    if n % 60 < 10 {
         4094 + n % 4
-    } else if letter == b'S' {
-        n / 64 % (1 + (1usize << (b.d % (COSTS + 1))) % 512)
     } else {
-        n % 10
+        n / 64 % (1 + (1usize << (b.d % (COSTS + 1))) % 512)
     }
 }
 
-fn reading(b: Plain, s: usize, letter: u8) -> Call {
-    let n = s / 65536;
-    Call {
-        letter,
-        number: 0,
-        block: 0,
-        row: [0u16; ROW],
-        argument: argument(b, n, letter),
-        lent: lent(b, s / 4096),
+// One of the other lists, by the first number, with an argument by the second.
+fn other(b: Plain, n: usize, x: usize) -> Query {
+    match n % 26 / 5 {
+        0 => Query::Band(argument(x)),
+        1 => Query::Rank(argument(x)),
+        2 => Query::OnK(argument(x)),
+        3 => Query::Chosen(chosen(b, x)),
+        _ => Query::Hours(x % 4096000 % 10240, bad_block(x % 4096000 / 10240)),
     }
 }
 
-// Gives the calls in turn: a change, the list, another list or a load.
+// A load of the board's own size, or of one out of range.
+fn load(b: Plain, x: usize) -> Call {
+    Call::Load(if argument(x) % 2 == 0 { b.c } else { 4097 })
+}
+
+// Gives the calls in turn: a change, the list, another list or at times a load.
 pub fn drawn(b: Plain, t: &Table, s: usize, i: usize) -> Call {
+    let lent = lent(b, s / 4096);
     match i % 3 {
-        0 => change(b, t, s, is_growing(i)),
-        1 => reading(b, s, b'Q'),
-        _ => reading(b, s, other(s / 64)),
+        0 => Call::Change(change(b, t, s, is_growing(i))),
+        1 => Call::Read(Read {
+            query: Query::List,
+            lent,
+        }),
+        _ if s / 64 % 26 == 25 => load(b, s / 65536),
+        _ => Call::Read(Read {
+            query: other(b, s / 64, s / 65536),
+            lent,
+        }),
     }
 }

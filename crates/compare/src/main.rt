@@ -11,6 +11,7 @@ use std::rt::Env;
 
 mod ask;
 mod boards;
+mod call;
 mod change;
 mod dice;
 mod expect;

@@ -1,122 +1,96 @@
-// What was compared, counted in cells: one for each letter, digit or sign that a line of the names
-// begins with.
+// What was compared, counted in cells: one for each letter, digit or sign that a name goes with.
+use crate::call::{Call, Change};
 use crate::plain::Plain;
 use std::io;
 
 pub type Tally = [u64; 128];
 
 // Adds to one of the tallies.
-pub fn add(u: Tally, name: u8, v: usize) -> Tally {
-    let i = (name % 128) as usize;
-    let mut after = u;
-    after[i] = u[i] % 1000000000000 + (v as u64) % 1000000;
-    after
-}
-
-fn put(rt: &impl Print, n: u64) -> io::Result<()> {
-    print!(rt; " {n}")
+pub fn add(u: &mut Tally, cell: u8, v: usize) {
+    let i = usize::from(cell % 128);
+    u[i] = u[i] % 1000000000000 + v as u64 % 1000000;
 }
 
 // The cell of a call by its answer; its rows have the cell of the other case, which may be one
-// without a line.
-fn cell(letter: u8, refusal: usize) -> u8 {
+// without a name.
+fn cell(k: Call, refusal: usize) -> u8 {
     if 0 < refusal {
         48 + (refusal % 16) as u8
-    } else if b'Z' < letter {
+    } else if k.changes() {
         b'c'
     } else {
-        letter
+        k.letter()
     }
 }
 
 // The letter of a call where the two disagree, and the board's number.
-fn put_wrong(rt: &impl Print, u: &Tally, letter: u8) -> io::Result<()> {
-    rt.write_all(&[letter])?;
-    put(rt, u[b'#' as usize])?;
-    rt.write_all(b"\n")
-}
-
-fn judge(rt: &impl Print, u: Tally, letter: u8, right: bool) -> io::Result<Tally> {
+fn judge(rt: &impl Print, u: &mut Tally, letter: u8, right: bool) -> io::Result<()> {
     if right {
-        Ok(u)
-    } else {
-        put_wrong(rt, &u, letter)?;
-        Ok(add(u, b'!', 1))
+        return Ok(());
     }
+    add(u, b'!', 1);
+    rt.write_all(&[letter])?;
+    println!(rt; " {}", u[usize::from(b'#')])
 }
 
 // Counts a call and its answer.
-pub fn count(rt: &impl Print, u: Tally, letter: u8, b: Plain) -> io::Result<Tally> {
-    let name = cell(letter, b.refusal);
-    let called = add(u, name, 1);
-    let told = add(called, name ^ 32, b.count);
-    let opened = add(told, if b'Z' < letter { b'w' } else { b'o' }, b.opened);
-    let heard = add(opened, b'h', if b.holding { 1 } else { 0 });
-    judge(rt, heard, letter, b.right)
+pub fn count(rt: &impl Print, u: &mut Tally, k: Call, b: Plain) -> io::Result<()> {
+    let name = cell(k, b.answer.refusal);
+    add(u, name, 1);
+    add(u, name ^ 32, b.answer.count);
+    add(u, if k.changes() { b'w' } else { b'o' }, b.answer.opened);
+    add(u, b'h', usize::from(b.held.is_some()));
+    judge(rt, u, k.letter(), b.right)
 }
 
 // Previews have cells of their own, and no holder hears them. Where one is wrong its letter is a
 // capital.
-pub fn count_preview(rt: &impl Print, u: Tally, letter: u8, b: Plain) -> io::Result<Tally> {
-    let called = add(u, if b.refusal == 0 { b'p' } else { b'x' }, 1);
-    let told = add(called, b'P', b.count);
-    let opened = add(told, b'v', b.opened);
-    judge(rt, opened, letter ^ 32, b.right)
+pub fn count_preview(rt: &impl Print, u: &mut Tally, x: Change, b: Plain) -> io::Result<()> {
+    add(u, if b.answer.accepts() { b'p' } else { b'x' }, 1);
+    add(u, b'P', b.answer.count);
+    add(u, b'v', b.answer.opened);
+    judge(rt, u, x.letter() ^ 32, b.right)
 }
 
-// A byte of the names; the first of a line is its cell. The cell after it.
-fn put_byte(rt: &impl Print, u: &Tally, cell: u8, b: u8) -> io::Result<u8> {
-    if b == b'\n' {
-        put(rt, u[(cell % 128) as usize])?;
-    }
-    if cell == 0 {
-        Ok(b)
-    } else {
-        rt.write_all(&[b])?;
-        Ok(if b == b'\n' { 0 } else { cell })
-    }
-}
-
-fn put_named(rt: &impl Print, u: &Tally, names: &[u8]) -> io::Result<()> {
-    let mut cell = 0u8;
-    let mut i = 0;
-    while i < names.len() {
-        cell = put_byte(rt, u, cell, names[i])?;
-        i += 1;
-    }
-    Ok(())
-}
+// The cells that are printed, with their names.
+const NAMES: [(u8, &str); 31] = [
+    (b'#', "boards"),
+    (b'^', "of size 4096"),
+    (b'L', "loads"),
+    (b'c', "changes"),
+    (b'C', "rows of their notices"),
+    (b'Q', "lists"),
+    (b'q', "rows listed"),
+    (b'o', "nodes opened"),
+    (b'w', "nodes opened on withdrawals"),
+    (b'B', "bands"),
+    (b'R', "ranks"),
+    (b'K', "on k"),
+    (b'S', "chosen"),
+    (b'Y', "hours"),
+    (b'p', "previews"),
+    (b'a', "of changes not made"),
+    (b'P', "rows of previews"),
+    (b'v', "nodes opened on previews"),
+    (b'x', "previews refused"),
+    (b'h', "lists of the holder"),
+    (b'1', "refused 1"),
+    (b'2', "refused 2"),
+    (b'3', "refused 3"),
+    (b'4', "refused 4"),
+    (b'5', "refused 5"),
+    (b'6', "refused 6"),
+    (b'7', "refused 7"),
+    (b'8', "refused 8"),
+    (b';', "refused 11"),
+    (b'<', "refused 12"),
+    (b'!', "disagreements"),
+];
 
 // Writes all tallies.
 pub fn put_all(rt: &impl Print, u: &Tally) -> io::Result<()> {
-    put_named(
-        rt,
-        u,
-        b"#boards\n^of size 4096\nLloads\ncchanges\nCrows of their notices\nQlists\n",
-    )?;
-    put_named(
-        rt,
-        u,
-        b"qrows listed\nonodes opened\nwnodes opened on withdrawals\nBbands\nRranks\nKon k\n",
-    )?;
-    put_named(
-        rt,
-        u,
-        b"Schosen\nYhours\nppreviews\naof changes not made\nProws of previews\n",
-    )?;
-    put_named(
-        rt,
-        u,
-        b"vnodes opened on previews\nxpreviews refused\nhlists of the holder\n",
-    )?;
-    put_named(
-        rt,
-        u,
-        b"1refused 1\n2refused 2\n3refused 3\n4refused 4\n5refused 5\n6refused 6\n",
-    )?;
-    put_named(
-        rt,
-        u,
-        b"7refused 7\n8refused 8\n;refused 11\n<refused 12\n!disagreements\n",
-    )
+    for (cell, name) in &NAMES {
+        println!(rt; "{name} {}", u[usize::from(*cell % 128)])?;
+    }
+    Ok(())
 }

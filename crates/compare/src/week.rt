@@ -3,6 +3,7 @@
 // bad by an end equal to the start.
 use crate::table::{Row, number_of};
 use hours::HOURS;
+use std::array;
 
 const BLOCKS: usize = 64;
 
@@ -19,7 +20,8 @@ fn end(k: usize) -> u16 {
     ((k % BLOCKS * 157 + 5040) % 10080) as u16
 }
 
-fn is_shut(k: usize) -> bool {
+// Says whether a block has no window.
+pub fn is_shut(k: usize) -> bool {
     k % 8 == 7
 }
 
@@ -30,39 +32,21 @@ pub fn is_open(minute: usize, r: Row) -> bool {
     !is_shut(k) & (since < 5040)
 }
 
-// Gives what the argument of an hours call says: the minute, at times too large, and at times a
-// block with bad hours.
-pub fn minute_of(x: usize) -> usize {
-    x % 10240
-}
-
-// Gives the block that has bad hours, if one has.
-pub fn bad_block(x: usize) -> usize {
-    x / 10240 % 400
-}
-
-// Says whether a block has bad hours.
-pub fn is_bad(x: usize) -> bool {
-    let k = bad_block(x);
-    (k < BLOCKS) & !is_shut(k)
+// Gives the block that is to have bad hours, if there is such a block.
+pub fn bad_block(k: usize) -> Option<usize> {
+    if k < BLOCKS { Some(k) } else { None }
 }
 
 // Slots past the count hold what would be refused.
-fn entry(k: usize, bad: usize) -> [u16; HOURS] {
+fn entry(k: usize, bad: Option<usize>) -> [u16; HOURS] {
     let mut e = [7u16; HOURS];
     e[0] = if is_shut(k) { 0 } else { 1 };
     e[1] = start(k);
-    e[2] = if k == bad { start(k) } else { end(k) };
+    e[2] = if bad == Some(k) { start(k) } else { end(k) };
     e
 }
 
 // Makes the hours of all blocks.
-pub fn entries(bad: usize) -> [[u16; HOURS]; BLOCKS] {
-    let mut all = [[0u16; HOURS]; BLOCKS];
-    let mut k = 0;
-    while k < BLOCKS {
-        all[k] = entry(k, bad);
-        k += 1;
-    }
-    all
+pub fn entries(bad: Option<usize>) -> [[u16; HOURS]; BLOCKS] {
+    array::from_fn(|k| entry(k, bad))
 }

@@ -1,9 +1,0 @@
--- `rules::nowhere_greater` meets its contract: one cost after another. Assumes nothing.
-use Prim.Native.Nat.{◌-◌}
-use Rattle.compare.proofs.rules.nowhere_greater.Given as goal
-
-abbrev pub invariant-loop-i : goal.invariant-loop-i
-invariant-loop-i l = Unit {0}
-
-abbrev pub decreases-loop-i : goal.decreases-loop-i
-decreases-loop-i l = 4096 - l.i
