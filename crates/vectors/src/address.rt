@@ -1,7 +1,7 @@
 // Addresses and regions.
 use crate::said::{Said, put, put_all};
 use crate::values::{costs, value, value_after};
-use crate::word::{ADDRESS, COSTS_OF};
+use crate::word::Address;
 use std::io;
 use zorder::{AddressWords, COSTS, Verdict};
 
@@ -57,12 +57,11 @@ fn region(rt: &impl Print, values: &[u64], d: usize, s: Said) -> io::Result<Said
 }
 
 // Answers a line on addresses or regions.
-pub fn answer(rt: &impl Print, values: &[u64], s: Said) -> io::Result<Said> {
+pub fn answer(rt: &impl Print, values: &[u64], asked: Address, s: Said) -> io::Result<Said> {
     let d = value(values, 0) as usize;
-    let word = s.word;
-    match word {
-        ADDRESS => address(rt, values, d, s),
-        COSTS_OF => costs_of(rt, values, d, s),
-        _ => region(rt, values, d, s),
+    match asked {
+        Address::Address => address(rt, values, d, s),
+        Address::Costs => costs_of(rt, values, d, s),
+        Address::Region => region(rt, values, d, s),
     }
 }

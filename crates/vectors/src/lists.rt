@@ -4,34 +4,34 @@ ghost use Rattle.rows.specs.Telling.{TellingAsked};
 
 use crate::said::Said;
 use crate::told::{put_answer, put_list, put_row};
-use crate::values::{ROWS, at_most, value};
-use crate::word::{BAND, LIST, ON_K};
+use crate::values::{ROWS, value};
+use crate::word::List;
 use rows::{Plan, ROW};
 use std::io;
 
-fn plan_of(word: u32, m: &[u8], values: &[u64]) -> Plan
+fn plan_of(asked: List, m: &[u8], values: &[u64]) -> Plan
     ensures { 0 < result.telling.count → TellingAsked result.telling.told m.now }
 {
     let x = value(values, 0) as usize;
     let lent = value(values, 1) as usize;
-    match word {
-        LIST => listing::plan_list(m, x),
-        BAND => query::plan_band(m, x, lent),
-        ON_K => query::plan_on_k(m, x, lent),
-        _ => query::plan_chosen(m, x, lent),
+    match asked {
+        List::All => listing::plan_list(m, x),
+        List::Band => query::plan_band(m, x, lent),
+        List::OnK => query::plan_on_k(m, x, lent),
+        List::Chosen => query::plan_chosen(m, x, lent),
     }
 }
 
 // Answers a line that asks for a list.
-pub fn list(rt: &impl Print, memory: &[u8], values: &[u64], s: Said) -> io::Result<Said> {
-    put_list(
-        rt,
-        memory,
-        plan_of(s.word, memory, values),
-        s.word == LIST,
-        values,
-        s,
-    )
+pub fn list(
+    rt: &impl Print,
+    memory: &[u8],
+    asked: List,
+    values: &[u64],
+    s: Said,
+) -> io::Result<Said> {
+    let nodes = matches!(asked, List::All);
+    put_list(rt, memory, plan_of(asked, memory, values), nodes, values, s)
 }
 
 fn put_ranked(
@@ -42,12 +42,8 @@ fn put_ranked(
     s: Said,
 ) -> io::Result<Said> {
     let mut r = s;
-    let mut i = 0;
-    while i < count {
-        if i < rows.len() {
-            r = put_row(rt, values, r, rows[i])?;
-        }
-        i += 1;
+    for row in &rows[..count.min(rows.len())] {
+        r = put_row(rt, values, r, *row)?;
     }
     Ok(r)
 }
@@ -59,7 +55,7 @@ fn rank_in(
     values: &[u64],
     s: Said,
 ) -> io::Result<Said> {
-    let n = at_most(value(values, 1) as usize, rows.len());
+    let n = (value(values, 1) as usize).min(rows.len());
     let r = ranking::rank(memory, value(values, 0) as usize, &mut rows[..n]);
     let answered = put_answer(rt, values, s, r, false)?;
     put_ranked(rt, rows, r.count, values, answered)

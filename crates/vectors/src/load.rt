@@ -3,11 +3,9 @@ ghost use Rattle.std.specs.Prelude.{◌≤◌};
 
 use crate::said::Said;
 use crate::told::put_verdict;
-use crate::values::{Given, ROWS, at_most, move_at, value};
-use crate::word::has_block;
+use crate::values::{Given, ROWS, move_at, value};
 use loading::INPUT;
 use std::io;
-use zorder::COSTS;
 
 // The place of row i, below ROWS.
 fn place(blocks: bool, i: usize) -> usize
@@ -22,23 +20,16 @@ fn place(blocks: bool, i: usize) -> usize
 
 // A row as it is lent.
 fn row(x: Given) -> [u16; INPUT] {
-    let costs = x.costs;
     let mut r = [0u16; INPUT];
     r[0] = x.number;
     r[1] = x.block;
-    let mut j = 0;
-    while j < COSTS {
-        r[2 + j] = costs[j];
-        j += 1;
-    }
+    r[2..].copy_from_slice(&x.costs);
     r
 }
 
 fn read_rows(values: &[u64], blocks: bool, input: &mut [[u16; INPUT]]) {
-    let mut i = 0;
-    while i < input.len() {
-        input[i] = row(move_at(values, place(blocks, i), blocks));
-        i += 1;
+    for (i, r) in input.iter_mut().enumerate() {
+        *r = row(move_at(values, place(blocks, i), blocks));
     }
 }
 
@@ -49,20 +40,22 @@ fn load_rows(
     values: &[u64],
     s: Said,
 ) -> io::Result<Said> {
-    let k = at_most(value(values, 3) as usize, input.len());
+    let k = (value(values, 3) as usize).min(input.len());
     let size = value(values, 1) as usize;
     let dimension = value(values, 2) as usize;
-    put_verdict(
-        rt,
-        values,
-        s,
-        loading::load(memory, size, dimension, &input[..k]),
-    )
+    let verdict = loading::load(memory, size, dimension, &input[..k]);
+    put_verdict(rt, values, s, verdict)
 }
 
 // Answers a line that loads a board.
-pub fn load(rt: &impl Print, memory: &mut [u8], values: &[u64], s: Said) -> io::Result<Said> {
+pub fn load(
+    rt: &impl Print,
+    memory: &mut [u8],
+    blocks: bool,
+    values: &[u64],
+    s: Said,
+) -> io::Result<Said> {
     let mut input = [[0u16; INPUT]; ROWS];
-    read_rows(values, has_block(s.word), &mut input);
+    read_rows(values, blocks, &mut input);
     load_rows(rt, memory, &input, values, s)
 }

@@ -4,8 +4,8 @@ ghost use Rattle.std.specs.Prelude.{◌≤◌};
 ghost use Rattle.zorder.specs.Address.{row_costs};
 
 use crate::said::{Said, put};
-use crate::values::{at_most, costs, narrow, value};
-use crate::word::{DOMINATES, LESS};
+use crate::values::{costs, narrow, value};
+use crate::word::Pair;
 use dominance::{dominates, less};
 use std::io;
 use zorder::COSTS;
@@ -19,25 +19,10 @@ struct Tally {
     wrong: u64,
 }
 
-fn number(answer: bool) -> u64 {
-    if answer { 1 } else { 0 }
-}
-
 fn plain_dominates(d: usize, p: [u16; COSTS], q: [u16; COSTS]) -> bool
     requires { d ≤ row_costs }
 {
-    let mut somewhere = false;
-    let mut i = 0;
-    while i < d {
-        let a = p[i];
-        let b = q[i];
-        if b < a {
-            return false;
-        }
-        somewhere = somewhere | (a < b);
-        i += 1;
-    }
-    somewhere
+    (0..d).all(|i| p[i] <= q[i]) && (0..d).any(|i| p[i] < q[i])
 }
 
 // The number after s, of a row that looks random.
@@ -59,20 +44,18 @@ fn cost(s: usize, other: u16) -> u16 {
 fn row(seed: usize, other: [u16; COSTS]) -> [u16; COSTS] {
     let mut r = other;
     let mut s = seed;
-    let mut i = 0;
-    while i < COSTS {
+    for c in &mut r {
         s = next(s);
-        r[i] = cost(s, other[i]);
-        i += 1;
+        *c = cost(s, *c);
     }
     r
 }
 
 fn with_answer(t: Tally, lesser: bool, dominating: bool, right: bool) -> Tally {
     Tally {
-        lesser: t.lesser % 4294967296 + number(lesser) % 2,
-        dominating: t.dominating % 4294967296 + number(dominating) % 2,
-        wrong: t.wrong % 4294967296 + number(!right) % 2,
+        lesser: t.lesser % 4294967296 + u64::from(lesser),
+        dominating: t.dominating % 4294967296 + u64::from(dominating),
+        wrong: t.wrong % 4294967296 + u64::from(!right),
     }
 }
 
@@ -95,13 +78,11 @@ fn drawn(n: u64) -> Tally {
         wrong: 0,
     };
     let mut s: usize = 1;
-    let mut i = 0;
-    while i < n {
+    for _ in 0..n {
         s = next(s);
         let p = row(s, [0u16; COSTS]);
         let q = row(s ^ 11400714819323198485, p);
-        t = with_pair(t, at_most(s % (COSTS + 1), COSTS), p, q);
-        i += 1;
+        t = with_pair(t, s % (COSTS + 1), p, q);
     }
     t
 }
@@ -113,25 +94,18 @@ fn put_drawn(rt: &impl Print, values: &[u64], s: Said, t: Tally) -> io::Result<S
 }
 
 // Answers a line on two rows: the comparison and dominance.
-pub fn answer(rt: &impl Print, values: &[u64], s: Said) -> io::Result<Said> {
+pub fn answer(rt: &impl Print, values: &[u64], asked: Pair, s: Said) -> io::Result<Said> {
     let first = value(values, 0);
-    let word = s.word;
-    match word {
-        LESS => put(
-            rt,
-            values,
-            s,
-            less(narrow(first), narrow(value(values, 1))) as u64,
-        ),
-        DOMINATES => {
-            let d = at_most(first as usize, COSTS);
-            put(
-                rt,
-                values,
-                s,
-                number(dominates(d, costs(values, 1), costs(values, 1 + COSTS))),
-            )
+    match asked {
+        Pair::Less => {
+            let lesser = less(narrow(first), narrow(value(values, 1)));
+            put(rt, values, s, lesser as u64)
         }
-        _ => put_drawn(rt, values, s, drawn(first)),
+        Pair::Dominates => {
+            let d = (first as usize).min(COSTS);
+            let dominating = dominates(d, costs(values, 1), costs(values, 1 + COSTS));
+            put(rt, values, s, u64::from(dominating))
+        }
+        Pair::Drawn => put_drawn(rt, values, s, drawn(first)),
     }
 }

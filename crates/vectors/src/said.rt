@@ -1,14 +1,14 @@
 // What is answered to a line, number by number, held against what the line says. From the first
 // number that differs on the line is written, with what is answered.
-use crate::parse::Reading;
-use crate::values::{value, wide};
+use crate::parse::Line;
+use crate::values::value;
 use std::io;
 
 // A line's word, how many of its numbers are asked and how many there are, the place of the next
 // one answered.
 #[derive(Clone, Copy)]
 pub struct Said {
-    pub word: u32,
+    pub word: [u8; 3],
     pub asked: usize,
     pub count: usize,
     pub at: usize,
@@ -16,9 +16,10 @@ pub struct Said {
 }
 
 // Begins what is said to a line.
-pub fn begun(l: Reading) -> Said {
+pub fn begun(l: Line) -> Said {
+    let word = l.word;
     Said {
-        word: l.word,
+        word,
         asked: l.asked,
         count: l.count,
         at: l.asked,
@@ -31,26 +32,20 @@ pub fn write_number(rt: &impl Print, n: u64) -> io::Result<()> {
     print!(rt; " {n}")
 }
 
-// A byte of a word, which is 0 where the word is shorter.
-fn write_byte(rt: &impl Print, b: u8) -> io::Result<()> {
-    if 0 < b {
-        rt.write_all(&[b])?;
+// A word of fewer bytes has zeros before them.
+fn write_word(rt: &impl Print, word: [u8; 3]) -> io::Result<()> {
+    for b in word {
+        if 0 < b {
+            rt.write_all(&[b])?;
+        }
     }
     Ok(())
 }
 
-fn write_word(rt: &impl Print, word: u32) -> io::Result<()> {
-    write_byte(rt, (word / 65536 % 256) as u8)?;
-    write_byte(rt, (word / 256 % 256) as u8)?;
-    write_byte(rt, (word % 256) as u8)
-}
-
 // Writes numbers to standard output.
 pub fn write_numbers(rt: &impl Print, values: &[u64], from: usize, to: usize) -> io::Result<()> {
-    let mut i = from;
-    while i < to {
+    for i in from..to {
         write_number(rt, value(values, i))?;
-        i += 1;
     }
     Ok(())
 }
@@ -81,10 +76,8 @@ pub fn put(rt: &impl Print, values: &[u64], s: Said, n: u64) -> io::Result<Said>
 // Goes on with all of the numbers.
 pub fn put_all(rt: &impl Print, values: &[u64], s: Said, ns: &[u16]) -> io::Result<Said> {
     let mut r = s;
-    let mut i = 0;
-    while i < ns.len() {
-        r = put(rt, values, r, wide(ns[i]))?;
-        i += 1;
+    for n in ns {
+        r = put(rt, values, r, u64::from(*n))?;
     }
     Ok(r)
 }

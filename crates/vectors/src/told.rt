@@ -41,17 +41,12 @@ pub fn put_row(rt: &impl Print, values: &[u64], s: Said, row: [u16; ROW]) -> io:
 fn put_rows(rt: &impl Print, m: &[u8], t: Telling, values: &[u64], s: Said) -> io::Result<Said>
     requires { 0 < t.count → TellingAsked t.told m.now }
 {
-    let told = t.told;
-    let count = t.count;
     let mut r = s;
     let mut at = 0;
-    let mut i = 0;
-    while i < count {
-        let step = told_next(m, told, &t.numbers, at);
-        let row = step.row;
-        r = put_row(rt, values, r, row)?;
+    for _ in 0..t.count {
+        let step = told_next(m, t.told, &t.numbers, at);
+        r = put_row(rt, values, r, step.row)?;
         at = step.next;
-        i += 1;
     }
     Ok(r)
 }

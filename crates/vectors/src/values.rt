@@ -1,6 +1,7 @@
 // The numbers of a line.
 ghost use Rattle.std.specs.Prelude.{◌≤◌};
 
+use std::array;
 use zorder::COSTS;
 
 // A move as a line has it.
@@ -19,19 +20,12 @@ pub const ROWS: usize = 409;
 
 // Gives the number at place i, or 0 past the end.
 pub fn value(values: &[u64], i: usize) -> u64 {
-    if i < values.len() { values[i] } else { 0 }
+    values.get(i).copied().unwrap_or(0)
 }
 
 // Gives the number j places after place i, or 0 past the end.
 pub fn value_after(values: &[u64], i: usize, j: usize) -> u64 {
-    if values.len() <= i {
-        return 0;
-    }
-    if j < values.len() - i {
-        values[i + j]
-    } else {
-        0
-    }
+    value(values, i.saturating_add(j))
 }
 
 // Gives the number before place i, or 0 at the start.
@@ -39,32 +33,14 @@ pub fn value_before(values: &[u64], i: usize) -> u64 {
     if 0 < i { value(values, i - 1) } else { 0 }
 }
 
-// Gives the lesser of a number and a bound.
-pub fn at_most(n: usize, bound: usize) -> usize
-    ensures { result ≤ bound }
-{
-    if n <= bound { n } else { bound }
-}
-
 // Cuts a number to 16 bits.
 pub fn narrow(n: u64) -> u16 {
     (n % 65536) as u16
 }
 
-// Widens a number of 16 bits.
-pub fn wide(n: u16) -> u64 {
-    n as u64
-}
-
 // Gives the costs from place i on.
 pub fn costs(values: &[u64], i: usize) -> [u16; COSTS] {
-    let mut costs = [0u16; COSTS];
-    let mut j = 0;
-    while j < COSTS {
-        costs[j] = narrow(value_after(values, i, j));
-        j += 1;
-    }
-    costs
+    array::from_fn(|j| narrow(value_after(values, i, j)))
 }
 
 // Gives the move that stands at a place; without a block it lies in block 0.
@@ -72,16 +48,14 @@ pub fn move_at(values: &[u64], at: usize, with_block: bool) -> Given
     requires { at ≤ 4096 }
 {
     let number = narrow(value(values, at));
-    if with_block {
-        return Given {
-            number,
-            block: narrow(value(values, at + 1)),
-            costs: costs(values, at + 2),
-        };
-    }
+    let (block, rest) = if with_block {
+        (narrow(value(values, at + 1)), at + 2)
+    } else {
+        (0, at + 1)
+    };
     Given {
         number,
-        block: 0,
-        costs: costs(values, at + 1),
+        block,
+        costs: costs(values, rest),
     }
 }

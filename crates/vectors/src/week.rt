@@ -5,9 +5,9 @@ ghost use Rattle.std.specs.Prelude.{◌≤◌};
 
 use crate::said::Said;
 use crate::told::put_list;
-use crate::values::{VALUES, at_most, narrow, value, value_after};
+use crate::values::{VALUES, narrow, value, value_after};
 use hours::HOURS;
-use std::io;
+use std::{array, io};
 
 const BLOCKS: usize = 64;
 
@@ -17,7 +17,7 @@ const RUBBISH: u16 = 42405;
 fn written(values: &[u64], at: usize) -> usize
     ensures { result ≤ 10 }
 {
-    2 + 2 * at_most(value_after(values, at, 1) as usize, 4)
+    2 + 2 * (value_after(values, at, 1) as usize).min(4)
 }
 
 // Number j of the entry at a place.
@@ -31,13 +31,7 @@ fn part(values: &[u64], at: usize, j: usize) -> u16 {
 
 // The entry at a place as it is lent, without its block.
 fn entry(values: &[u64], at: usize) -> [u16; HOURS] {
-    let mut e = [0u16; HOURS];
-    let mut j = 0;
-    while j < HOURS {
-        e[j] = part(values, at, j + 1);
-        j += 1;
-    }
-    e
+    array::from_fn(|j| part(values, at, j + 1))
 }
 
 // The entry at a place put at its block; how many entries it asks for.
@@ -52,14 +46,11 @@ fn put_entry(entries: &mut [[u16; HOURS]], values: &[u64], at: usize) -> usize {
 
 // The entries of the line put at their blocks; how many are lent.
 fn read_entries(values: &[u64], entries: &mut [[u16; HOURS]]) -> usize {
-    let mut lent = 0;
-    let mut at = 3;
-    let mut left = value(values, 2);
-    while 0 < left {
-        let asked = put_entry(entries, values, at);
-        lent = if lent < asked { asked } else { lent };
-        at = at_most(at, VALUES) + written(values, at);
-        left -= 1;
+    let mut lent: usize = 0;
+    let mut at: usize = 3;
+    for _ in 0..value(values, 2) {
+        lent = lent.max(put_entry(entries, values, at));
+        at = at.min(VALUES) + written(values, at);
     }
     lent
 }
@@ -72,7 +63,7 @@ fn tell(
     values: &[u64],
     s: Said,
 ) -> io::Result<Said> {
-    let k = at_most(lent, entries.len());
+    let k = lent.min(entries.len());
     let minute = value(values, 0) as usize;
     let p = hours::plan_hours(memory, minute, &entries[..k], value(values, 1) as usize);
     put_list(rt, memory, p, false, values, s)

@@ -1,70 +1,134 @@
-// The word of a line is its bytes as one number, the first highest.
-pub const ADDRESS: u32 = 256 * (b'A' as u32) + (b'2' as u32);
+// What the word of a line asks.
+use planning::Kind;
 
-pub const COSTS_OF: u32 = 256 * (b'U' as u32) + (b'2' as u32);
-
-pub const REGION: u32 = 256 * (b'R' as u32) + (b'2' as u32);
-
-pub const LESS: u32 = b'D' as u32;
-
-pub const DOMINATES: u32 = b'M' as u32;
-
-pub const DRAWN: u32 = b'N' as u32;
-
-pub const LOAD: u32 = b'L' as u32;
-
-pub const ENTER: u32 = b'E' as u32;
-
-pub const WITHDRAW: u32 = b'W' as u32;
-
-pub const WITHDRAW_OPENED: u32 = b'X' as u32;
-
-pub const RECOST: u32 = b'C' as u32;
-
-pub const PREVIEW_ENTER: u32 = 256 * (b'P' as u32) + (b'E' as u32);
-
-pub const PREVIEW_WITHDRAW: u32 = 256 * (b'P' as u32) + (b'W' as u32);
-
-pub const PREVIEW_RECOST: u32 = 256 * (b'P' as u32) + (b'C' as u32);
-
-pub const LIST: u32 = b'Q' as u32;
-
-pub const BAND: u32 = b'B' as u32;
-
-pub const RANK: u32 = b'K' as u32;
-
-pub const ON_K: u32 = b'O' as u32;
-
-pub const CHOSEN: u32 = b'S' as u32;
-
-pub const HOURS: u32 = 256 * (b'H' as u32) + (b'O' as u32);
-
-pub const TREE: u32 = b'T' as u32;
-
-pub const SO_FAR: u32 = 256 * (b'S' as u32) + (b'F' as u32);
-
-pub const HIDER: u32 = 256 * (b'W' as u32) + (b'H' as u32);
-
-// Says whether the moves of such a line have a block: a B behind the word of one whose moves lie in
-// block 0 says so.
-pub fn has_block(word: u32) -> bool {
-    255 < word && word % 256 == (b'B' as u32)
+#[derive(Clone, Copy)]
+pub enum Word {
+    // Whether each move has a block.
+    Load(bool),
+    Change(Asks),
+    Preview(Asks),
+    List(List),
+    Rank,
+    Hours,
+    Address(Address),
+    Pair(Pair),
+    // A tree is no call, the others ask calls that are not there yet.
+    Passed,
 }
 
-// Gives the word without that B.
-pub fn call_of(word: u32) -> u32 {
-    if has_block(word) { word / 256 } else { word }
+// Which change, whether its move has a block, and whether the nodes opened are told.
+#[derive(Clone, Copy)]
+pub struct Asks {
+    pub kind: Kind,
+    pub block: bool,
+    pub opened: bool,
 }
 
-// Says whether a line's word loads a board.
-pub fn is_load(word: u32) -> bool {
-    call_of(word) == LOAD
+#[derive(Clone, Copy)]
+pub enum List {
+    All,
+    Band,
+    OnK,
+    Chosen,
 }
 
-// Says whether it changes one.
-pub fn is_change(word: u32) -> bool {
-    match call_of(word) {
-        ENTER | WITHDRAW | WITHDRAW_OPENED | RECOST => true,
-        _ => false,
+#[derive(Clone, Copy)]
+pub enum Address {
+    Address,
+    Costs,
+    Region,
+}
+
+#[derive(Clone, Copy)]
+pub enum Pair {
+    Less,
+    Dominates,
+    Drawn,
+}
+
+fn change(kind: Kind, opened: bool) -> Word {
+    Word::Change(Asks {
+        kind,
+        block: false,
+        opened,
+    })
+}
+
+fn preview(kind: Kind) -> Word {
+    Word::Preview(Asks {
+        kind,
+        block: false,
+        opened: true,
+    })
+}
+
+fn letter(b: u8) -> Option<Word> {
+    Some(match b {
+        b'L' => Word::Load(false),
+        b'E' => change(Kind::Enter, false),
+        b'W' => change(Kind::Withdraw, false),
+        b'X' => change(Kind::Withdraw, true),
+        b'C' => change(Kind::Recost, false),
+        b'Q' => Word::List(List::All),
+        b'B' => Word::List(List::Band),
+        b'O' => Word::List(List::OnK),
+        b'S' => Word::List(List::Chosen),
+        b'K' => Word::Rank,
+        b'D' => Word::Pair(Pair::Less),
+        b'M' => Word::Pair(Pair::Dominates),
+        b'N' => Word::Pair(Pair::Drawn),
+        b'T' => Word::Passed,
+        _ => return None,
+    })
+}
+
+fn two_letters(a: u8, b: u8) -> Option<Word> {
+    Some(match (a, b) {
+        (b'P', b'E') => preview(Kind::Enter),
+        (b'P', b'W') => preview(Kind::Withdraw),
+        (b'P', b'C') => preview(Kind::Recost),
+        (b'H', b'O') => Word::Hours,
+        (b'A', b'2') => Word::Address(Address::Address),
+        (b'U', b'2') => Word::Address(Address::Costs),
+        (b'R', b'2') => Word::Address(Address::Region),
+        (b'S', b'F') | (b'W', b'H') => Word::Passed,
+        _ => return None,
+    })
+}
+
+impl Word {
+    // Gives what a word of these last bytes asks, zeros before a shorter one; none if nothing that
+    // is known. A B behind the word of a line with moves says that they have blocks.
+    pub fn of(bytes: [u8; 3]) -> Option<Word> {
+        match bytes {
+            [0, 0, b] => letter(b),
+            [0, a, b'B'] => letter(a)?.with_block(),
+            [0, a, b] => two_letters(a, b),
+            [a, b, b'B'] => two_letters(a, b)?.with_block(),
+            _ => None,
+        }
+    }
+
+    // Behind a word without moves that B asks the last call of its kind.
+    fn with_block(self) -> Option<Word> {
+        match self {
+            Word::Load(_) => Some(Word::Load(true)),
+            Word::Change(x) => Some(Word::Change(Asks {
+                kind: x.kind,
+                block: true,
+                opened: false,
+            })),
+            Word::Preview(x) => Some(Word::Preview(Asks {
+                kind: x.kind,
+                block: true,
+                opened: true,
+            })),
+            Word::List(_) => Some(Word::List(List::Chosen)),
+            Word::Rank => Some(Word::Rank),
+            Word::Hours => Some(Word::Hours),
+            Word::Address(_) => Some(Word::Address(Address::Region)),
+            Word::Pair(_) => Some(Word::Pair(Pair::Drawn)),
+            Word::Passed => None,
+        }
     }
 }

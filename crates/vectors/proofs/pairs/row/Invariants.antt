@@ -1,9 +1,0 @@
--- `pairs::row` meets its contract: one cost after another. Assumes nothing but what `libc` says of its calls.
-use Rattle.std.proofs.Common.{◌-◌}
-use Rattle.vectors.proofs.pairs.row.Given as goal
-
-abbrev pub invariant-loop-i : goal.invariant-loop-i
-invariant-loop-i l = Unit {0}
-
-abbrev pub decreases-loop-i : goal.decreases-loop-i
-decreases-loop-i l = 4096 - l.i
