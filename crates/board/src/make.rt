@@ -6,7 +6,6 @@ ghost use Rattle.planning.specs.Plan as plan;
 use dominance::Move;
 use memory::{Head, set_block, set_costs, set_count, set_listed};
 use planning::{ChangePlan, Kind, comes, coming_of};
-use promises::accepts;
 use tree::{enter_line, with_rows, withdraw_line};
 use upkeep::{Upkeep, set_flags};
 
@@ -72,8 +71,7 @@ pub fn carry_out(m: &mut [u8], p: ChangePlan)
     requires { plan.Able p m.old }
     ensures { plan.CarriedOut p m.old m.new }
 {
-    let verdict = p.verdict;
-    if !accepts(verdict) {
+    if p.verdict.is_err() {
         return;
     }
     make_moves(m, p);

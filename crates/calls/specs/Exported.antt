@@ -2,10 +2,9 @@
 use Rattle.std.specs.Prelude.{ℕ, List, map, ◌≡◌}
 use Rattle.model.specs.Moves as model
 use Rattle.model.specs.Calls as calls
-use Rattle.promises.specs.Answers.{number_of, counted, result_row}
+use Rattle.promises.specs.Answers.{Verdict, number_of, detail_of, counted, result_row}
 use Rattle.promises.specs.Promise.{LoadPromise, ChangePromise, PreviewPromise, QueryPromise}
 use Rattle.promises.specs.declared.CallResult as said
-use Rattle.promises.specs.declared.Verdict.{Verdict}
 use Rattle.rows.specs.Rows.{row_numbers}
 use Rattle.rows.specs.declared.row.Row.{Row}
 use Rattle.calls.specs.declared.answer.Answer.{Answer}
@@ -14,7 +13,7 @@ use Rattle.calls.specs.declared.answer.Move.{Move}
 -- A verdict handed on: its number and detail, and the counts of rows told and of nodes opened.
 pub record Handed (v : Verdict) (told nodes : ℕ) (r : Answer) : Type 0 where
   pub refusal : r.refusal ≡ number_of v
-  pub detail : r.detail ≡ v.detail
+  pub detail : r.detail ≡ detail_of v
   pub count : r.count ≡ told
   pub opened : r.opened ≡ nodes
 

@@ -1,6 +1,6 @@
 -- Plans told: what that asks, and what it leaves in the lent rows and answers.
 use Rattle.std.specs.Prelude.{ℕ, ◌+◌, ◌<◌, ◌≤◌, List, map, ◌≡◌, length}
-use Rattle.promises.specs.declared.Verdict.{Verdict}
+use Rattle.promises.specs.Answers.{Verdict}
 use Rattle.rows.specs.Rows.{row_numbers}
 use Rattle.rows.specs.Telling.{TellingAsked, filled_rows}
 use Rattle.rows.specs.declared.plan.Plan.{Plan}

@@ -1,7 +1,7 @@
 // What the exported calls take and hand back, by value.
 ghost use Rattle.calls.specs.Exported.{Handed, Answered};
 
-use promises::{Verdict, counted, number_of};
+use promises::{Verdict, counted, detail_of, number_of};
 use zorder::COSTS;
 
 // A move that enters or gets new costs.
@@ -30,7 +30,7 @@ pub fn handed(verdict: Verdict, count: usize, opened: usize) -> Answer
 {
     Answer {
         refusal: number_of(verdict) as usize,
-        detail: verdict.detail,
+        detail: detail_of(verdict),
         count,
         opened,
     }

@@ -1,48 +1,45 @@
-// The changes planned, from what the exported calls are given.
-ghost use Rattle.planning.specs.Plan.{Planned};
-ghost use Rattle.calls.specs.Asked.{asked_enter, asked_withdraw, asked_recost};
+// The changes as the code has them, from what the exported calls are given.
+ghost use Rattle.std.specs.Prelude.{◌≡◌};
+ghost use Rattle.calls.specs.Asked as spec;
 
 use crate::answer::Move;
-use planning::{Change, ChangePlan, Kind, plan_change};
+use planning::{Change, Kind};
 use zorder::COSTS;
 
-// Plans the entry of a move.
-pub fn plan_enter(memory: &[u8], given: Move, lent: usize) -> ChangePlan
-    ensures { Planned (asked_enter given) memory.now lent result }
+fn asked(kind: Kind, given: Move) -> Change
+    ensures { result ≡ spec.asked kind given }
 {
     let costs = given.costs;
-    let x = Change {
-        kind: Kind::Enter,
+    Change {
+        kind,
         number: given.number,
         block: given.block,
         costs,
-    };
-    plan_change(memory, x, lent)
+    }
 }
 
-// Plans the withdrawal of the move of a number.
-pub fn plan_withdraw(memory: &[u8], number: u16, lent: usize) -> ChangePlan
-    ensures { Planned (asked_withdraw number) memory.now lent result }
+// Asks that a move enters.
+pub fn asked_enter(given: Move) -> Change
+    ensures { result ≡ spec.asked_enter given }
 {
-    let x = Change {
+    asked(Kind::Enter, given)
+}
+
+// Asks that the move of a number is withdrawn.
+pub fn asked_withdraw(number: u16) -> Change
+    ensures { result ≡ spec.asked_withdraw number }
+{
+    Change {
         kind: Kind::Withdraw,
         number,
         block: 0,
         costs: [0u16; COSTS],
-    };
-    plan_change(memory, x, lent)
+    }
 }
 
-// Plans new costs and a block for a move.
-pub fn plan_recost(memory: &[u8], given: Move, lent: usize) -> ChangePlan
-    ensures { Planned (asked_recost given) memory.now lent result }
+// Asks for new costs and a block for a move.
+pub fn asked_recost(given: Move) -> Change
+    ensures { result ≡ spec.asked_recost given }
 {
-    let costs = given.costs;
-    let x = Change {
-        kind: Kind::Recost,
-        number: given.number,
-        block: given.block,
-        costs,
-    };
-    plan_change(memory, x, lent)
+    asked(Kind::Recost, given)
 }

@@ -1,25 +1,10 @@
 // The plan of a change told: its notice is put into the lent rows, first who leaves, then who
 // enters, and its answer is handed back.
-ghost use Rattle.std.specs.Prelude.{◌≡◌};
-ghost use Rattle.calls.specs.Exported.{Answered};
 ghost use Rattle.calls.specs.Told.{NoticeAsked, NoticeTold};
 
 use crate::answer::{Answer, answered};
 use planning::{ChangePlan, entered_of, left_of};
-use rows::{Row, Telling, fill};
-
-fn count_of(t: Telling) -> usize
-    ensures { result ≡ t.count }
-{
-    t.count
-}
-
-fn answer_of(p: ChangePlan) -> Answer
-    ensures { Answered p.verdict p.need p.opened result }
-{
-    let verdict = p.verdict;
-    answered(verdict, p.need, p.opened)
-}
+use rows::{Row, fill};
 
 // Tells a change as planned.
 pub fn tell_notice(rows: &mut [Row], memory: &[u8], p: ChangePlan) -> Answer
@@ -28,6 +13,6 @@ pub fn tell_notice(rows: &mut [Row], memory: &[u8], p: ChangePlan) -> Answer
 {
     let left = left_of(p);
     fill(rows, memory, left, 0);
-    fill(rows, memory, entered_of(p), count_of(left));
-    answer_of(p)
+    fill(rows, memory, entered_of(p), left.count);
+    answered(p.verdict, p.need, p.opened)
 }

@@ -7,14 +7,14 @@ ghost use Rattle.planning.specs.Plan.{left_of, entered_of};
 use crate::plain::Plain;
 use crate::table::{Table, WANT, put_row, same_rows};
 use planning::{ChangePlan, entered_of, left_of};
-use promises::{Verdict, counted, number_of};
+use promises::{Verdict, counted, detail_of, number_of};
 use rows::{Plan, Telling, told_next};
 
 // Gives the board with what a call said: of a refused one the counts are zero.
 pub fn spoken(b: Plain, v: Verdict, need: usize, opened: usize) -> Plain {
     let mut said = b;
     said.refusal = number_of(v) as usize;
-    said.detail = v.detail;
+    said.detail = detail_of(v);
     said.count = counted(v, need);
     said.opened = counted(v, opened);
     said.right = true;

@@ -17,6 +17,5 @@ pub extern "C" fn dolzhev_rank(memory: &[u8], t: usize, rows: &mut [[u16; ROW]])
         (map result_row rows.old) result (map result_row rows.new) }
 {
     let r = rank(memory, t, rows);
-    let verdict = r.verdict;
-    handed(verdict, r.count, r.opened)
+    handed(r.verdict, r.count, r.opened)
 }

@@ -2,18 +2,18 @@
 // those do.
 #![tactic(auto)]
 
-ghost use Rattle.std.specs.Prelude.{◌≡◌};
-ghost use Rattle.zorder.specs.Promise.{number_of};
 ghost use Rattle.dolzhev_zorder.specs.Exported.{AddressExported, CostsExported};
 ghost use Rattle.dolzhev_zorder.specs.Exported.{RegionExported};
 
-use zorder::{AddressWords, COSTS, Verdict};
+use zorder::{AddressWords, COSTS};
 
 #[repr(C)]
 #[derive(Clone, Copy)]
 pub struct Costs {
     pub costs: [u16; COSTS],
 }
+
+const NO_COSTS: Costs = Costs { costs: [0; COSTS] };
 
 // Each answer: document 01's number of the refusal and its detail, then what is told, zero where
 // refused.
@@ -43,29 +43,22 @@ pub struct RegionAnswer {
     pub side: usize,
 }
 
-fn number_of(v: Verdict) -> usize
-    ensures { result ≡ number_of v }
-{
-    match v {
-        Verdict::Accepted => 0,
-        Verdict::BadCostCount => 2,
-        Verdict::BadArgument => 7,
-    }
-}
-
 // Gives the address of the first d costs.
 #[unsafe(no_mangle)]
 pub extern "C" fn dolzhev_address(d: usize, costs: Costs) -> AddressAnswer
     ensures { AddressExported d costs.costs result }
 {
-    let cs = costs.costs;
-    let r = zorder::address(d, cs);
-    let v = r.verdict;
-    let address = r.address;
-    AddressAnswer {
-        refusal: number_of(v),
-        detail: 0,
-        address,
+    match zorder::address(d, costs.costs) {
+        Ok(address) => AddressAnswer {
+            refusal: 0,
+            detail: 0,
+            address,
+        },
+        Err(refusal) => AddressAnswer {
+            refusal: usize::from(refusal),
+            detail: 0,
+            address: AddressWords { upper: 0, lower: 0 },
+        },
     }
 }
 
@@ -74,14 +67,17 @@ pub extern "C" fn dolzhev_address(d: usize, costs: Costs) -> AddressAnswer
 pub extern "C" fn dolzhev_costs_of(d: usize, address: AddressWords) -> CostsAnswer
     ensures { CostsExported d address result }
 {
-    let r = zorder::costs(d, address);
-    let v = r.verdict;
-    let cs = r.costs;
-    let costs = Costs { costs: cs };
-    CostsAnswer {
-        refusal: number_of(v),
-        detail: 0,
-        costs,
+    match zorder::costs(d, address) {
+        Ok(costs) => CostsAnswer {
+            refusal: 0,
+            detail: 0,
+            costs: Costs { costs },
+        },
+        Err(refusal) => CostsAnswer {
+            refusal: usize::from(refusal),
+            detail: 0,
+            costs: NO_COSTS,
+        },
     }
 }
 
@@ -90,17 +86,24 @@ pub extern "C" fn dolzhev_costs_of(d: usize, address: AddressWords) -> CostsAnsw
 pub extern "C" fn dolzhev_region(d: usize, a: AddressWords, b: AddressWords) -> RegionAnswer
     ensures { RegionExported d a b result }
 {
-    let r = zorder::region(d, a, b);
-    let v = r.verdict;
-    let n = r.near;
-    let f = r.far;
-    let near = Costs { costs: n };
-    let far = Costs { costs: f };
-    RegionAnswer {
-        refusal: number_of(v),
-        detail: 0,
-        near,
-        far,
-        side: r.side as usize,
+    match zorder::region(d, a, b) {
+        Ok(square) => {
+            let n = square.near;
+            let f = square.far;
+            RegionAnswer {
+                refusal: 0,
+                detail: 0,
+                near: Costs { costs: n },
+                far: Costs { costs: f },
+                side: square.side as usize,
+            }
+        }
+        Err(refusal) => RegionAnswer {
+            refusal: usize::from(refusal),
+            detail: 0,
+            near: NO_COSTS,
+            far: NO_COSTS,
+            side: 0,
+        },
     }
 }

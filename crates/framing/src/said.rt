@@ -8,7 +8,7 @@ ghost use Rattle.framing.specs.Writing as spec;
 use crate::told::put_told;
 use frame_lines::{put_head, put_refusal, put_word, two_bytes};
 use planning::{ChangePlan, entered_of, left_of};
-use promises::{Verdict, number_of};
+use promises::{Verdict, detail_of, number_of};
 use rows::Plan;
 
 // Puts what a load says: it tells no row, and accepted it says 0 and 0.
@@ -17,7 +17,7 @@ pub fn put_loaded(out: &mut [u8], verdict: Verdict) -> usize
     ensures { TextPut (answer_text 0 (spec.load_said verdict))
         out.old 0 out.new result }
 {
-    put_refusal(out, number_of(verdict), verdict.detail)
+    put_refusal(out, number_of(verdict), detail_of(verdict))
 }
 
 // Puts what a list says, with the nodes opened and its rows.
@@ -26,11 +26,9 @@ pub fn put_list(out: &mut [u8], m: &[u8], d: usize, p: Plan) -> usize
     ensures { TextPut (answer_text d (spec.list_said p m.now))
         out.old 0 out.new result }
 {
-    let verdict = p.verdict;
     let telling = p.telling;
-    let number = number_of(verdict);
-    if number != 0 {
-        return put_refusal(out, number, verdict.detail);
+    if p.verdict.is_err() {
+        return put_refusal(out, number_of(p.verdict), detail_of(p.verdict));
     }
     let opened_at = put_head(out, 0, p.need);
     let rows_at = put_word(out, opened_at, two_bytes(p.opened));
@@ -45,10 +43,8 @@ pub fn put_change(out: &mut [u8], m: &[u8], d: usize, p: ChangePlan) -> usize
     ensures { TextPut (answer_text d (spec.change_said p m.now))
         out.old 0 out.new result }
 {
-    let verdict = p.verdict;
-    let number = number_of(verdict);
-    if number != 0 {
-        return put_refusal(out, number, verdict.detail);
+    if p.verdict.is_err() {
+        return put_refusal(out, number_of(p.verdict), detail_of(p.verdict));
     }
     let left_at = put_head(out, 0, p.need);
     let entered_at = put_told(out, left_at, d, m, left_of(p));

@@ -11,7 +11,6 @@ use frame_lines::{Frame, Line, frame_of, put_refusal};
 use listing::plan_list;
 use loading::{INPUT, load};
 use planning::{Change, Kind, plan_change};
-use promises::number_of;
 use zorder::COSTS;
 
 // The answer has `answered` bytes, and the board `dimension` costs from now on: 0 before the first
@@ -32,7 +31,7 @@ fn loaded(m: &mut [u8], d: usize, asked: usize, out: &mut [u8]) -> Response
     let none = [[0u16; INPUT]; 0];
     let verdict = load(m, SIZE, asked, &none);
     let answered = put_loaded(out, verdict);
-    if number_of(verdict) == 0 {
+    if verdict.is_ok() {
         return Response {
             answered,
             dimension: asked,

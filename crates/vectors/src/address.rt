@@ -3,16 +3,20 @@ use crate::said::{Said, put, put_all};
 use crate::values::{costs, value, value_after};
 use crate::word::{ADDRESS, COSTS_OF};
 use std::io;
-use zorder::{AddressWords, COSTS, Verdict};
+use zorder::{AddressWords, COSTS, Refusal, Square};
 
-// The answer of a call of `zorder`, whose detail is always 0.
-fn put_verdict(rt: &impl Print, values: &[u64], s: Said, v: Verdict) -> io::Result<Said> {
-    let refusal = match v {
-        Verdict::Accepted => 0,
-        Verdict::BadCostCount => 2,
-        Verdict::BadArgument => 7,
+// The number of a call of `zorder`, 0 if it accepts, and its detail, which is always 0.
+fn put_number<T>(
+    rt: &impl Print,
+    values: &[u64],
+    s: Said,
+    answer: &Result<T, Refusal>,
+) -> io::Result<Said> {
+    let number = match answer {
+        Ok(_) => 0,
+        Err(refusal) => usize::from(*refusal) as u64,
     };
-    let r = put(rt, values, s, refusal)?;
+    let r = put(rt, values, s, number)?;
     put(rt, values, r, 0)
 }
 
@@ -30,30 +34,29 @@ fn words(values: &[u64], i: usize) -> AddressWords {
 
 fn address(rt: &impl Print, values: &[u64], d: usize, s: Said) -> io::Result<Said> {
     let r = zorder::address(d, costs(values, 1));
-    let v = r.verdict;
-    let a = r.address;
-    let judged = put_verdict(rt, values, s, v)?;
+    let judged = put_number(rt, values, s, &r)?;
+    let a = r.unwrap_or(AddressWords { upper: 0, lower: 0 });
     let upper = put(rt, values, judged, a.upper)?;
     put(rt, values, upper, a.lower)
 }
 
 fn costs_of(rt: &impl Print, values: &[u64], d: usize, s: Said) -> io::Result<Said> {
     let r = zorder::costs(d, words(values, 1));
-    let v = r.verdict;
-    let cs = r.costs;
-    let judged = put_verdict(rt, values, s, v)?;
-    put_costs(rt, values, judged, cs)
+    let judged = put_number(rt, values, s, &r)?;
+    put_costs(rt, values, judged, r.unwrap_or([0; COSTS]))
 }
 
 fn region(rt: &impl Print, values: &[u64], d: usize, s: Said) -> io::Result<Said> {
     let r = zorder::region(d, words(values, 1), words(values, 3));
-    let v = r.verdict;
-    let near = r.near;
-    let far = r.far;
-    let judged = put_verdict(rt, values, s, v)?;
-    let corner = put_costs(rt, values, judged, near)?;
-    let corners = put_costs(rt, values, corner, far)?;
-    put(rt, values, corners, r.side as u64)
+    let judged = put_number(rt, values, s, &r)?;
+    let square = r.unwrap_or(Square {
+        near: [0; COSTS],
+        far: [0; COSTS],
+        side: 0,
+    });
+    let corner = put_costs(rt, values, judged, square.near)?;
+    let corners = put_costs(rt, values, corner, square.far)?;
+    put(rt, values, corners, square.side as u64)
 }
 
 // Answers a line on addresses or regions.

@@ -5,14 +5,14 @@ ghost use Rattle.planning.specs.Plan.{left_of, entered_of};
 
 use crate::said::{Said, put, put_all};
 use planning::{ChangePlan, entered_of, left_of};
-use promises::{CallResult, Verdict, counted, number_of};
+use promises::{CallResult, Verdict, counted, detail_of, number_of};
 use rows::{Plan, ROW, Telling, told_next};
 use std::io;
 
 // Adds the refusal and its detail to what is said.
 pub fn put_verdict(rt: &impl Print, values: &[u64], s: Said, v: Verdict) -> io::Result<Said> {
     let r = put(rt, values, s, number_of(v) as u64)?;
-    put(rt, values, r, v.detail as u64)
+    put(rt, values, r, detail_of(v) as u64)
 }
 
 // Adds what a call on a board answers.

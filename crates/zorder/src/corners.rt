@@ -2,13 +2,14 @@
 ghost use Rattle.std.specs.Prelude.{◌≡◌, ℕ, map, ◌≤◌, ◌<◌, ◌*◌, ◌^◌, take};
 ghost use Rattle.zorder.specs.Address.{row_costs, cost_bits, padded};
 ghost use Rattle.zorder.specs.Region as definition;
-ghost use Rattle.zorder.specs.Promise.{RegionPromise, RefusedRegion};
+ghost use Rattle.zorder.specs.Promise.{RegionPromise};
 ghost use Rattle.zorder.specs.Words.{value};
 
 use crate::interleave::cost_count_bad;
+use crate::refusal::check;
 use crate::separate::{separated, too_large};
 use crate::two_words::{below, leading_zeros, xor};
-use crate::{AddressWords, BITS, COSTS, RegionResult, Verdict};
+use crate::{AddressWords, BITS, COSTS, Refusal, Square};
 
 // How many groups of the two addresses are not kept.
 fn unkept(d: usize, a: AddressWords, b: AddressWords) -> usize
@@ -72,33 +73,19 @@ pub(crate) fn far(d: usize, u: usize, costs: [u16; COSTS]) -> [u16; COSTS]
     corner(d, u, costs, ones_below)
 }
 
-fn refused(verdict: Verdict) -> RegionResult
-    ensures { RefusedRegion verdict result }
-{
-    RegionResult {
-        verdict,
-        near: [0u16; COSTS],
-        far: [0u16; COSTS],
-        side: 0,
-    }
-}
-
 // Gives the region of two addresses, or says why there is none.
-pub fn region(d: usize, a: AddressWords, b: AddressWords) -> RegionResult
+pub fn region(d: usize, a: AddressWords, b: AddressWords) -> Result<Square, Refusal>
     ensures { RegionPromise d (value a) (value b) result }
 {
-    if cost_count_bad(d) {
-        return refused(Verdict::BadCostCount);
-    }
-    if too_large(d, a) || too_large(d, b) || below(b, a) {
-        return refused(Verdict::BadArgument);
-    }
+    check(cost_count_bad(d), Refusal::BadCostCount)?;
+    check(too_large(d, a), Refusal::BadArgument)?;
+    check(too_large(d, b), Refusal::BadArgument)?;
+    check(below(b, a), Refusal::BadArgument)?;
     let u = unkept(d, a, b);
     let costs = separated(d, a);
-    RegionResult {
-        verdict: Verdict::Accepted,
+    Ok(Square {
         near: near(d, u, costs),
         far: far(d, u, costs),
         side: 1u32 << u,
-    }
+    })
 }

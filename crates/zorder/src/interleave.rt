@@ -6,8 +6,9 @@ ghost use Rattle.zorder.specs.Refusal.{all_zero, cost_count_bad};
 ghost use Rattle.zorder.specs.Promise.{AddressPromise};
 ghost use Rattle.zorder.specs.Words.{value};
 
+use crate::refusal::check;
 use crate::two_words::shift_in;
-use crate::{AddressResult, AddressWords, BITS, COSTS, Verdict};
+use crate::{AddressWords, BITS, COSTS, Refusal};
 
 // Gives the group for bit j of the first d costs.
 pub(crate) fn group(d: usize, costs: [u16; COSTS], j: usize) -> u64
@@ -49,23 +50,10 @@ pub fn cost_count_bad(d: usize) -> bool
 }
 
 // Gives the address of a row of costs, or says why there is none.
-pub fn address(d: usize, costs: [u16; COSTS]) -> AddressResult
+pub fn address(d: usize, costs: [u16; COSTS]) -> Result<AddressWords, Refusal>
     ensures { AddressPromise d costs result }
 {
-    if cost_count_bad(d) {
-        return AddressResult {
-            verdict: Verdict::BadCostCount,
-            address: AddressWords { upper: 0, lower: 0 },
-        };
-    }
-    if zero_past(d, costs) {
-        return AddressResult {
-            verdict: Verdict::Accepted,
-            address: interleaved(d, costs),
-        };
-    }
-    AddressResult {
-        verdict: Verdict::BadArgument,
-        address: AddressWords { upper: 0, lower: 0 },
-    }
+    check(cost_count_bad(d), Refusal::BadCostCount)?;
+    check(!zero_past(d, costs), Refusal::BadArgument)?;
+    Ok(interleaved(d, costs))
 }

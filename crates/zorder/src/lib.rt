@@ -8,12 +8,14 @@
 mod between;
 mod corners;
 mod interleave;
+mod refusal;
 mod separate;
 mod two_words;
 
 pub use between::{compare, far_of, near_of, side_of};
 pub use corners::region;
 pub use interleave::{address, cost_count_bad, zero_past};
+pub use refusal::Refusal;
 pub use separate::costs;
 
 // How many costs a row holds.
@@ -21,14 +23,6 @@ pub const COSTS: usize = 8;
 
 // How many bits a cost has, and so how many groups an address has.
 pub const BITS: usize = 16;
-
-// What a call of this crate says: document 01's 0, 2 and 7.
-#[derive(Clone, Copy)]
-pub enum Verdict {
-    Accepted,
-    BadCostCount,
-    BadArgument,
-}
 
 // An address of up to 128 bits: upper * 2^64 + lower.
 #[repr(C)]
@@ -38,21 +32,9 @@ pub struct AddressWords {
     pub lower: u64,
 }
 
+// What a region is told by: it is a square.
 #[derive(Clone, Copy)]
-pub struct AddressResult {
-    pub verdict: Verdict,
-    pub address: AddressWords,
-}
-
-#[derive(Clone, Copy)]
-pub struct CostsResult {
-    pub verdict: Verdict,
-    pub costs: [u16; COSTS],
-}
-
-#[derive(Clone, Copy)]
-pub struct RegionResult {
-    pub verdict: Verdict,
+pub struct Square {
     pub near: [u16; COSTS],
     pub far: [u16; COSTS],
     pub side: u32,

@@ -7,8 +7,9 @@ ghost use Rattle.zorder.specs.Promise.{CostsPromise};
 ghost use Rattle.zorder.specs.Words.{value};
 
 use crate::interleave::cost_count_bad;
+use crate::refusal::check;
 use crate::two_words::{bit, leading_zeros};
-use crate::{AddressWords, BITS, COSTS, CostsResult, Verdict};
+use crate::{AddressWords, BITS, COSTS, Refusal};
 
 // The cost whose bits stand at place e, counted from the right, of each group of d.
 fn cost_in(d: usize, a: AddressWords, e: usize) -> u16
@@ -43,23 +44,10 @@ pub(crate) fn too_large(d: usize, a: AddressWords) -> bool
 }
 
 // Gives the costs of an address, or says why there are none.
-pub fn costs(d: usize, address: AddressWords) -> CostsResult
+pub fn costs(d: usize, address: AddressWords) -> Result<[u16; COSTS], Refusal>
     ensures { CostsPromise d (value address) result }
 {
-    if cost_count_bad(d) {
-        return CostsResult {
-            verdict: Verdict::BadCostCount,
-            costs: [0u16; COSTS],
-        };
-    }
-    if too_large(d, address) {
-        return CostsResult {
-            verdict: Verdict::BadArgument,
-            costs: [0u16; COSTS],
-        };
-    }
-    CostsResult {
-        verdict: Verdict::Accepted,
-        costs: separated(d, address),
-    }
+    check(cost_count_bad(d), Refusal::BadCostCount)?;
+    check(too_large(d, address), Refusal::BadArgument)?;
+    Ok(separated(d, address))
 }

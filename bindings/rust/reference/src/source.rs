@@ -6,20 +6,37 @@ use std::path::Path;
 type Texts = &'static [&'static str];
 
 /// A function of the comparison: where it stands, each call that it makes, and the lines in which it may decide, in their
-/// order. None of these reads a cost.
+/// order. None of these reads a cost. `given` is the name of a function that it calls and is handed, or the array's own;
+/// `whole` is all that it says, where it hands a function on: what is handed is no call, and shows in the text alone.
 struct Function {
     krate: &'static str,
     name: &'static str,
     calls: Texts,
     decides: Texts,
+    given: &'static str,
+    whole: &'static str,
 }
 
 const fn function(krate: &'static str, name: &'static str, calls: Texts, decides: Texts) -> Function {
-    Function { krate, name, calls, decides }
+    Function { krate, name, calls, decides, given: "", whole: "" }
+}
+
+const fn handed(
+    krate: &'static str,
+    name: &'static str,
+    given: &'static str,
+    calls: Texts,
+    decides: Texts,
+) -> Function {
+    Function { krate, name, calls, decides, given, whole: "" }
+}
+
+const fn handing(krate: &'static str, name: &'static str, calls: Texts, whole: &'static str) -> Function {
+    Function { krate, name, calls, decides: &[], given: "", whole }
 }
 
 /// The end of the loop.
-const LOOP: &str = "while i < COSTS {";
+const LOOP: &str = "for i in 0..COSTS {";
 /// The test of what was gathered.
 const ANY: &str = "0 < greater";
 /// The test of a number of costs.
@@ -28,30 +45,36 @@ const ON_K: &str = "(k <= d - greater) & exceeds(d, q, p)";
 const LOWER: &str = "let lower = 0 < less(p.number, q.number);";
 
 /// The ends of the loops over columns: the costs of one, all of them, the hiders, and the costs of a move that becomes one.
-const COLUMN: &str = "while k < w {";
-const COLUMNS: &str = "while j < COLUMNS {";
-const HIDERS: &str = "while j < HIDERS {";
-const PUT: &str = "while k < COSTS {";
+const COLUMN: &str = "for k in 0..w {";
+const COLUMNS: &str = "for j in 0..COLUMNS {";
+const HIDERS: &str = "for j in 0..HIDERS {";
+const PUT: &str = "for k in 0..COSTS {";
 
 /// Whatever one of these calls is one of them, so that no branch hides in a callee.
-const FUNCTIONS: [Function; 24] = [
+const FUNCTIONS: [Function; 30] = [
     function("dominance", "wide", &[], &[]),
     function("dominance", "less", &["wide", "wide"], &[]),
     function("dominance", "first_factor", &[], &[]),
+    function("dominance", "set_factor", &[], &[]),
     function("dominance", "choose", &[], &[]),
     function("dominance", "less_times", &["less"], &[]),
-    function("dominance", "exceeds", &["first_factor", "less_times"], &[LOOP, ANY]),
-    function("dominance", "exceeds_in", &["less_times"], &[LOOP, ANY]),
+    handed("dominance", "any_greater", "factor", &["factor", "less_times"], &[LOOP, ANY]),
+    handing("dominance", "exceeds", &["any_greater"], "{ any_greater(first_factor, d, p, q) }"),
+    handing("dominance", "exceeds_in", &["any_greater"], "{ any_greater(set_factor, set, p, q) }"),
     function("dominance", "count_greater", &["first_factor", "less_times"], &[LOOP]),
     function("dominance", "dominates", &["exceeds", "exceeds"], &[]),
     function("dominance", "hides", &["exceeds", "exceeds", "less"], &[LOWER]),
-    function("dominance", "bounds_of", &["choose", "first_factor"], &[LOOP]),
-    function("dominance", "bounds_in", &["choose"], &[LOOP]),
+    handed("dominance", "bounds_by", "factor", &["choose", "factor"], &[LOOP]),
+    handing("dominance", "bounds_of", &["bounds_by"], "{ bounds_by(first_factor, d, q) }"),
+    handing("dominance", "bounds_in", &["bounds_by"], "{ bounds_by(set_factor, set, q) }"),
     function("dominance", "over", &["choose", "less"], &[]),
-    function("dominance", "least", &["over"], &[LOOP]),
-    function("dominance", "greatest", &["over"], &[LOOP]),
+    function("dominance", "lesser", &["over"], &[]),
+    function("dominance", "greater", &["over"], &[]),
+    handed("dominance", "by_cost", "of", &["of"], &[LOOP]),
+    handing("dominance", "least", &["by_cost"], "{ by_cost(lesser, p, q) }"),
+    handing("dominance", "greatest", &["by_cost"], "{ by_cost(greater, p, q) }"),
     function("search", "lack", &[], &[]),
-    function("search", "from_above", &["lack"], &[LOOP]),
+    Function { given: "map", ..handing("search", "from_above", &["map"], "{ costs.map(lack) }") },
     function("search", "zero", &["less"], &[]),
     function("search", "fits_column", &["over", "zero"], &[COLUMN]),
     function("search", "fitting", &["fits_column"], &[COLUMNS]),
@@ -109,7 +132,7 @@ fn bodies<'a>(words: &'a [Word<'a>], name: &str) -> Vec<&'a [Word<'a>]> {
             let mut at = start + 2;
             at += group(&words[at..], "(", ")");
             while words[at].text != "{" {
-                let contract = words[at].text == "requires" || words[at].text == "ensures";
+                let contract = ["requires", "ensures", "ghost"].contains(&words[at].text);
                 at += 1;
                 if contract {
                     at += words[at..].iter().take_while(|w| w.text != "{").count();
@@ -149,6 +172,9 @@ fn faults_of(function: &Function, body: &[Word]) -> Vec<String> {
     if calls != function.calls {
         faults.push(format!("calls {calls:?}"));
     }
+    if !function.whole.is_empty() && !is_text(body, function.whole) {
+        faults.push(format!("says not `{}`", function.whole));
+    }
     faults
 }
 
@@ -182,7 +208,7 @@ pub fn faults(source: impl Fn(&str) -> String) -> Vec<String> {
             [body] => faults_of(function, body),
             ref found => vec![format!("found {} times", found.len())],
         };
-        let unknown = function.calls.iter().filter(|c| !is_known(&words, c));
+        let unknown = function.calls.iter().filter(|c| **c != function.given && !is_known(&words, c));
         found.extend(unknown.map(|callee| format!("which `{callee}` is meant?")));
         faults.extend(found.iter().map(|what| format!("{}::{}: {what}", function.krate, function.name)));
     }

@@ -14,8 +14,7 @@ use Rattle.model.specs.Changing.{change_tree}
 use Rattle.model.proofs.Laws.Changes.{accepted-passes, nothing-keeps}
 use Rattle.promises.specs.Layout.{size_in, dimension_in, board_in}
 use Rattle.promises.specs.Sound.{Sound}
-use Rattle.promises.specs.Answers.{number_of, result_row, rows_after, outcome_number}
-use Rattle.promises.specs.declared.Verdict.{Verdict}
+use Rattle.promises.specs.Answers.{Verdict, number_of, result_row, rows_after}
 use Rattle.promises.specs.Written.{block_writes, change_writes}
 use Rattle.promises.specs.Promise.{MemoryAfter, ChangeSaid, ChangePromise}
 use Rattle.memory.specs.Stores.{set_block}
@@ -121,7 +120,6 @@ module _ {x : Change} {m m' : List ℕ} {lent : ℕ} {p : ChangePlan} (plan : Pl
           given-again s x.kind x.number x.block x.costs (accepted-passed s z) e (kept-moves s (nothing-keeps (board_in m) (call_of x) e) z) (block-given z)
 
   plan-unsaid : (Sound m → ⊥) → m' ≡ m
-  unfolding outcome_number
   plan-unsaid bad = out.refused (omega (arith, ap (λ (v : Verdict). number_of v) (plan.foreseen.unsound bad)))
 
 pub plan-promise : {x : Change} {m m' : List ℕ} {p : ChangePlan} (rows : List (List ℕ)) {after : List Row} → Planned x m (length (map result_row rows)) p → CarriedOut p m m'

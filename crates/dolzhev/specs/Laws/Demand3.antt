@@ -5,11 +5,10 @@ use Rattle.std.proofs.Common.{sym, ap, ap₂, ◌∙◌, subst}
 use Rattle.model.specs.Calls as calls
 use Rattle.model.specs.Calls.{loaded}
 use Rattle.model.specs.Holder.{change, preview, list_call, other, Demand3}
-use Rattle.promises.specs.Answers.{answer_of}
+use Rattle.promises.specs.Answers.{Verdict, answer_of}
 use Rattle.promises.specs.Run as run
 use Rattle.promises.specs.Run.{Step, History, event_of, run_of, EachRun}
 use Rattle.promises.proofs.Demand3.{each-run}
-use Rattle.promises.specs.declared.Verdict.{Verdict}
 use Rattle.calls.specs.Exported.{Handed}
 use Rattle.dolzhev.specs.Run.{ExportedStep, changes, previews, lists, queries, load_refused, answered, exported_event, ExportedHistory, end, call, load, exported_run, EachExported}
 use Rattle.calls.specs.declared.answer.Answer.{Answer}

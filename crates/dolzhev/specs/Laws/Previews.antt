@@ -4,7 +4,7 @@ use Rattle.std.specs.Prelude.{ℕ, List, ◌≡◌}
 use Rattle.std.proofs.Common.{sym, ap, ◌∙◌}
 use Rattle.model.specs.Moves.{Row}
 use Rattle.model.specs.Calls.{Change}
-use Rattle.promises.specs.Answers.{number_of}
+use Rattle.promises.specs.Answers.{number_of, detail_of}
 use Rattle.promises.specs.Run.{Bytes}
 use Rattle.promises.specs.declared.CallResult as said
 use Rattle.soundness.specs.Laws.Answers.{preview-equal}
@@ -15,7 +15,7 @@ use Rattle.calls.specs.declared.answer.Answer.{Answer}
 handed-same : {a b : said.CallResult} {r s : Answer} → a ≡ b → Handed a.verdict a.count a.opened r → Handed b.verdict b.count b.opened s → r ≡ s
 handed-same e h k =
     let refusal = h.refusal ∙ ap (λ (a : said.CallResult). number_of a.verdict) e ∙ sym k.refusal in
-    let detail = h.detail ∙ ap (λ (a : said.CallResult). a.verdict.detail) e ∙ sym k.detail in
+    let detail = h.detail ∙ ap (λ (a : said.CallResult). detail_of a.verdict) e ∙ sym k.detail in
     let count = h.count ∙ ap (λ (a : said.CallResult). a.count) e ∙ sym k.count in
     let opened = h.opened ∙ ap (λ (a : said.CallResult). a.opened) e ∙ sym k.opened in
     (λ i. record { refusal = refusal i; detail = detail i; count = count i; opened = opened i })

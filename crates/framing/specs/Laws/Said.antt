@@ -6,8 +6,7 @@ use Rattle.std.proofs.Common.{ap, ◌∙◌, eq-eqb, ne_eqb, eqb-true, arith}
 use Rattle.std.proofs.Math.ListN.{length, length-append}
 use Rattle.model.specs.Calls as calls
 use Rattle.model.proofs.Laws.Bool.{test_cases}
-use Rattle.promises.specs.Answers.{number_of, answer_of}
-use Rattle.promises.specs.declared.Verdict.{Verdict}
+use Rattle.promises.specs.Answers.{Verdict, number_of, detail_of, answer_of}
 use Rattle.frame_lines.specs.Text.{byte_text, word_text, row_text, rows_text, Reply, refused, notice, listed, said_text, answer_text, line_end}
 use Rattle.frame_lines.specs.Put.{TextPut, head_text}
 use Rattle.frame_lines.specs.Laws.Put.{put_one, put_both, put_as}
@@ -21,17 +20,17 @@ use Rattle.framing.specs.Writing.{telling_rows, TextRoom, ListRoom, ChangeRoom, 
 use Rattle.framing.specs.Laws.Rows.{flat_map-append}
 use Rattle.framing.specs.Laws.Told.{telling-count, telling-most, room_at}
 
-pub refused-text : (d : ℕ) (v : Verdict) (s : Reply) {n : ℕ} → n ≡ number_of v → (n ≡ 0 → ⊥) → answer_text 0 (refused n v.detail) ≡ answer_text d (said_by (answer_of v) s)
+pub refused-text : (d : ℕ) (v : Verdict) (s : Reply) {n k : ℕ} → n ≡ number_of v → k ≡ detail_of v → 0 < number_of v → answer_text 0 (refused n k) ≡ answer_text d (said_by (answer_of v) s)
 unfolding answer_text said_text said_by
-refused-text d v s {n} number refuses =
-    ap (λ (x : ℕ). answer_text d (refused x v.detail)) number
-    ∙ ap (λ (b : Bool). answer_text d (cond b s (refused (number_of v) v.detail)))
-    (sym (ne_eqb (number_of v) 0 (λ z. refuses (number ∙ z))))
+refused-text d v s number detail refuses =
+    ap₂ (λ (n k : ℕ). answer_text d (refused n k)) number detail
+    ∙ ap (λ (b : Bool). answer_text d (cond b s (refused (number_of v) (detail_of v))))
+    (sym (ne_eqb (number_of v) 0 (λ z. omega (arith, refuses, z))))
 
 pub accepted-text : (d : ℕ) (v : Verdict) (s : Reply) → number_of v ≡ 0 → answer_text d s ≡ answer_text d (said_by (answer_of v) s)
 unfolding said_by
 accepted-text d v s accepts =
-    ap (λ (b : Bool). answer_text d (cond b s (refused (number_of v) v.detail))) (sym (eq-eqb (number_of v) 0 accepts))
+    ap (λ (b : Bool). answer_text d (cond b s (refused (number_of v) (detail_of v)))) (sym (eq-eqb (number_of v) 0 accepts))
 
 -- Where no row is told, 0 and a detail of 0 are the text of an accepted call.
 pub none-text : (d : ℕ) (a : calls.Answer) → a.detail ≡ 0 → answer_text 0 (refused a.number a.detail) ≡ answer_text d (said_by a (notice []))

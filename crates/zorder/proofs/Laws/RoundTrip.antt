@@ -1,18 +1,16 @@
 -- Demand 2's round trip: costs that are accepted give an address that gives those costs back, and the other way round.
-use Rattle.std.specs.Prelude.{ℕ, ◌-◌, ◌*◌, ◌^◌, ◌≤◌, ◌<◌, Bool, false, List, [], ◌∷◌, ◌≡◌, refl, length, get_or, replicate}
-use Rattle.std.proofs.Common.{sym, ◌∙◌, subst, mul_comm, arith, take_at}
+use Rattle.std.specs.Prelude.{ℕ, ◌-◌, ◌*◌, ◌^◌, ◌≤◌, ◌<◌, Bool, false, List, [], ◌∷◌, Result, Ok, Err, IsOk, ◌≡◌, refl, length, get_or, replicate}
+use Rattle.std.proofs.Common.{true≢false, sym, ◌∙◌, subst, mul_comm, arith, take_at}
 use Rattle.std.proofs.Math.Path.{ap}
 use borrow.Author.Tests.{lt-leb}
 use Rattle.zorder.specs.Address.{row_costs, cost_bits, groups, address, costs_of, padded}
 use Rattle.zorder.specs.Between.{RowCosts}
 use Rattle.zorder.specs.Promise.{number_of, AddressPromise, CostsPromise}
-use Rattle.zorder.specs.Refusal.{refusal, or_zero, or_zeros, cost_count_bad, cost_past_bad, address_bad, address_refusal, costs_refusal}
+use Rattle.zorder.specs.Refusal.{refusal, cost_count_bad, cost_past_bad, address_bad, address_refusal, costs_refusal}
 use Rattle.zorder.specs.Words.{word_bits, value, words_of}
 use Rattle.zorder.specs.declared.AddressWords.{AddressWords}
-use Rattle.zorder.specs.declared.Verdict.{Verdict}
-use Rattle.zorder.specs.declared.Verdict.TheVariants.{Accepted, BadCostCount, BadArgument}
-use Rattle.zorder.specs.declared.AddressResult.{AddressResult}
-use Rattle.zorder.specs.declared.CostsResult.{CostsResult}
+use Rattle.zorder.specs.declared.refusal.Refusal.{Refusal}
+use Rattle.zorder.specs.declared.refusal.Refusal.TheVariants.{BadCostCount, BadArgument}
 use Rattle.zorder.proofs.Laws.Address.{address-lt'}
 use Rattle.zorder.proofs.Laws.Between.{padded-row, row-costs, row-padded}
 use Rattle.zorder.proofs.Laws.Inverse.{costs_of-costs, address-costs, costs-address}
@@ -42,11 +40,11 @@ module _ (d a : ℕ) (l : d ≤ row_costs) where
 
 -- ---- the two calls, by their promises alone
 
-pub accepted-number : (v : Verdict) → number_of v ≡ 0 → v ≡ Accepted
+pub accepted-number : {T : Type 0} (r : Result T Refusal) → number_of r ≡ 0 → IsOk r
 unfolding number_of
-accepted-number Accepted e = refl
-accepted-number BadCostCount e = absurd (omega arith)
-accepted-number BadArgument e = absurd (omega arith)
+accepted-number (Ok told) e = refl
+accepted-number (Err BadCostCount) e = absurd (omega arith)
+accepted-number (Err BadArgument) e = absurd (omega arith)
 
 -- Checks that turn a call down give its number, so an accepted call passed both.
 passed : (a b : Bool) → refusal ((a, 2) ∷ (b, 7) ∷ []) ≡ 0 → (a ≡ false) × (b ≡ false)
@@ -56,67 +54,55 @@ accepts : {a b : Bool} → a ≡ false → b ≡ false → refusal ((a, 2) ∷ (
 unfolding refusal
 accepts {a} {b} e f = rw (e, f)
 
-number-zero : {v : Verdict} → v ≡ Accepted → number_of v ≡ 0
+-- An accepted call has the number 0.
+number-zero : {T : Type 0} (told : T) → number_of (Ok told) ≡ 0
 unfolding number_of
-number-zero e = ap number_of e
+number-zero told = refl
+
+told-costs : (d a : ℕ) (s : Result (List ℕ) Refusal) → CostsPromise d a s → IsOk s → s ≡ Ok (padded d (costs_of d a))
+told-costs d a (Ok cs) q ok = ap Ok q.costs
+told-costs d a (Err e) q ok = absurd (true≢false (sym ok))
+
+told-address : (d : ℕ) (cs : List ℕ) (r : Result AddressWords Refusal) → AddressPromise d cs r → IsOk r → r ≡ Ok (words_of (address d cs))
+told-address d cs (Ok a) q ok = ap Ok q.address
+told-address d cs (Err e) q ok = absurd (true≢false (sym ok))
 
 module _ (d : ℕ) (cs : List ℕ) (count : length cs ≡ row_costs) (small : (i : ℕ) → get_or cs i 0 < 2 ^ cost_bits)
-    (r : AddressResult) (p : AddressPromise d cs r) (good : r.verdict ≡ Accepted) where
+    (a : AddressWords) (p : AddressPromise d cs (Ok a)) where
   address-passed : (cost_count_bad d ≡ false) × (cost_past_bad d cs ≡ false)
   unfolding address_refusal
-  address-passed = passed (cost_count_bad d) (cost_past_bad d cs) (sym p.number ∙ number-zero good)
+  address-passed = passed (cost_count_bad d) (cost_past_bad d cs) (sym p.number ∙ number-zero a)
 
-  address-told : value r.address ≡ address d cs
-  unfolding or_zero
-  address-told =
-      ap value (p.address ∙ ap (λ (n : ℕ). words_of (or_zero n (address d cs))) (sym p.number ∙ number-zero good))
-      ∙ value-words (address d cs)
+  address-told : value a ≡ address d cs
+  address-told = ap value p.address ∙ value-words (address d cs)
 
   costs-row : RowCosts d cs
   costs-row = record { count = count; small = small; past = address-passed.1 }
 
   -- Costs, their address, and its costs.
-  pub costs-back : (s : CostsResult) → CostsPromise d (value r.address) s → (s.verdict ≡ Accepted) × (s.costs ≡ cs)
-  unfolding costs_refusal or_zeros
-  costs-back s q = (accepted-number s.verdict (q.number ∙ none), costs)
+  pub costs-back : (s : Result (List ℕ) Refusal) → CostsPromise d (value a) s → s ≡ Ok cs
+  unfolding costs_refusal
+  costs-back s q =
+      told-costs d (value a) s q (accepted-number s (q.number ∙ accepts address-passed.0 (ap (address_bad d) address-told ∙ row-address d cs l costs-row)))
+      ∙ ap (λ (n : ℕ). Ok (padded d (costs_of d n))) address-told
+      ∙ ap Ok (row-again d cs l costs-row)
     where
       l : d ≤ row_costs
       l = (count-right d address-passed.0).1
 
-      none : costs_refusal d (value r.address) ≡ 0
-      none = accepts address-passed.0 (ap (address_bad d) address-told ∙ row-address d cs l costs-row)
-
-      costs : s.costs ≡ cs
-      costs =
-          q.costs
-          ∙ ap (λ (n : ℕ). or_zeros n (padded d (costs_of d (value r.address)))) none
-          ∙ ap (λ (a : ℕ). padded d (costs_of d a)) address-told
-          ∙ row-again d cs l costs-row
-
 -- An address, its costs, and their address.
-module _ (d : ℕ) (a : AddressWords) (s : CostsResult) (p : CostsPromise d (value a) s) (good : s.verdict ≡ Accepted) where
+module _ (d : ℕ) (a : AddressWords) (cs : List ℕ) (p : CostsPromise d (value a) (Ok cs)) where
   costs-passed : (cost_count_bad d ≡ false) × (address_bad d (value a) ≡ false)
   unfolding costs_refusal
-  costs-passed = passed (cost_count_bad d) (address_bad d (value a)) (sym p.number ∙ number-zero good)
+  costs-passed = passed (cost_count_bad d) (address_bad d (value a)) (sym p.number ∙ number-zero cs)
 
-  costs-told : s.costs ≡ padded d (costs_of d (value a))
-  unfolding or_zeros
-  costs-told = p.costs ∙ ap (λ (n : ℕ). or_zeros n (padded d (costs_of d (value a)))) (sym p.number ∙ number-zero good)
-
-  pub address-back : a.lower < 2 ^ word_bits → (r : AddressResult) → AddressPromise d s.costs r → (r.verdict ≡ Accepted) × (r.address ≡ a)
-  unfolding address_refusal or_zero
-  address-back word r q = (accepted-number r.verdict (q.number ∙ none), told)
+  pub address-back : a.lower < 2 ^ word_bits → (r : Result AddressWords Refusal) → AddressPromise d cs r → r ≡ Ok a
+  unfolding address_refusal
+  address-back word r q =
+      told-address d cs r q (accepted-number r (q.number ∙ accepts costs-passed.0 (ap (cost_past_bad d) p.costs ∙ (address-row d (value a) l).past)))
+      ∙ ap (λ (es : List ℕ). Ok (words_of (address d es))) p.costs
+      ∙ ap (λ (n : ℕ). Ok (words_of n)) (address-again d (value a) l costs-passed.1)
+      ∙ ap Ok (words-value a word)
     where
       l : d ≤ row_costs
       l = (count-right d costs-passed.0).1
-
-      none : address_refusal d s.costs ≡ 0
-      none = accepts costs-passed.0 (ap (cost_past_bad d) costs-told ∙ (address-row d (value a) l).past)
-
-      told : r.address ≡ a
-      told =
-          q.address
-          ∙ ap (λ (n : ℕ). words_of (or_zero n (address d s.costs))) none
-          ∙ ap (λ (cs : List ℕ). words_of (address d cs)) costs-told
-          ∙ ap words_of (address-again d (value a) l costs-passed.1)
-          ∙ words-value a word

@@ -1,6 +1,7 @@
 -- Two words and their number give each other back; which words an address of d costs has (Card 13).
-use Prim.Native.Nat.{ℕ, zero, suc, ◌+◌, ◌*◌, ◌^◌, ◌≤◌, ◌<◌}
-use Rattle.std.specs.Prelude.{true, false, List, ◌≡◌, length}
+use Prim.Native.Nat.{ℕ, ◌+◌, ◌*◌, ◌^◌, ◌≤◌, ◌<◌}
+use Rattle.std.specs.Prelude.{true, false, List, Result, Ok, Err, ◌≡◌, length}
+use Rattle.std.specs.Result.{result_unwrap_or}
 use Rattle.std.proofs.Math.Path.{refl, ap}
 use Rattle.std.proofs.Common.{◌∙◌, lt_of_lt_of_le, arith}
 use Rattle.std.proofs.Math.Nat.{div-eq_of_lt}
@@ -9,9 +10,9 @@ use Rattle.std.proofs.Math.Arith.{digits_lt}
 use Rattle.std.proofs.Math.Pow.{pow_mono, split, low, high}
 use Rattle.zorder.specs.Address.{row_costs, cost_bits, address}
 use Rattle.zorder.specs.Promise.{AddressPromise}
-use Rattle.zorder.specs.Refusal.{or_zero, address_bad, address_refusal}
+use Rattle.zorder.specs.Refusal.{address_bad}
 use Rattle.zorder.specs.Words.{word_bits, value, words_of}
-use Rattle.zorder.specs.declared.AddressResult.{AddressResult}
+use Rattle.zorder.specs.declared.refusal.Refusal.{Refusal}
 use Rattle.zorder.specs.declared.AddressWords.{AddressWords}
 use Rattle.zorder.proofs.Laws.Address.{address-lt'}
 
@@ -40,13 +41,10 @@ module _ (d : ℕ) (few : d ≤ 4) where
   upper-zero cs room = div-eq_of_lt (lt_of_lt_of_le (address-lt' d cs room) (pow_mono bits-few))
 
   -- told or refused;
-  pub told-upper-zero : (cs : List ℕ) (r : AddressResult) → length cs ≡ row_costs → AddressPromise d cs r → r.address.upper ≡ 0
-  unfolding or_zero words_of
-  told-upper-zero cs r count p = ap (λ (a : AddressWords). a.upper) p.address ∙ told (address_refusal d cs)
-    where
-      told : (n : ℕ) → (words_of (or_zero n (address d cs))).upper ≡ 0
-      told zero = upper-zero cs (omega arith)
-      told (suc n) = refl
+  pub told-upper-zero : (cs : List ℕ) (r : Result AddressWords Refusal) → length cs ≡ row_costs → AddressPromise d cs r → (result_unwrap_or r (words_of 0)).upper ≡ 0
+  unfolding words_of
+  told-upper-zero cs (Ok a) count p = ap (λ (w : AddressWords). w.upper) p.address ∙ upper-zero cs (omega arith)
+  told-upper-zero cs (Err e) count p = refl
 
   -- any other upper word is too large.
   pub upper-bad : (a : AddressWords) → 0 < a.upper → address_bad d (value a) ≡ true

@@ -1,6 +1,10 @@
+use Rattle.std.proofs.Common.{ap, subst, ◌∙◌}
+use Rattle.planning.specs.Kind.{call_of}
+use Rattle.calls.specs.Exported.{rows_of, ChangeExported}
 use Rattle.calls.specs.Laws.Asked.{enter-asked}
-use Rattle.calls.specs.Laws.Exported.{change-exported}
 use Rattle.dolzhev.proofs.change.dolzhev_enter.Goals as goal
 
 pub returns : goal.returns
-returns c = change-exported (enter-asked c.args.given) c.args.rows.now c.plan_enter-p.ensures c.tell_notice-r.new.rows c.tell_notice-r.ensures c.carry_out.ensures
+returns c =
+    subst (λ x. ChangeExported x c.args.memory.now (rows_of c.args.rows.now) c.change.result c.change.new.memory (rows_of c.change.new.rows))
+    (ap call_of c.asked_enter.ensures ∙ enter-asked c.args.given) c.change.ensures

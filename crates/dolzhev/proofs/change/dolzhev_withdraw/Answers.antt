@@ -1,6 +1,10 @@
+use Rattle.std.proofs.Common.{ap, subst, ◌∙◌}
+use Rattle.planning.specs.Kind.{call_of}
+use Rattle.calls.specs.Exported.{rows_of, ChangeExported}
 use Rattle.calls.specs.Laws.Asked.{withdraw-asked}
-use Rattle.calls.specs.Laws.Exported.{change-exported}
 use Rattle.dolzhev.proofs.change.dolzhev_withdraw.Goals as goal
 
 pub returns : goal.returns
-returns c = change-exported (withdraw-asked c.args.number) c.args.rows.now c.plan_withdraw-p.ensures c.tell_notice-r.new.rows c.tell_notice-r.ensures c.carry_out.ensures
+returns c =
+    subst (λ x. ChangeExported x c.args.memory.now (rows_of c.args.rows.now) c.change.result c.change.new.memory (rows_of c.change.new.rows))
+    (ap call_of c.asked_withdraw.ensures ∙ withdraw-asked c.args.number) c.change.ensures

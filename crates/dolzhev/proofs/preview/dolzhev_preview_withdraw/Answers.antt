@@ -1,6 +1,10 @@
+use Rattle.std.proofs.Common.{ap, subst, ◌∙◌}
+use Rattle.planning.specs.Kind.{call_of}
+use Rattle.calls.specs.Exported.{rows_of, PreviewExported}
 use Rattle.calls.specs.Laws.Asked.{withdraw-asked}
-use Rattle.calls.specs.Laws.Exported.{preview-exported}
 use Rattle.dolzhev.proofs.preview.dolzhev_preview_withdraw.Goals as goal
 
 pub returns : goal.returns
-returns c = preview-exported (withdraw-asked c.args.number) c.args.rows.now c.plan_withdraw-p.ensures c.tell_notice.new.rows c.tell_notice.ensures
+returns c =
+    subst (λ x. PreviewExported x c.args.memory.now (rows_of c.args.rows.now) c.preview.result (rows_of c.preview.new.rows))
+    (ap call_of c.asked_withdraw.ensures ∙ withdraw-asked c.args.number) c.preview.ensures

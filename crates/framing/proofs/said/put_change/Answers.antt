@@ -10,6 +10,7 @@ use Rattle.frame_lines.specs.Text.{rows_text}
 use Rattle.frame_lines.specs.Put.{TextPut}
 use Rattle.framing.specs.Writing.{telling_rows, change_said}
 use Rattle.frame_lines.specs.Laws.Put.{put_as}
+use Rattle.promises.proofs.Laws.Answers.{ok-accepts, err-refuses}
 use Rattle.framing.specs.Laws.Said.{refused-text, left-rows, entered-rows, change-end, change-put}
 use Rattle.framing.proofs.said.put_change.Goals as goal
 
@@ -23,12 +24,12 @@ enough-head count long room = omega arith
 told-as : (d : ℕ) (m : List ℕ) (t u : Telling) {o o' : List ℕ} {i j : ℕ} → t ≡ u → TextPut (rows_text d (telling_rows t m)) o i o' j → TextPut (rows_text d (telling_rows u m)) o i o' j
 told-as d m t u same = put_as (ap (λ (t : Telling). rows_text d (telling_rows t m)) same)
 
-pub returns-then-number-ne0 : goal.returns-then-number-ne0
+pub returns-then-is_err : goal.returns-then-is_err
 unfolding change_said
-returns-then-number-ne0 c =
+returns-then-is_err c =
     let a = c.args in
     put_as
-    (refused-text a.d a.p.verdict _ c.number_of-number.ensures c.if-number-ne0.true)
+    (refused-text a.d a.p.verdict _ c.number_of.ensures c.detail_of.ensures (err-refuses a.p.verdict (sym c.is_err.ensures.value ∙ c.if-is_err.true)))
     c.put_refusal.ensures
 
 pub put_told-entered_at-requires : goal.put_told-entered_at-requires
@@ -60,13 +61,13 @@ returns c =
     change-put c.requires c.put_head-left_at.ensures
     (told-as c.args.d c.args.m.now _ _ c.left_of.ensures c.put_told-entered_at.ensures)
     (told-as c.args.d c.args.m.now _ _ c.entered_of.ensures c.put_told-end.ensures)
-    (sym c.number_of-number.ensures ∙ c.if-number-ne0.false)
+    (ok-accepts c.args.p.verdict (sym c.is_err.ensures.value ∙ c.if-is_err.false))
 
 pub put_refusal-requires : goal.put_refusal-requires
 put_refusal-requires c = enough _ _ c.requires.leaves.room
 
-pub shape_of-out-then-number-ne0 : goal.shape_of-out-then-number-ne0
-shape_of-out-then-number-ne0 c = c.put_refusal.ensures.kept
+pub shape_of-out-then-is_err : goal.shape_of-out-then-is_err
+shape_of-out-then-is_err c = c.put_refusal.ensures.kept
 
 pub put_head-left_at-requires : goal.put_head-left_at-requires
 put_head-left_at-requires c = enough-head _ _ c.requires.leaves.room

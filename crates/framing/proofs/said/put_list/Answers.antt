@@ -8,6 +8,7 @@ use Rattle.frame_lines.specs.Text.{word_text}
 use Rattle.framing.specs.Writing.{list_said}
 use Rattle.frame_lines.specs.Laws.Put.{put_as}
 use Rattle.frame_lines.specs.Laws.Texts.{word_text-low, head-length}
+use Rattle.promises.proofs.Laws.Answers.{ok-accepts, err-refuses}
 use Rattle.framing.specs.Laws.Said.{refused-text, list-rows, list-end, list_put}
 use Rattle.framing.proofs.said.put_list.Goals as goal
 
@@ -17,12 +18,12 @@ enough count long room = omega arith
 enough-head : (count long : ℕ) → 10 + most_digits * count + 1 ≤ long → 6 ≤ long
 enough-head count long room = omega arith
 
-pub returns-then-number-ne0 : goal.returns-then-number-ne0
+pub returns-then-is_err : goal.returns-then-is_err
 unfolding list_said
-returns-then-number-ne0 c =
+returns-then-is_err c =
     let a = c.args in
     put_as
-    (refused-text a.d a.p.verdict _ c.number_of-number.ensures c.if-number-ne0.true)
+    (refused-text a.d a.p.verdict _ c.number_of.ensures c.detail_of.ensures (err-refuses a.p.verdict (sym c.is_err.ensures.value ∙ c.if-is_err.true)))
     c.put_refusal.ensures
 
 pub put_word-rows_at-requires : goal.put_word-rows_at-requires
@@ -55,13 +56,13 @@ returns c =
     list_put c.requires c.put_head-opened_at.ensures
     (put_as (ap word_text c.two_bytes.ensures ∙ word_text-low c.args.p.opened) c.put_word-rows_at.ensures)
     c.put_told-end.ensures
-    (sym c.number_of-number.ensures ∙ c.if-number-ne0.false)
+    (ok-accepts c.args.p.verdict (sym c.is_err.ensures.value ∙ c.if-is_err.false))
 
 pub put_refusal-requires : goal.put_refusal-requires
 put_refusal-requires c = enough _ _ c.requires.rows.room
 
-pub shape_of-out-then-number-ne0 : goal.shape_of-out-then-number-ne0
-shape_of-out-then-number-ne0 c = c.put_refusal.ensures.kept
+pub shape_of-out-then-is_err : goal.shape_of-out-then-is_err
+shape_of-out-then-is_err c = c.put_refusal.ensures.kept
 
 pub put_head-opened_at-requires : goal.put_head-opened_at-requires
 put_head-opened_at-requires c = enough-head _ _ c.requires.rows.room

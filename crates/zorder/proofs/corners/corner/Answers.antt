@@ -1,8 +1,7 @@
-use Prim.Native.Nat.{ℕ}
-use mathlib.Core.List.{List, map}
-use mathlib.Core.Path.{◌≡◌, ap, ap₂, ◌∙◌}
+use mathlib.Core.List.{map}
+use mathlib.Core.Path.{◌≡◌, ap, ◌∙◌}
 use native.Mathlib.Omega.{arith}
-use lib.ListN.{set, take}
+use lib.ListN.{take}
 use Rattle.zorder.proofs.Fill.{filled, filled_none, mapped-more, mapped-all}
 use Rattle.zorder.proofs.Row.{row-costs}
 use Rattle.zorder.proofs.corners.corner.Goals as goal
@@ -18,8 +17,7 @@ loop-i-preserved g c =
     let a = c.args in
     let own = c.loop-i in
     let told = c.requires.1.1.1 _ _ ((row-costs c.well_formed.1.1.0).small own.i) c.fill.ensures in
-    ap₂ (λ (row : List ℕ) (v : ℕ). set row own.i v) own.invariant told
-    ∙ mapped-more (g.filled a.u) a.d a.costs (omega arith) (omega arith) own.i c.loop-i-test.true
+    rw (own.invariant, told) (mapped-more (g.filled a.u) a.d a.costs (omega arith) (omega arith) own.i c.loop-i-test.true)
 
 pub returns : goal.returns
 returns g c =

@@ -2,69 +2,65 @@
 use Prim.Native.Nat.{ℕ}
 use mathlib.Core.Bool.{true, false, not}
 use mathlib.Core.List.{List}
-use mathlib.Core.Path.{◌≡◌, refl, sym, ap, ◌∙◌}
+use mathlib.Core.Path.{◌≡◌, refl, sym, ap, subst, ◌∙◌}
 use native.Mathlib.Omega.{arith}
-use lib.ListN.{drop}
+use Rattle.std.proofs.Common.{rules, Result, Ok, Err}
 use Rattle.zorder.specs.Address as definition
-use Rattle.zorder.specs.Promise.{AddressPromise, number_of}
-use Rattle.zorder.specs.Refusal.{or_zero, all_zero, cost_count_bad, cost_past_bad, address_refusal, refusal}
+use Rattle.zorder.specs.Promise.{AddressPromise, refusal_number, number_of, detail_of}
+use Rattle.zorder.specs.Refusal.{cost_count_bad, cost_past_bad, address_refusal, refusal}
 use Rattle.zorder.specs.Words.{words_of}
 use Rattle.zorder.specs.declared.AddressWords.{AddressWords}
-use Rattle.zorder.specs.declared.Verdict.{Verdict}
-use Rattle.zorder.specs.declared.Verdict.TheVariants.{Accepted, BadCostCount, BadArgument}
+use Rattle.zorder.specs.declared.refusal.Refusal.{Refusal}
+use Rattle.zorder.specs.declared.refusal.Refusal.TheVariants.{BadCostCount, BadArgument}
 use Rattle.zorder.proofs.Laws.Refusal.{count-right}
 use Rattle.zorder.proofs.Laws.Words.{words-value}
-use Rattle.zorder.proofs.Checks.{two-checks, no-detail}
+use Rattle.zorder.proofs.Checks.{two-checks}
+use Rattle.zorder.proofs.interleave.address.Goals.{In_ok-check}
 use Rattle.zorder.proofs.interleave.address.Goals as goal
 
-module _ (d : ℕ) (costs : List ℕ) where
-  promised : (v : Verdict) (a : AddressWords) → number_of v ≡ address_refusal d costs → a ≡ words_of (or_zero (number_of v) (definition.address d costs))
-      → AddressPromise d costs (record { verdict = v; address = a })
-  promised v a number told =
-      record {
-        number = number;
-        detail = no-detail v;
-        address = told ∙ ap (λ (n : ℕ). words_of (or_zero n (definition.address d costs))) number;
-      }
+module _ (d : ℕ) (costs : List ℕ) (r : Result AddressWords Refusal) where
+  refused : (e : Refusal) → r ≡ Err e → refusal_number e ≡ address_refusal d costs → AddressPromise d costs r
+  unfolding number_of detail_of
+  refused e is number = subst (AddressPromise d costs) (sym is) (record { number = number; detail = refl; address = tt })
 
-  bad-count : cost_count_bad d ≡ true → AddressPromise d costs (record { verdict = BadCostCount; address = record { upper = 0; lower = 0 } })
-  unfolding number_of or_zero address_refusal refusal words_of
-  bad-count bad = promised BadCostCount (record { upper = 0; lower = 0 }) (two-checks true (cost_past_bad d costs) bad refl) refl
+  bad-count : r ≡ Err BadCostCount → cost_count_bad d ≡ true → AddressPromise d costs r
+  unfolding address_refusal refusal
+  bad-count is bad = refused BadCostCount is (two-checks true (cost_past_bad d costs) bad refl)
 
-  module _ (right : cost_count_bad d ≡ false) where
-    bad-past : all_zero (drop d costs) ≡ false → AddressPromise d costs (record { verdict = BadArgument; address = record { upper = 0; lower = 0 } })
-    unfolding number_of or_zero address_refusal refusal cost_past_bad words_of
-    bad-past bad = promised BadArgument (record { upper = 0; lower = 0 }) (two-checks false true right (ap not bad)) refl
+  bad-past : r ≡ Err BadArgument → cost_count_bad d ≡ false → cost_past_bad d costs ≡ true → AddressPromise d costs r
+  unfolding address_refusal refusal
+  bad-past is right bad = refused BadArgument is (two-checks false true right bad)
 
-    accepted : all_zero (drop d costs) ≡ true → (a : AddressWords) → a ≡ words_of (definition.address d costs) → AddressPromise d costs (record { verdict = Accepted; address = a })
-    unfolding number_of or_zero address_refusal refusal cost_past_bad
-    accepted good a told = promised Accepted a (two-checks false false right (ap not good)) told
+accepted : (d : ℕ) (costs : List ℕ) (a : AddressWords) → cost_count_bad d ≡ false → cost_past_bad d costs ≡ false → a ≡ words_of (definition.address d costs) → AddressPromise d costs (Ok a)
+unfolding number_of detail_of address_refusal refusal
+accepted d costs a right good told = record { number = two-checks false false right good; detail = refl; address = told }
 
-pub returns-then-cost_count_bad : goal.returns-then-cost_count_bad
-returns-then-cost_count_bad c =
-    let a = c.args in
-    bad-count a.d a.costs (sym c.cost_count_bad.ensures ∙ c.if-cost_count_bad.true)
+right : (c : In_ok-check) → cost_count_bad c.args.d ≡ false
+right c = sym c.cost_count_bad.ensures ∙ c.in_ok-check.ensures
+
+pub returns-in_err-check : goal.returns-in_err-check
+returns-in_err-check c =
+    bad-count c.args.d c.args.costs c.from_residual.result (search rules) (sym c.cost_count_bad.ensures ∙ c.in_err-check.ensures.0)
 
 pub zero_past-requires : goal.zero_past-requires
-zero_past-requires c = (count-right c.args.d (sym c.cost_count_bad.ensures ∙ c.if-cost_count_bad.false)).1
+zero_past-requires c = (count-right c.args.d (right c)).1
+
+pub returns-in_err-check-2 : goal.returns-in_err-check-2
+unfolding cost_past_bad
+returns-in_err-check-2 c =
+    let a = c.args in
+    bad-past a.d a.costs c.from_residual-in_err-check-2.result (search rules) (right (goal.at.returns-in_err-check-2 c).In_ok-check)
+    (ap not (sym c.zero_past.ensures) ∙ c.in_err-check-2.ensures.0)
 
 pub interleaved-requires : goal.interleaved-requires
 interleaved-requires c =
-    let right = count-right c.args.d (sym c.cost_count_bad.ensures ∙ c.if-cost_count_bad.false) in
-    (omega arith, right.1)
-
-pub returns-then-zero_past : goal.returns-then-zero_past
-returns-then-zero_past c =
-    let a = c.args in
-    accepted
-    a.d
-    a.costs
-    (sym c.cost_count_bad.ensures ∙ c.if-cost_count_bad.false)
-    (sym c.zero_past.ensures ∙ c.if-zero_past.true)
-    c.interleaved.result
-    (sym (words-value c.interleaved.result (omega arith)) ∙ ap words_of c.interleaved.ensures)
+    let within = count-right c.args.d (right (goal.at.interleaved-requires c).In_ok-check) in
+    (omega arith, within.1)
 
 pub returns : goal.returns
+unfolding cost_past_bad
 returns c =
     let a = c.args in
-    bad-past a.d a.costs (sym c.cost_count_bad.ensures ∙ c.if-cost_count_bad.false) (sym c.zero_past.ensures ∙ c.if-zero_past.false)
+    accepted a.d a.costs c.interleaved.result (right (goal.at.returns c).In_ok-check)
+    (ap not (sym c.zero_past.ensures) ∙ c.in_ok-check-2.ensures)
+    (sym (words-value c.interleaved.result (omega arith)) ∙ ap words_of c.interleaved.ensures)
