@@ -1,5 +1,5 @@
 -- What a plan of a change says, and what carrying it out asks and leaves.
-use Rattle.std.specs.Prelude.{ℕ, ◌+◌, ◌-◌, ◌<◌, ◌≤◌, Bool, true, false, ◌&&◌, ◌≡◌, List, ◌++◌, ltb, length}
+use Rattle.std.specs.Prelude.{ℕ, ◌+◌, ◌-◌, ◌<◌, ◌≤◌, Bool, true, false, cond, ◌&&◌, Option, None, Some, ◌≡◌, List, ◌++◌, ltb, length}
 use Rattle.std.specs.Option.{ForSome, ForNone, option_map_or}
 use Rattle.model.specs.Basics.{equal}
 use Rattle.model.specs.Moves.{Row, left, entered}
@@ -8,6 +8,7 @@ use Rattle.model.specs.Opening.{change_opens}
 use Rattle.promises.specs.Layout.{size_in, dimension_in, number_in, costs_in, board_in}
 use Rattle.promises.specs.Sound.{Sound}
 use Rattle.promises.specs.Answers.{Verdict, number_of, counted}
+use Rattle.dominance.specs.declared.Move.{Move}
 use Rattle.memory.specs.Room.{Room}
 use Rattle.memory.specs.Stores.{set_block}
 use Rattle.search.specs.declared.search.Among.TheVariants.{Listed, Hidden}
@@ -15,7 +16,7 @@ use Rattle.memory.specs.declared.head.Head.{Head}
 use Rattle.upkeep.specs.Change.{AskedRows}
 use Rattle.upkeep.specs.declared.exchange.Upkeep.{Upkeep}
 use Rattle.upkeep.specs.declared.exchange.Exchange.{Exchange}
-use Rattle.rows.specs.Telling.{nobody, filled_rows}
+use Rattle.rows.specs.Telling.{filled_rows}
 use Rattle.rows.specs.Planned.{Foreseen, Tells}
 use Rattle.rows.specs.declared.telling.Coming.{Coming}
 use Rattle.rows.specs.declared.telling.View.{View}
@@ -80,9 +81,9 @@ pub record CarriedOut (p : ChangePlan) (m m' : List ℕ) : Type 0 where
 
 -- The listed moves whose flag changes leave; the hidden ones enter, and the coming one.
 abbrev pub leaving_by : Head → View
-leaving_by h = record { head = h; mark = left; among = Listed; coming = nobody }
+leaving_by h = record { head = h; mark = left; among = Listed; coming = None }
 
-abbrev pub entering_by : Head → Coming → View
+abbrev pub entering_by : Head → Option Coming → View
 entering_by h x = record { head = h; mark = entered; among = Hidden; coming = x }
 
 abbrev pub left_of : ChangePlan → Telling
@@ -93,10 +94,16 @@ left_of p =
       count = counted (number_of p.verdict) p.upkeep.left;
     }
 
+abbrev pub coming_if : Bool → ℕ → Move → Option Coming
+coming_if told place x = cond told (Some (record { place = place; entrant = x })) None
+
+abbrev pub coming_in : ChangePlan → Option Coming
+coming_in p = coming_if p.upkeep.listed p.place (coming_of p.change)
+
 abbrev pub entered_of : ChangePlan → Telling
 entered_of p =
     record {
-      told = entering_by p.head (record { told = p.upkeep.listed; place = p.place; entrant = coming_of p.change });
+      told = entering_by p.head (coming_in p);
       numbers = p.upkeep.changed;
       count = counted (number_of p.verdict) (p.need - p.upkeep.left);
     }

@@ -1,11 +1,11 @@
 // What a plan of a change tells: the rows that leave the list, then those that enter it.
 ghost use Rattle.std.specs.Prelude.{◌≡◌, ◌≤◌};
-ghost use Rattle.planning.specs.Plan.{left_of, entered_of};
+ghost use Rattle.planning.specs.Plan.{left_of, coming_in, entered_of};
 
 use crate::change::coming_of;
 use crate::plan::ChangePlan;
 use promises::counted;
-use rows::{Coming, Telling, View, nobody};
+use rows::{Coming, Telling, View};
 use search::Among;
 
 // Gives the listed moves whose flag changes.
@@ -20,11 +20,24 @@ pub fn left_of(p: ChangePlan) -> Telling
             head,
             mark: 1,
             among: Among::Listed,
-            coming: nobody(),
+            coming: None,
         },
         numbers,
         count: counted(verdict, p.upkeep.left),
     }
+}
+
+// The coming move, if it is listed.
+fn coming_in(p: ChangePlan) -> Option<Coming>
+    ensures { result ≡ coming_in p }
+{
+    if !p.upkeep.listed {
+        return None;
+    }
+    Some(Coming {
+        place: p.place,
+        entrant: coming_of(p.change),
+    })
 }
 
 // Gives the hidden moves whose flag changes, and the coming one.
@@ -34,18 +47,13 @@ pub fn entered_of(p: ChangePlan) -> Telling
 {
     let verdict = p.verdict;
     let head = p.head;
-    let change = p.change;
     let numbers = p.upkeep.changed;
     Telling {
         told: View {
             head,
             mark: 2,
             among: Among::Hidden,
-            coming: Coming {
-                told: p.upkeep.listed,
-                place: p.place,
-                entrant: coming_of(change),
-            },
+            coming: coming_in(p),
         },
         numbers,
         count: counted(verdict, p.need - p.upkeep.left),

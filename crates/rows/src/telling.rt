@@ -7,23 +7,22 @@ use dominance::Move;
 use memory::{Head, move_at, number_at};
 use numbers::{WORDS, empty, has};
 use search::{Among, looks};
-use zorder::COSTS;
 
-// The coming move of a notice stands before the move at its place, if it is told.
+// The coming move of a notice stands before the move at its place.
 #[derive(Clone, Copy)]
 pub struct Coming {
-    pub told: bool,
     pub place: usize,
     pub entrant: Move,
 }
 
-// Which moves of a set are told, all or the listed or the hidden ones, and under which mark.
+// Which moves of a set are told, all or the listed or the hidden ones, and under which mark; and a
+// coming move, if one is told: a list has none.
 #[derive(Clone, Copy)]
 pub struct View {
     pub head: Head,
     pub mark: u16,
     pub among: Among,
-    pub coming: Coming,
+    pub coming: Option<Coming>,
 }
 
 // `count` rows are told. The set goes by reference where rows are told one by one: it would be
@@ -42,20 +41,6 @@ pub struct Step {
     pub next: usize,
 }
 
-// No move comes: a list has none.
-pub fn nobody() -> Coming
-    ensures { result ≡ spec.nobody }
-{
-    Coming {
-        told: false,
-        place: 0,
-        entrant: Move {
-            number: 0,
-            costs: [0u16; COSTS],
-        },
-    }
-}
-
 // Gives the moves of these numbers, told as listed.
 pub(crate) fn listing_of(head: Head, numbers: [u64; WORDS], count: usize) -> Telling
     ensures { result ≡ spec.listing head numbers count }
@@ -65,7 +50,7 @@ pub(crate) fn listing_of(head: Head, numbers: [u64; WORDS], count: usize) -> Tel
             head,
             mark: 0,
             among: Among::All,
-            coming: nobody(),
+            coming: None,
         },
         numbers,
         count,
@@ -84,6 +69,16 @@ pub fn no_telling() -> Telling
     listing_of(head, empty(), 0)
 }
 
+// The place before which the coming move stands; past the last where none comes.
+fn coming_place(t: View) -> usize
+    ensures { result ≡ spec.coming_place t }
+{
+    match t.coming {
+        None => t.head.count,
+        Some(x) => x.place,
+    }
+}
+
 // Positions are the places of the board, with the coming move before its own.
 fn place_at(place: usize, i: usize) -> usize
     requires { i ≡ place → ⊥ }
@@ -92,37 +87,23 @@ fn place_at(place: usize, i: usize) -> usize
     if i < place { i } else { i - 1 }
 }
 
-// Whether a row is told at position i.
-fn is_told(m: &[u8], t: View, numbers: &[u64; WORDS], i: usize) -> bool
+// The row told at position i, if one is.
+fn told_at(m: &[u8], t: View, numbers: &[u64; WORDS], i: usize) -> Option<[u16; ROW]>
     requires { spec.TellingAsked t m.now × (i ≤ t.head.count) }
-    ensures { result ≡ spec.told_at t numbers.now m.now i }
+    ensures { result ≡ spec.told_row t numbers.now m.now i }
 {
     let h = t.head;
-    let coming = t.coming;
-    if i == coming.place {
-        return coming.told;
+    let place = coming_place(t);
+    if i == place {
+        let x = t.coming?;
+        return Some(row_of(x.entrant, t.mark));
     }
-    let number = number_at(m, h.size, place_at(coming.place, i));
-    if !has(numbers, number) {
-        return false;
+    let p = place_at(place, i);
+    let number = number_at(m, h.size, p);
+    if has(numbers, number) && looks(m, h.size, number, t.among) {
+        return Some(row_of(move_at(m, h.size, h.dimension, p), t.mark));
     }
-    let among = t.among;
-    looks(m, h.size, number, among)
-}
-
-// The row at position i.
-fn row_at(m: &[u8], t: View, i: usize) -> [u16; ROW]
-    requires { spec.TellingAsked t m.now × (i ≤ t.head.count) }
-    ensures { result ≡ spec.row_at t m.now i }
-{
-    let h = t.head;
-    let coming = t.coming;
-    if i == coming.place {
-        let entrant = coming.entrant;
-        return row_of(entrant, t.mark);
-    }
-    let x = move_at(m, h.size, h.dimension, place_at(coming.place, i));
-    row_of(x, t.mark)
+    None
 }
 
 // Gives the first told row from position i on.
@@ -134,11 +115,8 @@ pub fn told_next(m: &[u8], t: View, numbers: &[u64; WORDS], i: usize) -> Step
     let h = t.head;
     let end = h.count + 1;
     for j in i..end {
-        if is_told(m, t, numbers, j) {
-            return Step {
-                row: row_at(m, t, j),
-                next: j + 1,
-            };
+        if let Some(row) = told_at(m, t, numbers, j) {
+            return Step { row, next: j + 1 };
         }
     }
     Step {

@@ -20,7 +20,7 @@ use Rattle.memory.specs.Laws.Held.{held-room, held-few}
 use Rattle.upkeep.specs.Change.{AskedRows, UpkeptRows, PlaceRows, moves_after}
 use Rattle.upkeep.specs.Laws.Places.{count-le}
 use Rattle.rows.specs.Telling.{told_rows}
-use Rattle.planning.specs.Plan.{leaving_by, entering_by}
+use Rattle.planning.specs.Plan.{leaving_by, entering_by, coming_if}
 use Rattle.planning.proofs.Laws.Told.{left-told, left-number, entered-told, entered-number}
 use Rattle.upkeep.specs.declared.exchange.Exchange.{Exchange}
 use Rattle.upkeep.specs.declared.exchange.Upkeep.{Upkeep}
@@ -58,7 +58,7 @@ module _ {c d n : ℕ} {k : Exchange} {m : List ℕ} (a : AskedRows c d n k m) w
     pub rows_left : map result_row (told_rows (leaving_by h) u.changed m) ≡ left_rows
     rows_left = left-told c d n k m a.sound b a other p q.within q.is u v entrant own
 
-    pub rows-entered : map result_row (told_rows (entering_by h (record { told = u.listed; place = p; entrant = entrant })) u.changed m) ≡ entered_rows
+    pub rows-entered : map result_row (told_rows (entering_by h (coming_if u.listed p entrant)) u.changed m) ≡ entered_rows
     rows-entered = entered-told c d n k m a.sound b a other p q.within q.is u v entrant own
 
     pub count_left : u.left ≡ length left_rows

@@ -33,10 +33,11 @@ use Rattle.upkeep.specs.Change.{UpkeptRows, PlaceRows}
 use Rattle.upkeep.specs.declared.exchange.Upkeep.{Upkeep}
 use Rattle.rows.specs.Planned.{Foreseen, Tells}
 use Rattle.rows.proofs.Planned.{foreseen-unsound, foreseen-refused, foreseen-judged, few-refuses, counted-all, counted_none}
+use Rattle.rows.specs.Telling.{place_in}
 use Rattle.rows.specs.declared.telling.Telling.{Telling}
 use Rattle.planning.specs.Kind.{change_of, call_of, comes, coming_of, exchange_of}
 use Rattle.planning.specs.Change.{Other, needed_rows, Made}
-use Rattle.planning.specs.Plan.{alike, ReadyRows, Giveable, Planned, KeepsMoves}
+use Rattle.planning.specs.Plan.{alike, ReadyRows, Giveable, Planned, KeepsMoves, coming_if}
 use Rattle.planning.proofs.Laws.Judge.{board-moves}
 use Rattle.planning.proofs.Laws.Coming.{came, if-came, if-some}
 use Rattle.planning.proofs.Laws.Places.{costs-board}
@@ -55,6 +56,11 @@ use Rattle.planning.specs.declared.plan.ChangePlan.{ChangePlan}
 nothing-told : {v : Verdict} {m : List ℕ} {t : Telling} → t.count ≡ 0 → Tells v [] m t
 nothing-told e =
     record { rows = λ l. absurd (omega (arith, e)); count = λ _. e; none = λ _. e; asked = λ l. absurd (omega (arith, e)) }
+
+-- The coming move stands before the last place or after it, be it listed or not.
+coming-within : (told : Bool) (place n : ℕ) (x : Move) → place ≤ n → place_in n (coming_if told place x) ≤ n
+coming-within true place n x h = h
+coming-within false place n x h = omega arith
 
 -- The rows of two parts are no more than all.
 counted-parts : (k a n lent : ℕ) → a ≤ n → counted k n ≤ lent → counted k a + counted k (n - a) ≤ lent
@@ -241,7 +247,7 @@ module _ {c d n g : ℕ} {m : List ℕ} (s : SoundRows c d n m) (b : Bytes m) (x
                 rows = λ _. rows-entered a b other up q (coming_of x) own;
                 count = λ z. counted-all (number_of v) (need - u.left) z ∙ rest;
                 none = λ h. counted_none (number_of v) (need - u.left) h;
-                asked = λ _. record { readable = held-readable s; place = q.within };
+                asked = λ _. record { readable = held-readable s; place = coming-within u.listed place n (coming_of x) q.within };
               };
           within = omega (arith, is);
           enough = counted-parts (number_of v) u.left need lent (omega (arith, is)) few;

@@ -41,13 +41,15 @@ use Rattle.upkeep.specs.Change.{drop_at, moves_after, stays, places_in, AskedRow
 use Rattle.rows.specs.Rows.{move_numbers}
 use Rattle.rows.specs.Telling.{tells_place, rows_at, coming_rows, told_rows}
 use Rattle.rows.specs.declared.telling.View.{View}
-use Rattle.upkeep.specs.Laws.Places.{place-below, below-place}
+use Rattle.search.specs.declared.search.Among.TheVariants.{Listed, Hidden}
+use Rattle.rows.specs.Laws.Telling.{none-comes}
+use Rattle.upkeep.specs.Laws.Places.{places-join, place-below, below-place}
 use Rattle.upkeep.specs.Laws.Change.{line-places, rest-places}
 use Rattle.upkeep.specs.Laws.Place.{place-low, place-high}
 use Rattle.upkeep.specs.Laws.Notified.{Places, stay, left-places, entered-after, entered-rest, entered-coming}
 use Rattle.upkeep.specs.declared.exchange.Exchange.{Exchange}
 use Rattle.upkeep.specs.declared.exchange.Upkeep.{Upkeep}
-use Rattle.planning.specs.Plan.{leaving_by, entering_by}
+use Rattle.planning.specs.Plan.{leaving_by, entering_by, coming_if}
 
 left-test : (listed stays : Bool) → (not (beq listed stays) && listed) ≡ (listed && not stays)
 left-test true true = refl
@@ -284,8 +286,7 @@ module _ (c d n : ℕ) (k : Exchange) (m : List ℕ) (s : SoundRows c d n m) (b 
           ∙ ap (λ (q : ℕ). select (λ i. is_listed c m i && not (stay_at i)) (numbers_from 0 q)) (sub-zero n)
 
       left-rows : told_rows (leaving_by head) u.changed m ≡ rows_at c d left (places_in 0 n (tells_place (leaving_by head) u.changed m)) m
-      unfolding told_rows coming_rows rows_at places_in select numbers_from
-      left-rows = refl
+      left-rows = none-comes head left Listed u.changed m
 
       pub left-told : map result_row (told_rows (leaving_by head) u.changed m) ≡ map (row_of left) (gone (skyline d before) (skyline d after))
       left-told =
@@ -304,7 +305,7 @@ module _ (c d n : ℕ) (k : Exchange) (m : List ℕ) (s : SoundRows c d n m) (b 
       -- ---- who enters
 
       abbrev entering : View
-      entering = entering_by head (record { told = u.listed; place = p; entrant = entrant })
+      entering = entering_by head (coming_if u.listed p entrant)
 
       part-entered : (i : ℕ) → i < n → tells_place entering u.changed m i ≡ enters i
       unfolding tells_place looks_at looks is_listed stays stay
@@ -317,6 +318,18 @@ module _ (c d n : ℕ) (k : Exchange) (m : List ℕ) (s : SoundRows c d n m) (b 
 
       last-chosen : places_in p n (tells_place entering u.changed m) ≡ select enters (numbers_from p (n - p))
       last-chosen = chosen-places (tells_place entering u.changed m) enters part-entered p n f (omega arith)
+
+      -- The rows up to the coming move's place, its own if it is listed, and those from there on.
+      parts : (t : Bool) → let test = tells_place (entering_by head (coming_if t p entrant)) u.changed m in
+          told_rows (entering_by head (coming_if t p entrant)) u.changed m
+          ≡ rows_at c d entered (places_in 0 p test) m ++ (cond t (move_numbers entered (as_move entrant) ∷ []) [] ++ rows_at c d entered (places_in p n test) m)
+      unfolding told_rows coming_rows rows_at
+      parts true = refl
+      parts false =
+          let test = tells_place (entering_by head None) u.changed m in
+          none-comes head entered Hidden u.changed m
+          ∙ ap (λ (is : List ℕ). rows_at c d entered is m) (places-join test 0 p n (omega arith) f)
+          ∙ map-append (λ i. move_numbers entered (move_in c d m i)) (places_in 0 p test) (places_in p n test)
 
       one_told : (t : Bool) (x : Move) → map result_row (cond t (move_numbers entered x ∷ []) []) ≡ map (row_of entered) (cond t (x ∷ []) [])
       unfolding result_row move_numbers row_of
@@ -331,12 +344,12 @@ module _ (c d n : ℕ) (k : Exchange) (m : List ℕ) (s : SoundRows c d n m) (b 
           ∙ (λ i. map (row_of entered) (cond (e i) (as_move (same y refl i) ∷ []) []))
 
       pub entered-told : map result_row (told_rows entering u.changed m) ≡ map (row_of entered) (gone (skyline d after) (skyline d before))
-      unfolding told_rows coming_rows
       entered-told =
           let es = places_in 0 p (tells_place entering u.changed m) in
           let fs = places_in p n (tells_place entering u.changed m) in
           let coming : List (List ℕ) = cond u.listed (move_numbers entered (as_move entrant) ∷ []) [] in
-          map-append result_row (rows_at c d entered es m) (coming ++ rows_at c d entered fs m)
+          ap (map result_row) (parts u.listed)
+          ∙ map-append result_row (rows_at c d entered es m) (coming ++ rows_at c d entered fs m)
           ∙ ap₂ ◌++◌ (rows_told entered es ∙ ap (λ (js : List ℕ). map (row_of entered) (map (move_in c d m) js)) first-chosen)
           (map-append result_row coming (rows_at c d entered fs m)
           ∙ ap₂ ◌++◌ (coming-told k.coming v.listed own)

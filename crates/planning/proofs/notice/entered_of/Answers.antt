@@ -7,7 +7,7 @@ returns c =
     let a = c.args in
     (λ i.
     record {
-      told = record { head = a.p.head; mark = 2; among = Hidden; coming = record { told = a.p.upkeep.listed; place = a.p.place; entrant = c.coming_of.ensures i } };
+      told = record { head = a.p.head; mark = 2; among = Hidden; coming = c.coming_in.ensures i };
       numbers = a.p.upkeep.changed;
       count = c.counted.ensures i;
     })

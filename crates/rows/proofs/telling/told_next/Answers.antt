@@ -11,19 +11,16 @@ overflow_add-end c = let asked = c.requires.readable in omega (arith, asked.rows
 pub loop-j-init : goal.loop-j-init
 loop-j-init c = (refl, refl)
 
-pub is_told-requires : goal.is_told-requires
-is_told-requires c = (c.requires, omega (arith, c.loop-j.invariant.0, c.loop-j-test.true))
+pub told_at-requires : goal.told_at-requires
+told_at-requires c = (c.requires, omega (arith, c.loop-j.invariant.0, c.loop-j-test.true))
 
-pub row_at-requires : goal.row_at-requires
-row_at-requires c = (c.requires, omega (arith, c.loop-j.invariant.0, c.loop-j-test.true))
-
-pub returns-then-is_told : goal.returns-then-is_told
-returns-then-is_told c =
+pub returns-in-Some : goal.returns-in-Some
+returns-in-Some c =
     let a = c.args in
     let own = c.loop-j in
-    let here = sym own.invariant.1 ∙ from_told a.t a.numbers.now a.m.now own.j (omega (arith, own.invariant.0, c.loop-j-test.true)) (sym c.is_told.ensures ∙ c.if-is_told.true) in
-    let next = next-told a.t a.numbers.now a.m.now a.i here in
-    (c.row_at.ensures ∙ sym next.0, add-one own.j ∙ sym next.1)
+    let here = from_told a.t a.numbers.now a.m.now own.j (omega (arith, own.invariant.0, c.loop-j-test.true)) c.in-Some.ensures in
+    let next = next-told a.t a.numbers.now a.m.now a.i (sym own.invariant.1 ∙ here.0) in
+    (here.1 ∙ sym next.0, add-one own.j ∙ sym next.1)
 
 pub loop-j-preserved : goal.loop-j-preserved
 loop-j-preserved c =
@@ -31,7 +28,7 @@ loop-j-preserved c =
     let own = c.loop-j in (
       own.invariant.0,
       ap (told_from a.t a.numbers.now a.m.now) (add-one own.j)
-          ∙ sym (from-other a.t a.numbers.now a.m.now own.j (omega (arith, own.invariant.0, c.loop-j-test.true)) (sym c.is_told.ensures ∙ c.if-is_told.false))
+          ∙ sym (from-other a.t a.numbers.now a.m.now own.j (omega (arith, own.invariant.0, c.loop-j-test.true)) c.told_at.ensures c.in_default.not-Some)
           ∙ own.invariant.1,
     )
 
