@@ -1,5 +1,5 @@
 -- What the parts of the three changes say and leave.
-use Rattle.std.specs.Prelude.{ℕ, ◌+◌, ◌<◌, ◌≤◌, true, false, cond, ◌≡◌, List, Option, Some, None}
+use Rattle.std.specs.Prelude.{ℕ, ◌+◌, ◌<◌, ◌≤◌, cond, ◌≡◌, List, Some, None}
 use Rattle.std.specs.Option.{ForSome}
 use Rattle.model.specs.Moves as model
 use Rattle.model.specs.Moves.{Row}

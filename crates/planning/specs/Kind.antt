@@ -1,5 +1,5 @@
 -- The three changes as the code has them: a kind, a number, and a block and costs, which a withdrawal does not look at.
-use Rattle.std.specs.Prelude.{ℕ, Bool, true, false, cond, List, ◌≡◌, Option, Some, None, Result, ⊤}
+use Rattle.std.specs.Prelude.{ℕ, Bool, true, false, cond, List, ◌≡◌, Some, None, Result, ⊤}
 use Rattle.model.specs.Calls as calls
 use Rattle.model.specs.Calls.{Board, on_board, change_refusal}
 use Rattle.promises.specs.Answers.{check_number}

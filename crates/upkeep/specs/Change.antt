@@ -1,6 +1,6 @@
 -- What a change does to the list. `Upkept` says it by the definition: who is in the list of the moves afterwards; the
 -- definitions before it are what the steps compute.
-use Rattle.std.specs.Prelude.{ℕ, suc, ◌-◌, ◌<◌, ◌≤◌, Bool, true, false, cond, not, ◌&&◌, ◌||◌, ◌≡◌, List, ◌++◌, map, eqb, ltb, length, take, drop}
+use Rattle.std.specs.Prelude.{ℕ, suc, ◌-◌, ◌<◌, ◌≤◌, Bool, true, false, not, ◌&&◌, ◌||◌, ◌≡◌, List, ◌++◌, map, eqb, ltb, length, take, drop}
 use Rattle.std.specs.Bool.{beq}
 use Rattle.std.specs.Option.{ForSome, option_map_or}
 use Rattle.zorder.specs.Address.{row_costs}

@@ -11,7 +11,7 @@ use Rattle.model.specs.Basics.{Each, insert_by, select, any, numbers_from}
 use Rattle.model.specs.Moves.{Move, move_before, insert}
 use Rattle.model.specs.Lists.{hidden}
 use Rattle.model.specs.Calls.{on_board}
-use Rattle.model.proofs.Laws.Bool.{cond_cases, both_ways, and_both, not-flip}
+use Rattle.model.proofs.Laws.Bool.{both_ways, and_both, not-flip}
 use Rattle.model.proofs.Laws.Basics.{each-mem, mem-each, each_map, select-mem, any-map, any-select}
 use Rattle.model.proofs.Laws.Range.{each-place}
 use Rattle.model.proofs.Laws.Sorting.{each-insert}

@@ -1,5 +1,5 @@
 -- Steps that the changes share: what each asks of the rows, and what it leaves.
-use Rattle.std.specs.Prelude.{ℕ, ◌-◌, ◌≤◌, ◌<◌, Bool, true, false, List, ◌≡◌, Option, Some, length}
+use Rattle.std.specs.Prelude.{ℕ, ◌-◌, ◌≤◌, ◌<◌, Bool, false, List, ◌≡◌, Some, length}
 use Rattle.std.proofs.Common.{sym, ap, ◌∙◌, subst, arith}
 use Rattle.zorder.specs.Address.{row_costs}
 use Rattle.model.specs.Moves as model

@@ -1,7 +1,7 @@
 -- What is said of the move that comes, where one does and where none does.
 use Rattle.std.specs.Prelude.{Option, Some, None, Bool, true, false, cond, ◌&&◌, ◌≡◌, refl, unwrap_or}
 use Rattle.std.specs.Option.{ForSome, is_some, option_map_or}
-use Rattle.std.proofs.Common.{sym, ap, subst}
+use Rattle.std.proofs.Common.{ap, subst}
 use Rattle.model.proofs.Laws.Bool.{both_ways}
 
 module _ {A : Type 0} where

@@ -1,7 +1,7 @@
 -- What the steps of a change compute is what the list of the moves afterwards says: a listed move stays exactly if the
 -- coming one does not hide it; a hidden one comes up exactly if no move left hides it, and then the going one was listed
 -- and hid it; the coming one is listed exactly if no move left hides it.
-use Rattle.std.specs.Prelude.{ℕ, ◌<◌, Bool, true, false, cond, ◌&&◌, ◌||◌, ◌≡◌, eqb, ltb}
+use Rattle.std.specs.Prelude.{ℕ, ◌<◌, Bool, true, false, ◌&&◌, ◌||◌, ◌≡◌, eqb, ltb}
 use Rattle.std.proofs.Math.Bool.{not, or_comm, or-false}
 use Rattle.std.specs.Bool.{beq}
 use Rattle.std.specs.Prelude.{Option, Some, None}
@@ -20,7 +20,7 @@ use Rattle.model.specs.Tree.{Tree}
 use Rattle.model.specs.Opening.{withdraw_opens}
 use Rattle.model.specs.Withdrawing.{without}
 use Rattle.model.specs.Sound.{Fit}
-use Rattle.model.proofs.Laws.Bool.{test_cases, same_test, both_ways, and_both, and_left, and_right, and-drop-left, and-false-right}
+use Rattle.model.proofs.Laws.Bool.{same_test, both_ways, and_both, and_left, and_right, and-drop-left, and-false-right}
 use Rattle.model.proofs.Laws.Basics.{select-map, select-ext, any-map, any-select, any-mem, any-mono, count-ext}
 use Rattle.model.proofs.Laws.Range.{each-place}
 use Rattle.model.proofs.Laws.Skyline.{HiderIn, skyline-mem, enter-hidden, skyline-hider, enter-hidden-self}

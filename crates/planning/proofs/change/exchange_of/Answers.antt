@@ -1,8 +1,6 @@
 -- `change::exchange_of` meets its contract. Assumes nothing.
-use Rattle.std.specs.Prelude.{Option, Some, cond, ◌≡◌, None, Bool}
-use Rattle.std.proofs.Common.{sym, ap, ◌∙◌}
-use Rattle.dominance.specs.declared.Move.{Move}
-use Rattle.upkeep.specs.declared.exchange.Exchange.{Exchange}
+use Rattle.std.specs.Prelude.{Some, cond, None}
+use Rattle.std.proofs.Common.{sym, ◌∙◌}
 use Rattle.planning.specs.Kind.{coming_of}
 use Rattle.planning.proofs.change.exchange_of.Goals as goal
 
