@@ -1,5 +1,6 @@
 -- What the parts of the three changes say and leave.
-use Rattle.std.specs.Prelude.{ℕ, ◌+◌, ◌<◌, ◌≤◌, true, false, cond, ◌≡◌, List}
+use Rattle.std.specs.Prelude.{ℕ, ◌+◌, ◌<◌, ◌≤◌, cond, ◌≡◌, List, Some, None}
+use Rattle.std.specs.Option.{ForSome}
 use Rattle.model.specs.Moves as model
 use Rattle.model.specs.Moves.{Row}
 use Rattle.model.specs.Lists.{skyline}
@@ -27,7 +28,7 @@ pub record Counted (u : Upkeep) : Type 0 where
 
 -- A move that comes for one that goes has other costs.
 pub record Other (c d n : ℕ) (k : Exchange) (m : List ℕ) : Type 0 where
-  pub costs : k.comes ≡ true → k.goes < n → costs_in c d m (number_in c m k.goes) ≡ k.coming.costs → ⊥
+  pub costs : ForSome k.coming (λ x. k.goes < n → costs_in c d m (number_in c m k.goes) ≡ x.costs → ⊥)
 
 -- The notice of the change, by the lists before and after it.
 unfoldable pub notice_by : ℕ → ℕ → ℕ → Exchange → List ℕ → List Row
@@ -56,7 +57,7 @@ RecostMade x m m' = (block : ℕ) → Made (calls.recost x.number block x.costs)
 
 -- A move comes and none goes; one goes and none comes; one comes for the one that goes, with other costs.
 abbrev pub entering : ℕ → Move → Exchange
-entering n x = record { goes = n; comes = true; coming = x }
+entering n x = record { goes = n; coming = Some x }
 
 pub record ToEnter (c d n : ℕ) (x : Move) (u : Upkeep) (m : List ℕ) : Type 0 where
   pub asked : AskedRows c d n (entering n x) m
@@ -64,14 +65,13 @@ pub record ToEnter (c d n : ℕ) (x : Move) (u : Upkeep) (m : List ℕ) : Type 0
   pub upkept : UpkeptRows c d n (entering n x) m u
 
 pub record ToWithdraw (c d n p : ℕ) (u : Upkeep) (m : List ℕ) : Type 0 where
-  pub coming : Move
-  pub asked : AskedRows c d n (record { goes = p; comes = false; coming = coming }) m
+  pub asked : AskedRows c d n (record { goes = p; coming = None }) m
   pub place : p < n
-  pub upkept : UpkeptRows c d n (record { goes = p; comes = false; coming = coming }) m u
+  pub upkept : UpkeptRows c d n (record { goes = p; coming = None }) m u
 
 pub record ToRecost (c d n p : ℕ) (x : Move) (u : Upkeep) (m : List ℕ) : Type 0 where
-  pub asked : AskedRows c d n (record { goes = p; comes = true; coming = x }) m
+  pub asked : AskedRows c d n (record { goes = p; coming = Some x }) m
   pub place : p < n
   pub number : number_in c m p ≡ x.number
   pub other : costs_in c d m (number_in c m p) ≡ x.costs → ⊥
-  pub upkept : UpkeptRows c d n (record { goes = p; comes = true; coming = x }) m u
+  pub upkept : UpkeptRows c d n (record { goes = p; coming = Some x }) m u

@@ -1,5 +1,5 @@
 -- The three changes as the code has them: a kind, a number, and a block and costs, which a withdrawal does not look at.
-use Rattle.std.specs.Prelude.{ℕ, Bool, true, false, List, ◌≡◌, Result, ⊤}
+use Rattle.std.specs.Prelude.{ℕ, Bool, true, false, cond, List, ◌≡◌, Some, None, Result, ⊤}
 use Rattle.model.specs.Calls as calls
 use Rattle.model.specs.Calls.{Board, on_board, change_refusal}
 use Rattle.promises.specs.Answers.{check_number}
@@ -35,7 +35,7 @@ abbrev pub coming_of : Change → Move
 coming_of x = record { number = x.number; costs = x.costs }
 
 abbrev pub exchange_of : Change → ℕ → Exchange
-exchange_of x goes = record { goes = goes; comes = comes x.kind; coming = coming_of x }
+exchange_of x goes = record { goes = goes; coming = cond (comes x.kind) (Some (coming_of x)) None }
 
 -- The refusal, 3 and 8 apart, on each board with this head where the number is or is not on the board.
 pub record JudgesBy (h : Head) (x : Change) (on : Bool) (r : Result ⊤ Reason) : Type 0 where

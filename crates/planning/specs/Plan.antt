@@ -1,5 +1,6 @@
 -- What a plan of a change says, and what carrying it out asks and leaves.
 use Rattle.std.specs.Prelude.{ℕ, ◌+◌, ◌-◌, ◌<◌, ◌≤◌, Bool, true, false, cond, ◌&&◌, Option, None, Some, ◌≡◌, List, ◌++◌, ltb, length}
+use Rattle.std.specs.Option.{ForSome, ForNone, option_map_or}
 use Rattle.model.specs.Basics.{equal}
 use Rattle.model.specs.Moves.{Row, left, entered}
 use Rattle.model.specs.Calls.{refused_with, change_refusal, change_notice, keeps_moves}
@@ -32,14 +33,14 @@ use Rattle.planning.specs.declared.plan.ChangePlan.{ChangePlan}
 -- Whether a move comes for one that goes, with its costs.
 unfoldable pub alike : ℕ → ℕ → ℕ → Exchange → List ℕ → Bool
 alike c d n k m =
-    k.comes && (ltb k.goes n && equal k.coming.costs (costs_in c d m (number_in c m k.goes)))
+    option_map_or (λ x. ltb k.goes n && equal x.costs (costs_in c d m (number_in c m k.goes))) k.coming false
 
 -- A move that comes has space, or comes for the one of its number; where none comes one goes.
 pub record ReadyRows (c d n : ℕ) (k : Exchange) (m : List ℕ) : Type 0 where
   pub asked : AskedRows c d n k m
-  pub space : k.comes ≡ true → n ≤ k.goes → n < c
-  pub number : k.comes ≡ true → k.goes < n → number_in c m k.goes ≡ k.coming.number
-  pub place : k.comes ≡ false → k.goes < n
+  pub space : ForSome k.coming (λ _. n ≤ k.goes → n < c)
+  pub number : ForSome k.coming (λ x. k.goes < n → number_in c m k.goes ≡ x.number)
+  pub place : ForNone k.coming (k.goes < n)
 
 -- ---- carrying a plan out
 

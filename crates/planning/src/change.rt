@@ -60,10 +60,10 @@ pub fn coming_of(x: Change) -> Move
 pub(crate) fn exchange_of(x: Change, goes: usize) -> Exchange
     ensures { result ≡ spec.exchange_of x goes }
 {
-    let kind = x.kind;
-    Exchange {
-        goes,
-        comes: comes(kind),
-        coming: coming_of(x),
-    }
+    let coming = if comes(x.kind) {
+        Some(coming_of(x))
+    } else {
+        None
+    };
+    Exchange { goes, coming }
 }

@@ -47,15 +47,10 @@ pub fn alike(b: &Board, k: Exchange) -> bool
     ensures { result ≡ plan.alike b.now.head.size b.now.head.dimension b.now.head.count k
         b.now.bytes.now }
 {
-    if !k.comes {
+    let Some(x) = k.coming else {
         return false;
-    }
-    let goes = k.goes;
-    if b.head.count <= goes {
-        return false;
-    }
-    let x = k.coming;
-    x.costs == b.costs_at(goes)
+    };
+    k.goes < b.head.count && x.costs == b.costs_at(k.goes)
 }
 
 // Gives the place that a coming move gets among the moves before the change; past the last where
@@ -64,9 +59,8 @@ pub fn coming_place(b: &Board, k: Exchange) -> usize
     requires { InOrder b.now.head b.now.bytes.now }
     ensures { ComingPlace b.now.head k b.now.bytes.now result }
 {
-    if !k.comes {
+    let Some(x) = k.coming else {
         return b.head.count;
-    }
-    let x = k.coming;
+    };
     place_for(b.bytes, b.head, x)
 }

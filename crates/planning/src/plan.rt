@@ -66,7 +66,7 @@ pub fn plan_on(m: &[u8], h: Head, x: Change, lent: usize) -> ChangePlan
     ChangePlan {
         verdict: enough(need, lent),
         need,
-        opened: reported(k.comes, upkeep.opened),
+        opened: reported(comes(x.kind), upkeep.opened),
         makes: true,
         goes,
         place,

@@ -1,7 +1,8 @@
 -- What a change does to the list. `Upkept` says it by the definition: who is in the list of the moves afterwards; the
 -- definitions before it are what the steps compute.
-use Rattle.std.specs.Prelude.{ℕ, suc, ◌-◌, ◌<◌, ◌≤◌, Bool, true, false, cond, not, ◌&&◌, ◌||◌, ◌≡◌, List, ◌++◌, map, eqb, ltb, length, take, drop}
+use Rattle.std.specs.Prelude.{ℕ, suc, ◌-◌, ◌<◌, ◌≤◌, Bool, true, false, not, ◌&&◌, ◌||◌, ◌≡◌, List, ◌++◌, map, eqb, ltb, length, take, drop}
 use Rattle.std.specs.Bool.{beq}
+use Rattle.std.specs.Option.{ForSome, option_map_or}
 use Rattle.zorder.specs.Address.{row_costs}
 use Rattle.model.specs.Basics.{select, count, numbers_from, has}
 use Rattle.model.specs.Moves.{Move, move_before, insert}
@@ -31,7 +32,7 @@ unfoldable pub drop_at : ℕ → List Move → List Move
 drop_at i ms = take i ms ++ drop (suc i) ms
 
 unfoldable pub moves_after : ℕ → Exchange → List Move → List Move
-moves_after d k ms = cond k.comes (insert d (as_move k.coming) (drop_at k.goes ms)) (drop_at k.goes ms)
+moves_after d k ms = option_map_or (λ x. insert d (as_move x) (drop_at k.goes ms)) k.coming (drop_at k.goes ms)
 
 -- Whether the move at place i is in the list afterwards.
 unfoldable pub stays : ℕ → ℕ → ℕ → Exchange → List ℕ → ℕ → Bool
@@ -40,13 +41,13 @@ stays c d n k m i =
 
 -- Whether a coming move is in the list afterwards.
 abbrev pub coming_listed : ℕ → ℕ → ℕ → Exchange → List ℕ → Bool
-coming_listed c d n k m = k.comes && not (hidden d (moves_after d k (moves_in (line_from c d n m))) (as_move k.coming))
+coming_listed c d n k m = option_map_or (λ x. not (hidden d (moves_after d k (moves_in (line_from c d n m))) (as_move x))) k.coming false
 
 pub record AskedRows (c d n : ℕ) (k : Exchange) (m : List ℕ) : Type 0 where
   pub sound : SoundRows c d n m
   pub goes : k.goes ≤ n
-  pub fit : k.comes ≡ true → Fit c d (as_move k.coming)
-  pub new : k.comes ≡ true → on_board k.coming.number (drop_at k.goes (moves_in (line_from c d n m))) ≡ false
+  pub fit : ForSome k.coming (λ x. Fit c d (as_move x))
+  pub new : ForSome k.coming (λ x. on_board x.number (drop_at k.goes (moves_in (line_from c d n m))) ≡ false)
 
 abbrev pub ChangeAsked : Head → Exchange → List ℕ → Type 0
 ChangeAsked h = AskedRows h.size h.dimension h.count
@@ -54,7 +55,7 @@ ChangeAsked h = AskedRows h.size h.dimension h.count
 -- The place that a coming move gets among the moves before the change; any where none comes.
 pub record PlaceRows (c d n : ℕ) (k : Exchange) (m : List ℕ) (r : ℕ) : Type 0 where
   pub within : r ≤ n
-  pub is : k.comes ≡ true → r ≡ place_for d (as_move k.coming) (line_from c d n m)
+  pub is : ForSome k.coming (λ x. r ≡ place_for d (as_move x) (line_from c d n m))
 
 abbrev pub ComingPlace : Head → Exchange → List ℕ → ℕ → Type 0
 ComingPlace h = PlaceRows h.size h.dimension h.count
@@ -79,7 +80,7 @@ unfoldable pub hidden_by_others : ℕ → ℕ → ℕ → ℕ → Move → List 
 hidden_by_others c d n goes x m = any_to (λ j. not (eqb j goes) && hides d (move_in c d m j) x) n
 
 unfoldable pub hidden_by_coming : ℕ → Exchange → Move → Bool
-hidden_by_coming d k x = k.comes && hides d (as_move k.coming) x
+hidden_by_coming d k x = option_map_or (λ y. hides d (as_move y) x) k.coming false
 
 unfoldable pub comes_up : ℕ → ℕ → ℕ → Exchange → Move → List ℕ → Bool
 comes_up c d n k x m =

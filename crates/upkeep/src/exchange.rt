@@ -14,8 +14,7 @@ use search::Index;
 #[derive(Clone, Copy)]
 pub struct Exchange {
     pub goes: usize,
-    pub comes: bool,
-    pub coming: Move,
+    pub coming: Option<Move>,
 }
 
 // The numbers of the moves whose flag changes, the coming one apart; how many leave the list and
@@ -59,10 +58,5 @@ pub fn hidden_by_coming(d: usize, k: Exchange, x: Move) -> bool
     requires { d ≤ row_costs }
     ensures { result ≡ spec.hidden_by_coming d k (as_move x) }
 {
-    if k.comes {
-        let coming = k.coming;
-        hides(d, coming, x)
-    } else {
-        false
-    }
+    k.coming.is_some_and(|coming| hides(d, coming, x))
 }

@@ -50,10 +50,9 @@ fn coming_listed(all: &Index, k: Exchange, place: usize) -> bool
         all.now.board.head.count k
         all.now.board.bytes.now }
 {
-    if !k.comes {
+    let Some(x) = k.coming else {
         return false;
-    }
-    let x = k.coming;
+    };
     !hidden_by_others(all, k.goes, place, x)
 }
 

@@ -41,31 +41,31 @@ module _ {c d n : ℕ} {x : Move} {u : Upkeep} {m m₁ m₂ m₃ : List ℕ} (a 
   s = a.asked.sound
 
   flagged : FlagsOnly c m m₂
-  flagged = listed-frame x.number u.listed (a.asked.fit refl).number set.frame e₂
+  flagged = listed-frame x.number u.listed (a.asked.fit x refl).number set.frame e₂
 
   module _ (t : Tree) (stands : Stands m t) where
     flagged-holds : RowsHold c d n m₂ t
     flagged-holds = holds-over-flags (holds-sound s b t stands) flagged
 
     off : on_board x.number (moves_of t) ≡ false
-    off = ap (on_board x.number) (sym (holds-moves (holds-sound s b t stands)) ∙ sym (entering-moves c d n m)) ∙ a.asked.new refl
+    off = ap (on_board x.number) (sym (holds-moves (holds-sound s b t stands)) ∙ sym (entering-moves c d n m)) ∙ a.asked.new x refl
 
   pub enter-line-asked : tree.EnterAsked c d n (as_move x) m₃
   enter-line-asked =
       let t = s.sound.tree in
       let stands = s.sound.stands in
-      stored-asked (flagged-holds t stands) (a.asked.fit refl) (off t stands) e₃ a.space
+      stored-asked (flagged-holds t stands) (a.asked.fit x refl) (off t stands) e₃ a.space
 
   pub enter-count-asked : {m₄ : List ℕ} → tree.Entered c d n (as_move x) m₃ m₄ → (16 ≤ length m₄) × (n + 1 < 65536)
   enter-count-asked entered =
       let t = s.sound.tree in
       let stands = s.sound.stands in
-      let k = holds-counted (entered.holds t (stored-holds (flagged-holds t stands) (a.asked.fit refl) (off t stands) e₃)) in
+      let k = holds-counted (entered.holds t (stored-holds (flagged-holds t stands) (a.asked.fit x refl) (off t stands) e₃)) in
       omega arith
 
   module _ {m₄ m₅ : List ℕ} (entered : tree.Entered c d n (as_move x) m₃ m₄) (e₅ : m₅ ≡ set_count (n + 1) m₄) (t : Tree) (stands : Stands m t) where
     costs : CostsOnly c m₂ m₃
-    costs = stored-frame (flagged-holds t stands) (a.asked.fit refl) (off t stands) e₃
+    costs = stored-frame (flagged-holds t stands) (a.asked.fit x refl) (off t stands) e₃
 
     enter-kept : (block : ℕ) → Moved (calls.enter x.number block x.costs) m m₅ t
     unfolding change_tree calls.changed_moves moves_after
@@ -73,10 +73,10 @@ module _ {c d n : ℕ} {x : Move} {u : Upkeep} {m m₁ m₂ m₃ : List ℕ} (a 
         let h = holds-sound s b t stands in
         made s (calls.enter x.number block x.costs) t
         (only-trans (flags-written c flagged) (only-trans (costs-written c costs) (rows_written c entered.frame)))
-        (entered.holds t (stored-holds (flagged-holds t stands) (a.asked.fit refl) (off t stands) e₃))
-        (enter-moves d (Fit c d) (move-order d c h.readable.dimension) (as_move x) (a.asked.fit refl) t h.rules h.fits ∙ ap (insert d (as_move x)) (sym (holds-moves h)))
+        (entered.holds t (stored-holds (flagged-holds t stands) (a.asked.fit x refl) (off t stands) e₃))
+        (enter-moves d (Fit c d) (move-order d c h.readable.dimension) (as_move x) (a.asked.fit x refl) t h.rules h.fits ∙ ap (insert d (as_move x)) (sym (holds-moves h)))
         (subst (FlagsRight c d m₄) (ap (insert d (as_move x)) (entering-moves c d n m))
-        (flags-come a.asked a.upkept set m₄ refl
+        (flags-come a.asked a.upkept set m₄ x refl
         (λ v l. flag-over-rows c entered.frame v ∙ flag-over-costs c costs v l ∙ ap (λ (w : List ℕ). flag_in c w v) e₂)))
         (e₅ ∙ ap (λ (k : ℕ). set_count k m₄) (add-one n))
 

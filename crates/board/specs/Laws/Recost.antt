@@ -56,7 +56,7 @@ module _ {c d n p : ℕ} {x : Move} {u : Upkeep} {m m₁ m₂ : List ℕ} (a : T
   before = moves_in (line_from c d n m)
 
   abbrev fit : Fit c d (as_move x)
-  fit = a.asked.fit refl
+  fit = a.asked.fit x refl
 
   flagged : FlagsOnly c m m₂
   flagged = listed-frame x.number u.listed fit.number set.frame e₂
@@ -90,7 +90,7 @@ module _ {c d n p : ℕ} {x : Move} {u : Upkeep} {m m₁ m₂ : List ℕ} (a : T
     gone = gone-holds w s b a.place flagged
 
     off : (t : Tree) → Stands m t → on_board x.number (moves_of (withdraw_tree d (number_in c m p) t)) ≡ false
-    off t stands = ap (on_board x.number) (gone-moves w s b a.place flagged t stands) ∙ a.asked.new refl
+    off t stands = ap (on_board x.number) (gone-moves w s b a.place flagged t stands) ∙ a.asked.new x refl
 
     pub recost-enter-asked : tree.EnterAsked c d (n - 1) (as_move x) m₄
     recost-enter-asked =
@@ -122,7 +122,7 @@ module _ {c d n p : ℕ} {x : Move} {u : Upkeep} {m m₁ m₂ : List ℕ} (a : T
           held
           (ap moves_of (sym (recost-tree t stands)) ∙ moves ∙ ap (insert d (as_move x)) (sym rest))
           (subst (FlagsRight c d m₅) (ap (insert d (as_move x)) (sym rest))
-          (flags-come a.asked a.upkept set m₅ refl
+          (flags-come a.asked a.upkept set m₅ x refl
           (λ v l.
           flag-over-rows c entered.frame v
           ∙ flag-over-costs c costs v l

@@ -1,5 +1,5 @@
 -- Steps that the changes share: what each asks of the rows, and what it leaves.
-use Rattle.std.specs.Prelude.{ℕ, ◌-◌, ◌≤◌, ◌<◌, Bool, true, false, List, ◌≡◌, length}
+use Rattle.std.specs.Prelude.{ℕ, ◌-◌, ◌≤◌, ◌<◌, Bool, false, List, ◌≡◌, Some, length}
 use Rattle.std.proofs.Common.{sym, ap, ◌∙◌, subst, arith}
 use Rattle.zorder.specs.Address.{row_costs}
 use Rattle.model.specs.Moves as model
@@ -13,6 +13,7 @@ use Rattle.line.specs.Line.{moves_in}
 use Rattle.promises.specs.Layout.{number_in, costs_in, flag_in, line_from}
 use Rattle.promises.specs.Sound.{Stands}
 use Rattle.promises.specs.Run.{Bytes}
+use Rattle.dominance.specs.declared.Move.{Move}
 use Rattle.memory.specs.Room.{Room}
 use Rattle.memory.specs.Held.{SoundRows}
 use Rattle.memory.specs.Stores.{set_listed, set_costs}
@@ -31,8 +32,8 @@ use Rattle.upkeep.specs.declared.exchange.Exchange.{Exchange}
 use Rattle.board.specs.Laws.Rows.{holds-sound, holds-moves, holds-over-flags, holds-set_costs, enter-asked}
 
 -- What storing the flag and the costs of a coming move asks, whatever was written before.
-pub coming-asked : {c d n : ℕ} {k : Exchange} {m m₁ : List ℕ} → AskedRows c d n k m → k.comes ≡ true → MovesOnly c m m₁ → Room c m₁ × (k.coming.number < c)
-coming-asked {c} {d} {n} {m = m} asked comes f = (only-room c f (held-room c d n m asked.sound), (asked.fit comes).number)
+pub coming-asked : {c d n : ℕ} {k : Exchange} {m m₁ : List ℕ} {x : Move} → AskedRows c d n k m → k.coming ≡ Some x → MovesOnly c m m₁ → Room c m₁ × (x.number < c)
+coming-asked {c} {d} {n} {m = m} {x = x} asked comes f = (only-room c f (held-room c d n m asked.sound), (asked.fit x comes).number)
 
 -- Its flag, after those of the others.
 pub listed-frame : {c : ℕ} {m m₁ m₂ : List ℕ} (k : ℕ) (b : Bool) → k < c → FlagsOnly c m m₁ → m₂ ≡ set_listed c k b m₁ → FlagsOnly c m m₂

@@ -1,5 +1,5 @@
 -- A change that no check turns down is ready to be told and made.
-use Rattle.std.specs.Prelude.{ℕ, suc, ◌<◌, ◌≤◌, Bool, true, false, ◌&&◌, ◌≡◌}
+use Rattle.std.specs.Prelude.{ℕ, suc, ◌<◌, ◌≤◌, Bool, true, false, cond, ◌&&◌, ◌≡◌, Some, None}
 use Rattle.std.proofs.Math.Bool.{not}
 use mathlib.Core.List.{List, [], ◌∷◌}
 use Rattle.std.proofs.Math.Path.{refl, ap, ap₂, subst}
@@ -44,6 +44,7 @@ use Rattle.planning.specs.declared.change.Kind.{Kind}
 use Rattle.planning.specs.declared.change.Kind.TheVariants.{Enter, Withdraw, Recost}
 use Rattle.planning.proofs.Laws.Judge.{board-moves, judge-size, judge-past, on-board}
 use Rattle.planning.proofs.Laws.Places.{entering-moves}
+use Rattle.planning.proofs.Laws.Coming.{only, never}
 
 -- The four checks, none of which turns the change down.
 all_pass : (b : calls.Board) (number block : ℕ) (costs : List ℕ) (t : Bool) (k : ℕ)
@@ -74,7 +75,7 @@ module _ {c d n : ℕ} {m : List ℕ} (s : SoundRows c d n m) where
 
 module _ {c d n : ℕ} {m : List ℕ} (s : SoundRows c d n m) (b : Bytes m) (x : Move) (block : ℕ) (w : Costs row_costs x.costs) where
   abbrev coming : Exchange
-  coming = record { goes = n; comes = true; coming = x }
+  coming = record { goes = n; coming = Some x }
 
   module _ (ok : change_refusal (board_in m) (calls.enter x.number block x.costs) ≡ 0) where
     enter-checks : (leb (board_in m).size x.number ≡ false) × (cost_past_bad (board_in m).dimension x.costs ≡ false) × (on_board x.number (board_in m).moves ≡ false) × (block_bad block ≡ false)
@@ -107,19 +108,19 @@ module _ {c d n : ℕ} {m : List ℕ} (s : SoundRows c d n m) (b : Bytes m) (x :
               record {
                 sound = s;
                 goes = omega arith;
-                fit = λ _. enter-fit;
-                new = λ _. ap (on_board x.number) (entering-moves c d n m) ∙ enter-off;
+                fit = only (λ y. Fit c d (as_move y)) enter-fit;
+                new = only (λ y. on_board y.number (drop_at n (ms s)) ≡ false) (ap (on_board x.number) (entering-moves c d n m) ∙ enter-off);
               };
-          space = λ _ _. enter-space;
-          number = λ _ l. absurd (omega arith);
-          place = λ e. both_ways refl e;
+          space = λ _ _ _. enter-space;
+          number = λ _ _ l. absurd (omega arith);
+          place = λ e. never (λ _. n < n) x (sym e);
         }
 
 -- ---- withdraw
 
-module _ {c d n number p : ℕ} {m : List ℕ} (s : SoundRows c d n m) (b : Bytes m) (none : Move) (e : PlaceOf c n number m p) where
+module _ {c d n number p : ℕ} {m : List ℕ} (s : SoundRows c d n m) (e : PlaceOf c n number m p) where
   abbrev leaving : Exchange
-  leaving = record { goes = p; comes = false; coming = none }
+  leaving = record { goes = p; coming = None }
 
   module _ (ok : change_refusal (board_in m) (calls.withdraw number) ≡ 0) where
     withdraw-place : p < n
@@ -131,9 +132,15 @@ module _ {c d n number p : ℕ} {m : List ℕ} (s : SoundRows c d n m) (b : Byte
     withdraw-ready : ReadyRows c d n leaving m
     withdraw-ready =
         record {
-          asked = record { sound = s; goes = e.within; fit = λ f. both_ways f refl; new = λ f. both_ways f refl };
-          space = λ f. both_ways f refl;
-          number = λ f. both_ways f refl;
+          asked =
+              record {
+                sound = s;
+                goes = e.within;
+                fit = never (λ y. Fit c d (as_move y));
+                new = never (λ y. on_board y.number (drop_at p (ms s)) ≡ false);
+              };
+          space = never (λ _. n ≤ p → n < c);
+          number = never (λ y. p < n → number_in c m p ≡ y.number);
           place = λ _. withdraw-place;
         }
 
@@ -146,7 +153,7 @@ recost-on b number block costs ok =
 
 module _ {c d n p : ℕ} {m : List ℕ} (s : SoundRows c d n m) (b : Bytes m) (x : Move) (block : ℕ) (w : Costs row_costs x.costs) (e : PlaceOf c n x.number m p) where
   abbrev moving : Exchange
-  moving = record { goes = p; comes = true; coming = x }
+  moving = record { goes = p; coming = Some x }
 
   module _ (ok : change_refusal (board_in m) (calls.recost x.number block x.costs) ≡ 0) where
     recost-checks : (leb (board_in m).size x.number ≡ false) × (cost_past_bad (board_in m).dimension x.costs ≡ false) × (not (on_board x.number (board_in m).moves) ≡ false) × (block_bad block ≡ false)
@@ -166,12 +173,12 @@ module _ {c d n p : ℕ} {m : List ℕ} (s : SoundRows c d n m) (b : Bytes m) (x
               record {
                 sound = s;
                 goes = e.within;
-                fit = λ _. move-fits s x w recost-checks.0 recost-checks.1;
-                new = λ _. ap (on_board x.number) recost-rest ∙ off-without x.number (ms s);
+                fit = only (λ y. Fit c d (as_move y)) (move-fits s x w recost-checks.0 recost-checks.1);
+                new = only (λ y. on_board y.number (drop_at p (ms s)) ≡ false) (ap (on_board x.number) recost-rest ∙ off-without x.number (ms s));
               };
-          space = λ _ l. absurd (omega (arith, recost-place));
-          number = λ _ _. e.found recost-place;
-          place = λ f. both_ways refl f;
+          space = λ _ _ l. absurd (omega (arith, recost-place));
+          number = only (λ y. p < n → number_in c m p ≡ y.number) (λ _. e.found recost-place);
+          place = λ f. never (λ _. p < n) x (sym f);
         }
 
 -- ---- each kind of change
@@ -183,13 +190,13 @@ module _ {c d n p : ℕ} {m : List ℕ} (s : SoundRows c d n m) (b : Bytes m) (x
       omega (arith, e.within, ltb-false p n (sym (on-board c d n m s x.number p e) ∙ (enter-checks s b x block w ok).2))
 
   abbrev change : Kind → Exchange
-  change kind = record { goes = p; comes = comes kind; coming = x }
+  change kind = record { goes = p; coming = cond (comes kind) (Some x) None }
 
   pub kind-ready : (kind : Kind) → change_refusal (board_in m) (change_of kind x.number block x.costs) ≡ 0 → ReadyRows c d n (change kind) m
   unfolding change_of comes
   kind-ready Enter ok =
-      subst (λ (g : ℕ). ReadyRows c d n (record { goes = g; comes = true; coming = x }) m) (sym (enter-last ok)) (enter-ready s b x block w ok)
-  kind-ready Withdraw ok = withdraw-ready s b x e ok
+      subst (λ (g : ℕ). ReadyRows c d n (record { goes = g; coming = Some x }) m) (sym (enter-last ok)) (enter-ready s b x block w ok)
+  kind-ready Withdraw ok = withdraw-ready s e ok
   kind-ready Recost ok = recost-ready s b x block w e ok
 
   -- The moves that it leaves.
@@ -198,7 +205,7 @@ module _ {c d n p : ℕ} {m : List ℕ} (s : SoundRows c d n m) (b : Bytes m) (x
   unfolding change_of comes moves_after changed_moves
   kind-moves Enter ok = ap (insert d (as_move x)) (ap (λ (g : ℕ). drop_at g (ms s)) (enter-last ok) ∙ entering-moves c d n m)
   kind-moves Withdraw ok =
-      let l = withdraw-place s b x e ok in
+      let l = withdraw-place s e ok in
       rest-without c d n p m s b l ∙ ap (λ (k : ℕ). without k (ms s)) (e.found l)
   kind-moves Recost ok = ap (insert d (as_move x)) (recost-rest s b x block w e ok)
 
@@ -213,12 +220,12 @@ module _ {c d n p : ℕ} {m : List ℕ} (s : SoundRows c d n m) (b : Bytes m) (x
       record {
         asked = ready.asked;
         space = enter-space s b x block w ok;
-        upkept = subst (λ (g : ℕ). UpkeptRows c d n (record { goes = g; comes = true; coming = x }) m u) (enter-last ok) up;
+        upkept = subst (λ (g : ℕ). UpkeptRows c d n (record { goes = g; coming = Some x }) m u) (enter-last ok) up;
       }
   kind-prepared Withdraw ok other up =
-      let ready = withdraw-ready s b x e ok in
-      let l = withdraw-place s b x e ok in
-      (record { coming = x; asked = ready.asked; place = l; upkept = up }, e.found l)
+      let ready = withdraw-ready s e ok in
+      let l = withdraw-place s e ok in
+      (record { asked = ready.asked; place = l; upkept = up }, e.found l)
   kind-prepared Recost ok other up =
       let ready = recost-ready s b x block w e ok in
       let l = recost-place s b x block w e ok in

@@ -1,9 +1,10 @@
 -- The notice of a change: how many rows it has, and that a telling of the change has them.
-use Rattle.std.specs.Prelude.{ℕ, ◌+◌, ◌≤◌, ◌<◌, Bool, true, cond, List, ◌++◌, map, ◌≡◌}
+use Rattle.std.specs.Prelude.{ℕ, ◌+◌, ◌≤◌, ◌<◌, Bool, cond, List, ◌++◌, map, ◌≡◌}
 use Rattle.std.proofs.Math.Path.{sym, ap}
 use Rattle.std.proofs.Common.{arith}
 use Rattle.std.proofs.Math.ListN.{length, length-append}
 use Rattle.model.specs.Basics.{count, numbers_from}
+use Rattle.std.specs.Option.{ForSome}
 use Rattle.model.specs.Moves as model
 use Rattle.model.specs.Moves.{Row, row_of, left, entered}
 use Rattle.model.specs.Lists.{skyline}
@@ -13,6 +14,7 @@ use Rattle.promises.specs.Layout.{move_in, line_from}
 use Rattle.promises.specs.Answers.{result_row}
 use Rattle.promises.specs.Run.{Bytes}
 use Rattle.dominance.specs.Move.{as_move}
+use Rattle.dominance.specs.declared.Move.{Move}
 use Rattle.memory.specs.declared.head.Head.{Head}
 use Rattle.memory.specs.Laws.Held.{held-room, held-few}
 use Rattle.upkeep.specs.Change.{AskedRows, UpkeptRows, PlaceRows, moves_after}
@@ -31,10 +33,11 @@ module _ {c d n : ℕ} {k : Exchange} {m : List ℕ} (a : AskedRows c d n k m) w
   pub upkeep-counted : {u : Upkeep} → UpkeptRows c d n k m u → Counted u
   upkeep-counted {u} v = record { left = few-counted _ u.left v.left; entered = few-counted _ u.entered v.entered }
 
-  module _ (b : Bytes m) (o : Other c d n k m) {u : Upkeep} (v : UpkeptRows c d n k m u) {p : ℕ} (q : PlaceRows c d n k m p) where
-    other : k.comes ≡ true → k.goes < n → move_in c d m k.goes ≡ as_move k.coming → ⊥
+  module _ (b : Bytes m) (o : Other c d n k m) {u : Upkeep} (v : UpkeptRows c d n k m u) {p : ℕ} (q : PlaceRows c d n k m p)
+      (entrant : Move) (own : ForSome k.coming (λ x. entrant ≡ x)) where
+    other : ForSome k.coming (λ x. k.goes < n → move_in c d m k.goes ≡ as_move x → ⊥)
     unfolding move_in
-    other e l q = o.costs e l (ap (λ (y : model.Move). y.costs) q)
+    other x e l q = o.costs x e l (ap (λ (y : model.Move). y.costs) q)
 
     abbrev old : List model.Move
     old = skyline d (moves_in (line_from c d n m))
@@ -53,16 +56,16 @@ module _ {c d n : ℕ} {k : Exchange} {m : List ℕ} (a : AskedRows c d n k m) w
     h = record { size = c; dimension = d; count = n }
 
     pub rows_left : map result_row (told_rows (leaving_by h) u.changed m) ≡ left_rows
-    rows_left = left-told c d n k m a.sound b a other p q.within q.is u v
+    rows_left = left-told c d n k m a.sound b a other p q.within q.is u v entrant own
 
-    pub rows-entered : map result_row (told_rows (entering_by h (coming_if u.listed p k.coming)) u.changed m) ≡ entered_rows
-    rows-entered = entered-told c d n k m a.sound b a other p q.within q.is u v
+    pub rows-entered : map result_row (told_rows (entering_by h (coming_if u.listed p entrant)) u.changed m) ≡ entered_rows
+    rows-entered = entered-told c d n k m a.sound b a other p q.within q.is u v entrant own
 
     pub count_left : u.left ≡ length left_rows
-    count_left = left-number c d n k m a.sound b a other p q.within q.is u v
+    count_left = left-number c d n k m a.sound b a other p q.within q.is u v entrant own
 
     pub count-entered : u.entered + cond u.listed 1 0 ≡ length entered_rows
-    count-entered = entered-number c d n k m a.sound b a other p q.within q.is u v
+    count-entered = entered-number c d n k m a.sound b a other p q.within q.is u v entrant own
 
     pub rows-notice : left_rows ++ entered_rows ≡ notice_by c d n k m
     unfolding notice_by

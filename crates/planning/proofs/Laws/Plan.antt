@@ -1,11 +1,12 @@
 -- The plan of a change, for each of its answers.
-use Rattle.std.specs.Prelude.{ℕ, zero, suc, ◌+◌, ◌-◌, ◌≤◌, ◌<◌, Bool, true, false, cond, List, [], ◌≡◌, ltb}
+use Rattle.std.specs.Prelude.{ℕ, zero, suc, ◌+◌, ◌-◌, ◌≤◌, ◌<◌, Bool, false, cond, List, [], ◌≡◌, Some, None, ltb}
 use Rattle.std.proofs.Math.Bool.{true, ◌&&◌}
 use Rattle.std.proofs.Math.Path.{refl, sym, ap}
 use Rattle.std.proofs.Common.{ap₂, ◌∙◌, subst}
 use native.Mathlib.Omega.{arith}
 use borrow.Author.Tests.{ltb-true, lt-ltb, le-ltb}
 use Rattle.std.proofs.Math.ListN.{length}
+use Rattle.std.specs.Option.{ForSome}
 use Rattle.zorder.specs.Address.{row_costs}
 use Rattle.zorder.proofs.Laws.Address.{Costs}
 use Rattle.model.specs.Basics.{equal}
@@ -23,6 +24,7 @@ use Rattle.promises.specs.Run.{Bytes}
 use Rattle.promises.proofs.Laws.Answers.{reason-above, counted-zero}
 use Rattle.promises.specs.declared.Reason.{Reason}
 use Rattle.promises.specs.declared.Reason.TheVariants.{Unsound}
+use Rattle.dominance.specs.declared.Move.{Move}
 use Rattle.memory.specs.Held.{SoundRows}
 use Rattle.memory.specs.Laws.Held.{held-room, held-readable}
 use Rattle.memory.specs.declared.head.Head.{Head}
@@ -31,13 +33,13 @@ use Rattle.upkeep.specs.Change.{UpkeptRows, PlaceRows}
 use Rattle.upkeep.specs.declared.exchange.Upkeep.{Upkeep}
 use Rattle.rows.specs.Planned.{Foreseen, Tells}
 use Rattle.rows.proofs.Planned.{foreseen-unsound, foreseen-refused, foreseen-judged, few-refuses, counted-all, counted_none}
-use Rattle.dominance.specs.declared.Move.{Move}
 use Rattle.rows.specs.Telling.{place_in}
 use Rattle.rows.specs.declared.telling.Telling.{Telling}
 use Rattle.planning.specs.Kind.{change_of, call_of, comes, coming_of, exchange_of}
 use Rattle.planning.specs.Change.{Other, needed_rows, Made}
 use Rattle.planning.specs.Plan.{alike, ReadyRows, Giveable, Planned, KeepsMoves, coming_if}
 use Rattle.planning.proofs.Laws.Judge.{board-moves}
+use Rattle.planning.proofs.Laws.Coming.{came, if-came, if-some}
 use Rattle.planning.proofs.Laws.Places.{costs-board}
 use Rattle.planning.proofs.Laws.Notice.{left_rows, entered_rows, rows_left, rows-entered, count_left, count-entered, rows-notice, rows-needed}
 use Rattle.planning.proofs.Laws.Calls.{not-refused, call-notice}
@@ -132,6 +134,14 @@ module _ {c d n g : ℕ} {m : List ℕ} (s : SoundRows c d n m) (b : Bytes m) (x
   pub ready : ReadyRows c d n (exchange_of x g) m
   ready = kind-ready s b (coming_of x) x.block w e x.kind ok
 
+  -- The move that comes is that of the change.
+  own : ForSome (exchange_of x g).coming (λ y. coming_of x ≡ y)
+  own y e = (if-came (comes x.kind) e).1
+
+  alike-is : alike c d n (exchange_of x g) m ≡ (comes x.kind && (ltb g n && equal x.costs (costs_in c d m (number_in c m g))))
+  unfolding alike
+  alike-is = if-some (comes x.kind) (λ y. ltb g n && equal y.costs (costs_in c d m (number_in c m g))) (coming_of x)
+
   giveable : comes x.kind ≡ true → Giveable c x m
   giveable f =
       let k = kind-block s b (coming_of x) x.block w e x.kind f ok in
@@ -140,12 +150,11 @@ module _ {c d n g : ℕ} {m : List ℕ} (s : SoundRows c d n m) (b : Bytes m) (x
   -- A re-cost with equal costs.
   module _ (same : alike c d n (exchange_of x g) m ≡ true) where
     alike-costs : (comes x.kind ≡ true) × (g < n) × (equal x.costs (costs_in c d m x.number) ≡ true)
-    unfolding alike
     alike-costs =
-        let f = and_left (comes x.kind) _ same in
-        let rest = and_right (comes x.kind) _ same in
+        let f = and_left (comes x.kind) _ (sym alike-is ∙ same) in
+        let rest = and_right (comes x.kind) _ (sym alike-is ∙ same) in
         let l = ltb-true g n (and_left (ltb g n) _ rest) in
-        (f, l, ap (λ (i : ℕ). equal x.costs (costs_in c d m i)) (sym (ready.number f l)) ∙ and_right (ltb g n) _ rest)
+        (f, l, ap (λ (i : ℕ). equal x.costs (costs_in c d m i)) (sym (ready.number (coming_of x) (came f) l)) ∙ and_right (ltb g n) _ rest)
 
     -- Only a re-cost has a move come for one that goes.
     by_kind : (kind : Kind) → x.kind ≡ kind → ([] ≡ change_notice (board_in m) (change_of kind x.number x.block x.costs)) × Made (change_of kind x.number x.block x.costs) m m
@@ -160,7 +169,7 @@ module _ {c d n g : ℕ} {m : List ℕ} (s : SoundRows c d n m) (b : Bytes m) (x
     by_kind Withdraw k = both_ways (sym (ap comes k) ∙ alike-costs.0) refl
     by_kind Recost k =
         let passes = sym (ap (λ (kind : Kind). change_refusal (board_in m) (change_of kind x.number x.block x.costs)) k) ∙ ok in
-        let fit = ready.asked.fit alike-costs.0 in
+        let fit = ready.asked.fit (coming_of x) (came alike-costs.0) in
         let on = recost-on (board_in m) x.number x.block x.costs passes in
         (sym (no-notice s b (coming_of x) fit on alike-costs.2 x.block), same-made s b (coming_of x) fit on alike-costs.2 x.block, λ _. refl)
 
@@ -174,13 +183,13 @@ module _ {c d n g : ℕ} {m : List ℕ} (s : SoundRows c d n m) (b : Bytes m) (x
 
   module _ (different : alike c d n (exchange_of x g) m ≡ false) where
     other : Other c d n (exchange_of x g) m
-    unfolding alike
     other =
         record {
-          costs = λ f l q.
+          costs = λ y e l q.
+              let w = if-came (comes x.kind) e in
               both_ways
-              (ap₂ ◌&&◌ f (ap₂ ◌&&◌ (lt-ltb g n l) (ap (equal x.costs) q ∙ equal-refl x.costs)))
-              different;
+              (ap₂ ◌&&◌ w.0 (ap₂ ◌&&◌ (lt-ltb g n l) (ap (equal x.costs) (q ∙ ap (λ (z : Move). z.costs) (sym w.1)) ∙ equal-refl x.costs)))
+              (sym alike-is ∙ different);
         }
 
     -- A change that is made changes something.
@@ -194,8 +203,9 @@ module _ {c d n g : ℕ} {m : List ℕ} (s : SoundRows c d n m) (b : Bytes m) (x
         let l : g < n = recost-place s b (coming_of x) x.block w e passes in
         let own = board-moves c d n m s in
         let on = ap (on_board x.number) (sym own) ∙ recost-on (board_in m) x.number x.block x.costs passes in
-        ap (equal x.costs) (ap (costs_on x.number) own ∙ costs-board c d n m x.number on ∙ ap (costs_in c d m) (sym (ready.number f l)))
+        ap (equal x.costs) (ap (costs_on x.number) own ∙ costs-board c d n m x.number on ∙ ap (costs_in c d m) (sym (ready.number (coming_of x) (came f) l)))
         ∙ sym (ap₂ (λ (p q : Bool). p && (q && equal x.costs (costs_in c d m (number_in c m g)))) f (lt-ltb g n l))
+        ∙ sym alike-is
         ∙ different
 
     -- A withdrawal reports the nodes opened, the others none.
@@ -204,7 +214,7 @@ module _ {c d n g : ℕ} {m : List ℕ} (s : SoundRows c d n m) (b : Bytes m) (x
     unfolding change_of change_opens comes
     kind-opens up Enter k t stands = refl
     kind-opens up Withdraw k t stands =
-        let l = ready.place (ap comes k) in
+        let l = ready.place (ap (λ (t : Bool). cond t (Some (coming_of x)) None) (ap comes k)) in
         up.opened l t stands ∙ (λ i. withdraw_opens (s.dimension i) (e.found l i) t)
     kind-opens up Recost k t stands = refl
 
@@ -215,26 +225,26 @@ module _ {c d n g : ℕ} {m : List ℕ} (s : SoundRows c d n m) (b : Bytes m) (x
     plan-full {lent} {u} up {place} q {need} is v answer {opened} shown =
         let a = ready.asked in
         let moves = kind-moves s b (coming_of x) x.block w e x.kind ok in
-        let notice = rows-notice a b other up q ∙ call-notice (exchange_of x g) s call moves in
-        let needs : need ≡ length (change_notice (board_in m) call) = is ∙ rows-needed a b other up q ∙ ap length (call-notice (exchange_of x g) s call moves) in
+        let notice = rows-notice a b other up q (coming_of x) own ∙ call-notice (exchange_of x g) s call moves in
+        let needs : need ≡ length (change_notice (board_in m) call) = is ∙ rows-needed a b other up q (coming_of x) own ∙ ap length (call-notice (exchange_of x g) s call moves) in
         let few = few-refuses need lent (number_of v) (ap (λ (a : calls.Answer). a.number) answer) in
-        let left = count_left a b other up q in
-        let rest : need - u.left ≡ length (entered_rows a b other up q) = omega (arith, is, count-entered a b other up q) in
+        let left = count_left a b other up q (coming_of x) own in
+        let rest : need - u.left ≡ length (entered_rows a b other up q (coming_of x) own) = omega (arith, is, count-entered a b other up q (coming_of x) own) in
         record {
           foreseen = foreseen-judged _ _ _ m lent need opened s.sound v (not-refused ok) answer needs (λ t stands. shown ∙ kind-opens up x.kind refl t stands);
-          lefts = left_rows a b other up q;
-          entereds = entered_rows a b other up q;
+          lefts = left_rows a b other up q (coming_of x) own;
+          entereds = entered_rows a b other up q (coming_of x) own;
           notice = λ _. notice;
           leaves =
               record {
-                rows = λ _. rows_left a b other up q;
+                rows = λ _. rows_left a b other up q (coming_of x) own;
                 count = λ z. counted-all (number_of v) u.left z ∙ left;
                 none = λ h. counted_none (number_of v) u.left h;
                 asked = λ _. record { readable = held-readable s; place = omega arith };
               };
           enters =
               record {
-                rows = λ _. rows-entered a b other up q;
+                rows = λ _. rows-entered a b other up q (coming_of x) own;
                 count = λ z. counted-all (number_of v) (need - u.left) z ∙ rest;
                 none = λ h. counted_none (number_of v) (need - u.left) h;
                 asked = λ _. record { readable = held-readable s; place = coming-within u.listed place n (coming_of x) q.within };
@@ -243,7 +253,7 @@ module _ {c d n g : ℕ} {m : List ℕ} (s : SoundRows c d n m) (b : Bytes m) (x
           enough = counted-parts (number_of v) u.left need lent (omega (arith, is)) few;
           able =
               record {
-                moves = λ _ _. kind-prepared s b (coming_of x) x.block w e x.kind ok (λ f l. other.costs f l) up;
+                moves = λ _ _. kind-prepared s b (coming_of x) x.block w e x.kind ok (λ f l. other.costs (coming_of x) (came f) l) up;
                 block = λ _. giveable;
               };
           change = refl;

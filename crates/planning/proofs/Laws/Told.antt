@@ -1,7 +1,8 @@
 -- Who is told to leave and to enter is the difference of the lists before and after the change.
-use Rattle.std.specs.Prelude.{ℕ, ◌+◌, ◌-◌, ◌<◌, ◌≤◌, Bool, None, ◌&&◌, ◌≡◌, get_or}
+use Rattle.std.specs.Prelude.{ℕ, ◌+◌, ◌-◌, ◌<◌, ◌≤◌, Bool, ◌&&◌, ◌≡◌, Option, Some, None, get_or}
 use Rattle.std.proofs.Math.Bool.{true, false, not, cond}
 use Rattle.std.specs.Bool.{beq}
+use Rattle.std.specs.Option.{ForSome, option_map_or}
 use mathlib.Core.List.Memᴰ
 use mathlib.Core.List.{List, [], ◌∷◌, ◌++◌, map, map-append, Memᴰ}
 use Rattle.std.proofs.Math.Logic.{⊎_elim}
@@ -29,6 +30,7 @@ use Rattle.promises.specs.Layout.{move_in, placed_in, line_from}
 use Rattle.promises.specs.Answers.{result_row}
 use Rattle.promises.specs.Run.{Bytes}
 use Rattle.dominance.specs.Move.{as_move}
+use Rattle.dominance.specs.declared.Move as dominance
 use Rattle.memory.specs.Held.{SoundRows}
 use Rattle.search.specs.Search.{looks, looks_at}
 use Rattle.memory.specs.Tests.{is_listed}
@@ -82,7 +84,7 @@ rising-places P lt o f t (i ∷ is) es r =
     (λ _. next)
 
 module _ (c d n : ℕ) (k : Exchange) (m : List ℕ) (s : SoundRows c d n m) (b : Bytes m) (a : AskedRows c d n k m)
-    (other : k.comes ≡ true → k.goes < n → move_in c d m k.goes ≡ as_move k.coming → ⊥) where
+    (other : ForSome k.coming (λ x. k.goes < n → move_in c d m k.goes ≡ as_move x → ⊥)) where
   abbrev before : List Move
   before = moves_in (line_from c d n m)
 
@@ -91,9 +93,6 @@ module _ (c d n : ℕ) (k : Exchange) (m : List ℕ) (s : SoundRows c d n m) (b 
 
   abbrev after : List Move
   after = moves_after d k before
-
-  abbrev x : Move
-  x = as_move k.coming
 
   not-rest : (i : ℕ) → i < n → eqb i k.goes ≡ true → ¬ Memᴰ (move_in c d m i) rest
   unfolding move_in
@@ -108,18 +107,25 @@ module _ (c d n : ℕ) (k : Exchange) (m : List ℕ) (s : SoundRows c d n m) (b 
       subst (Memᴰ (move_in c d m i)) (sym (rest-places c d n m k.goes))
       (Memᴰ.map (move_in c d m) (mem-select (λ j. not (eqb j k.goes)) h (not-flip (eqb i k.goes) e)))
 
+  there-by : (o : Option dominance.Move) {z : Move} → Memᴰ z rest → Memᴰ z (option_map_or (λ y. insert_by (move_before d) (as_move y) rest) o rest)
+  there-by None g = g
+  there-by (Some y) g = mem-insert-old (move_before d) (as_move y) g
+
+  away-by : (i : ℕ) → Memᴰ i (numbers_from 0 n) → eqb i k.goes ≡ true → (o : Option dominance.Move) → k.coming ≡ o
+      → ¬ Memᴰ (move_in c d m i) (option_map_or (λ y. insert_by (move_before d) (as_move y) rest) o rest)
+  away-by i h e None q g = not-rest i (place-below n h) e g
+  away-by i h e (Some y) q g =
+      ⊎_elim
+      (λ z. other y q (subst (λ (j : ℕ). j < n) (eqb-true i k.goes e) (place-below n h)) (ap (move_in c d m) (sym (eqb-true i k.goes e)) ∙ z))
+      (not-rest i (place-below n h) e) (insert-mem (move_before d) (as_move y) rest g)
+
   pub places : Places d (move_in c d m) (numbers_from 0 n) k.goes after (is_listed c m)
   unfolding moves_after insert
   places =
       record {
         flags = λ i h. held-listed c d n m s i (place-below n h) ∙ ap (λ (ms : List Move). not (hidden d ms (move_in c d m i))) (line-places c d n m);
-        there = λ i h e. test_cases (λ (t : Bool). Memᴰ (move_in c d m i) (cond t (insert_by (move_before d) x rest) rest)) k.comes
-            (λ _. mem-insert-old (move_before d) x (in_rest i h e)) (λ _. in_rest i h e);
-        away = λ i h e. test_cases (λ (t : Bool). k.comes ≡ t → ¬ Memᴰ (move_in c d m i) (cond t (insert_by (move_before d) x rest) rest)) k.comes
-            (λ _ q g. ⊎_elim
-            (λ z. other q (subst (λ (j : ℕ). j < n) (eqb-true i k.goes e) (place-below n h)) (ap (move_in c d m) (sym (eqb-true i k.goes e)) ∙ z))
-            (not-rest i (place-below n h) e) (insert-mem (move_before d) x rest g))
-            (λ _ q. not-rest i (place-below n h) e) refl;
+        there = λ i h e. there-by k.coming (in_rest i h e);
+        away = λ i h e. away-by i h e k.coming refl;
       }
 
   abbrev stay_at : ℕ → Bool
@@ -159,9 +165,12 @@ module _ (c d n : ℕ) (k : Exchange) (m : List ℕ) (s : SoundRows c d n m) (b 
   unfolding placed_in
   at_place i h = ap (λ (r : Placed). r.move) (get_or-line c d n m i h)
 
-  module _ (e : k.comes ≡ true) where
+  module _ (y : dominance.Move) (e : k.coming ≡ Some y) where
+    abbrev x : Move
+    x = as_move y
+
     not-here : ¬ Memᴰ x rest
-    not-here = off-board x rest (a.new e)
+    not-here = off-board x rest (a.new y e)
 
     absent : among x (skyline d (map (move_in c d m) (numbers_from 0 n))) ≡ false
     absent = by_cases (among x list) (λ h. absurd (gone-on h)) (λ h. h)
@@ -174,7 +183,7 @@ module _ (c d n : ℕ) (k : Exchange) (m : List ℕ) (s : SoundRows c d n m) (b 
             let w = Memᴰ.of_map (move_in c d m) (numbers_from 0 n) (skyline-mem d (map (move_in c d m) (numbers_from 0 n)) (among-mem x list h)).0 in
             by_cases (eqb w.0 k.goes)
             (λ q. let j = eqb-true w.0 k.goes q in
-            other e (subst (λ (i : ℕ). i < n) j (place-below n w.1)) (ap (move_in c d m) (sym j) ∙ w.2))
+            other y e (subst (λ (i : ℕ). i < n) j (place-below n w.1)) (ap (move_in c d m) (sym j) ∙ w.2))
             (λ q. not-here (subst (λ (y : Move). Memᴰ y rest) w.2 (in_rest w.0 w.1 q)))
 
     module _ (p : ℕ) (f : p ≤ n) (at : p ≡ place_for d x (line_from c d n m)) where
@@ -182,7 +191,7 @@ module _ (c d n : ℕ) (k : Exchange) (m : List ℕ) (s : SoundRows c d n m) (b 
       lower i g =
           let h : i < p = place-below p g in
           let l : i < n = omega arith in
-          asym (Fit c d) (move_before d) order (move_in c d m i) x (held-fit-at c d n m s b i l) (a.fit e)
+          asym (Fit c d) (move_before d) order (move_in c d m i) x (held-fit-at c d n m s b i l) (a.fit y e)
           (subst (λ (y : Move). move_before d y x ≡ true) (at_place i l) (place-low d x (line_from c d n m) i (subst (λ (q : ℕ). i < q) at h)))
 
       upper : (i : ℕ) → Memᴰ i (numbers_from p (n - p)) → enters i ≡ true → move_before d x (move_in c d m i) ≡ true
@@ -190,9 +199,9 @@ module _ (c d n : ℕ) (k : Exchange) (m : List ℕ) (s : SoundRows c d n m) (b 
       upper i g t =
           let q = each-mem (λ i. (p ≤ i) × (i < n)) (each-numbers (λ i. (p ≤ i) × (i < n)) p (n - p) (λ i u v. (u, omega arith))) g in
           let away : eqb i k.goes ≡ false = not_back (eqb i k.goes) (and_left (not (eqb i k.goes)) (not (hidden d after (move_in c d m i))) (and_right (not (is_listed c m i)) (stay_at i) t)) in
-          connex (Fit c d) (move_before d) order (move_in c d m i) x (held-fit-at c d n m s b i q.1) (a.fit e)
+          connex (Fit c d) (move_before d) order (move_in c d m i) x (held-fit-at c d n m s b i q.1) (a.fit y e)
           (subst (λ (y : Move). move_before d y x ≡ false) (at_place i q.1)
-          (place-high d x (Fit c d) order (a.fit e) (line_from c d n m) (held-fit c d n m s b) (held-order c d n m s) i
+          (place-high d x (Fit c d) order (a.fit y e) (line_from c d n m) (held-fit c d n m s b) (held-order c d n m s) i
           (subst (λ (r : ℕ). r ≤ i) at q.0) (subst (λ (r : ℕ). i < r) (sym (length-line c d n m)) q.1)))
           (λ z. not-here (subst (λ (y : Move). Memᴰ y rest) z (in_rest i (inside i q.1) away)))
         where
@@ -206,42 +215,52 @@ module _ (c d n : ℕ) (k : Exchange) (m : List ℕ) (s : SoundRows c d n m) (b 
       ap (λ (ms : List Move). gone (skyline d ms) (skyline d after)) (line-places c d n m)
       ∙ left-places d (move_in c d m) (numbers_from 0 n) k.goes after (is_listed c m) places
 
-  module _ (p : ℕ) (f : p ≤ n) (at : k.comes ≡ true → p ≡ place_for d x (line_from c d n m)) where
+  module _ (p : ℕ) (f : p ≤ n) (at : ForSome k.coming (λ x. p ≡ place_for d (as_move x) (line_from c d n m))) where
     abbrev first : List Move
     first = map (move_in c d m) (select enters (numbers_from 0 p))
 
     abbrev last : List Move
     last = map (move_in c d m) (select enters (numbers_from p (n - p)))
 
-    coming-part : k.comes ≡ true → gone (skyline d after) (skyline d (map (move_in c d m) (numbers_from 0 n))) ≡ first ++ (cond (k.comes && not (hidden d after x)) (x ∷ []) [] ++ last)
-    unfolding moves_after insert
-    coming-part e =
-        entered-coming d (move_in c d m) (numbers_from 0 n) k.goes after (is_listed c m) places (Fit c d) order x (a.fit e) rest
-        (sym (rest-places c d n m k.goes)) rest-fits rest-rising
-        (ap (λ (t : Bool). cond t (insert_by (move_before d) x rest) rest) e)
-        (absent e) (numbers_from 0 p) (numbers_from p (n - p)) (whole p f) (lower e p f (at e)) (upper e p f (at e))
-        ∙ ap (λ (t : Bool). first ++ (cond (t && not (hidden d after x)) (x ∷ []) [] ++ last)) (sym e)
+    -- The coming move, if it is listed afterwards.
+    abbrev listed_of : Option dominance.Move → List Move
+    listed_of o = option_map_or (λ x. cond (not (hidden d after (as_move x))) (as_move x ∷ []) []) o []
 
-    plain-part : k.comes ≡ false → gone (skyline d after) (skyline d (map (move_in c d m) (numbers_from 0 n))) ≡ first ++ (cond (k.comes && not (hidden d after x)) (x ∷ []) [] ++ last)
+    coming-part : (y : dominance.Move) → k.coming ≡ Some y
+        → gone (skyline d after) (skyline d (map (move_in c d m) (numbers_from 0 n))) ≡ first ++ (listed_of k.coming ++ last)
+    unfolding moves_after insert
+    coming-part y e =
+        entered-coming d (move_in c d m) (numbers_from 0 n) k.goes after (is_listed c m) places (Fit c d) order (as_move y) (a.fit y e) rest
+        (sym (rest-places c d n m k.goes)) rest-fits rest-rising
+        (ap (λ (o : Option dominance.Move). option_map_or (λ z. insert_by (move_before d) (as_move z) rest) o rest) e)
+        (absent y e) (numbers_from 0 p) (numbers_from p (n - p)) (whole p f) (lower y e p f (at y e)) (upper y e p f (at y e))
+        ∙ ap (λ (o : Option dominance.Move). first ++ (listed_of o ++ last)) (sym e)
+
+    plain-part : k.coming ≡ None → gone (skyline d after) (skyline d (map (move_in c d m) (numbers_from 0 n))) ≡ first ++ (listed_of k.coming ++ last)
     unfolding moves_after insert
     plain-part e =
         let is = numbers_from 0 n in
         let q = places in
         entered-after d (move_in c d m) is k.goes after (is_listed c m) q
         ∙ ap (select (λ y. not (hidden d after y) && not (among y (skyline d (map (move_in c d m) is)))))
-        (ap (λ (t : Bool). cond t (insert_by (move_before d) x rest) rest) e ∙ rest-places c d n m k.goes)
+        (ap (λ (o : Option dominance.Move). option_map_or (λ z. insert_by (move_before d) (as_move z) rest) o rest) e ∙ rest-places c d n m k.goes)
         ∙ entered-rest d (move_in c d m) is k.goes after (is_listed c m) q
         ∙ ap (λ (js : List ℕ). map (move_in c d m) (select enters js)) (whole p f)
         ∙ ap (map (move_in c d m)) (select-append enters (numbers_from 0 p) (numbers_from p (n - p)))
         ∙ map-append (move_in c d m) (select enters (numbers_from 0 p)) (select enters (numbers_from p (n - p)))
-        ∙ ap (λ (t : Bool). first ++ (cond (t && not (hidden d after x)) (x ∷ []) [] ++ last)) (sym e)
+        ∙ ap (λ (o : Option dominance.Move). first ++ (listed_of o ++ last)) (sym e)
 
-    entered-part : gone (skyline d after) (skyline d before) ≡ first ++ (cond (k.comes && not (hidden d after x)) (x ∷ []) [] ++ last)
+    either-part : (o : Option dominance.Move) → k.coming ≡ o → gone (skyline d after) (skyline d (map (move_in c d m) (numbers_from 0 n))) ≡ first ++ (listed_of k.coming ++ last)
+    either-part None e = plain-part e
+    either-part (Some y) e = coming-part y e
+
+    entered-part : gone (skyline d after) (skyline d before) ≡ first ++ (listed_of k.coming ++ last)
     entered-part =
         ap (λ (ms : List Move). gone (skyline d after) (skyline d ms)) (line-places c d n m)
-        ∙ by_cases k.comes coming-part plain-part
+        ∙ either-part k.coming refl
 
-    module _ (u : Upkeep) (v : UpkeptRows c d n k m u) where
+    -- What is told of the coming move: `entrant` is that one, if one comes.
+    module _ (u : Upkeep) (v : UpkeptRows c d n k m u) (entrant : dominance.Move) (own : ForSome k.coming (λ x. entrant ≡ x)) where
       abbrev head : Head
       head = record { size = c; dimension = d; count = n }
 
@@ -286,7 +305,7 @@ module _ (c d n : ℕ) (k : Exchange) (m : List ℕ) (s : SoundRows c d n m) (b 
       -- ---- who enters
 
       abbrev entering : View
-      entering = entering_by head (coming_if u.listed p k.coming)
+      entering = entering_by head (coming_if u.listed p entrant)
 
       part-entered : (i : ℕ) → i < n → tells_place entering u.changed m i ≡ enters i
       unfolding tells_place looks_at looks is_listed stays stay
@@ -301,9 +320,9 @@ module _ (c d n : ℕ) (k : Exchange) (m : List ℕ) (s : SoundRows c d n m) (b 
       last-chosen = chosen-places (tells_place entering u.changed m) enters part-entered p n f (omega arith)
 
       -- The rows up to the coming move's place, its own if it is listed, and those from there on.
-      parts : (t : Bool) → let test = tells_place (entering_by head (coming_if t p k.coming)) u.changed m in
-          told_rows (entering_by head (coming_if t p k.coming)) u.changed m
-          ≡ rows_at c d entered (places_in 0 p test) m ++ (cond t (move_numbers entered x ∷ []) [] ++ rows_at c d entered (places_in p n test) m)
+      parts : (t : Bool) → let test = tells_place (entering_by head (coming_if t p entrant)) u.changed m in
+          told_rows (entering_by head (coming_if t p entrant)) u.changed m
+          ≡ rows_at c d entered (places_in 0 p test) m ++ (cond t (move_numbers entered (as_move entrant) ∷ []) [] ++ rows_at c d entered (places_in p n test) m)
       unfolding told_rows coming_rows rows_at
       parts true = refl
       parts false =
@@ -312,46 +331,55 @@ module _ (c d n : ℕ) (k : Exchange) (m : List ℕ) (s : SoundRows c d n m) (b 
           ∙ ap (λ (is : List ℕ). rows_at c d entered is m) (places-join test 0 p n (omega arith) f)
           ∙ map-append (λ i. move_numbers entered (move_in c d m i)) (places_in 0 p test) (places_in p n test)
 
-      coming-told : (t : Bool) → map result_row (cond t (move_numbers entered x ∷ []) []) ≡ map (row_of entered) (cond t (x ∷ []) [])
+      one_told : (t : Bool) (x : Move) → map result_row (cond t (move_numbers entered x ∷ []) []) ≡ map (row_of entered) (cond t (x ∷ []) [])
       unfolding result_row move_numbers row_of
-      coming-told true = refl
-      coming-told false = refl
+      one_told true x = refl
+      one_told false x = refl
+
+      coming-told : (o : Option dominance.Move) → u.listed ≡ option_map_or (λ x. not (hidden d after (as_move x))) o false → ForSome o (λ x. entrant ≡ x)
+          → map result_row (cond u.listed (move_numbers entered (as_move entrant) ∷ []) []) ≡ map (row_of entered) (listed_of o)
+      coming-told None e _ = ap (λ (t : Bool). map result_row (cond t (move_numbers entered (as_move entrant) ∷ []) [])) e
+      coming-told (Some y) e same =
+          one_told u.listed (as_move entrant)
+          ∙ (λ i. map (row_of entered) (cond (e i) (as_move (same y refl i) ∷ []) []))
 
       pub entered-told : map result_row (told_rows entering u.changed m) ≡ map (row_of entered) (gone (skyline d after) (skyline d before))
       entered-told =
           let es = places_in 0 p (tells_place entering u.changed m) in
           let fs = places_in p n (tells_place entering u.changed m) in
-          let own : List (List ℕ) = cond u.listed (move_numbers entered x ∷ []) [] in
+          let coming : List (List ℕ) = cond u.listed (move_numbers entered (as_move entrant) ∷ []) [] in
           ap (map result_row) (parts u.listed)
-          ∙ map-append result_row (rows_at c d entered es m) (own ++ rows_at c d entered fs m)
+          ∙ map-append result_row (rows_at c d entered es m) (coming ++ rows_at c d entered fs m)
           ∙ ap₂ ◌++◌ (rows_told entered es ∙ ap (λ (js : List ℕ). map (row_of entered) (map (move_in c d m) js)) first-chosen)
-          (map-append result_row own (rows_at c d entered fs m)
-          ∙ ap₂ ◌++◌ (coming-told u.listed ∙ ap (λ (t : Bool). map (row_of entered) (cond t (x ∷ []) [])) v.listed)
+          (map-append result_row coming (rows_at c d entered fs m)
+          ∙ ap₂ ◌++◌ (coming-told k.coming v.listed own)
           (rows_told entered fs ∙ ap (λ (js : List ℕ). map (row_of entered) (map (move_in c d m) js)) last-chosen)
-          ∙ sym (map-append (row_of entered) (cond (k.comes && not (hidden d after x)) (x ∷ []) []) last))
-          ∙ sym (map-append (row_of entered) first (cond (k.comes && not (hidden d after x)) (x ∷ []) [] ++ last))
+          ∙ sym (map-append (row_of entered) (listed_of k.coming) last))
+          ∙ sym (map-append (row_of entered) first (listed_of k.coming ++ last))
           ∙ ap (map (row_of entered)) (sym entered-part)
 
-      coming-count : (t : Bool) → cond t 1 0 ≡ length (cond t (x ∷ []) [])
-      coming-count true = refl
-      coming-count false = refl
+      one_counted : (t : Bool) (x : Move) → cond t 1 0 ≡ length (cond t (x ∷ []) [])
+      one_counted true x = refl
+      one_counted false x = refl
+
+      coming-count : (o : Option dominance.Move) → u.listed ≡ option_map_or (λ x. not (hidden d after (as_move x))) o false → cond u.listed 1 0 ≡ length (listed_of o)
+      coming-count None e = ap (λ (t : Bool). cond t 1 0) e
+      coming-count (Some y) e = ap (λ (t : Bool). cond t 1 0) e ∙ one_counted (not (hidden d after (as_move y))) (as_move y)
 
       pub entered-number : u.entered + cond u.listed 1 0 ≡ length (map (row_of entered) (gone (skyline d after) (skyline d before)))
       unfolding count stays stay
       entered-number =
-          let own = cond (k.comes && not (hidden d after x)) (x ∷ []) [] in
           omega (
             arith,
             v.entered,
             ap (λ (js : List ℕ). length (select enters js)) (whole p f),
             ap length (select-append enters (numbers_from 0 p) (numbers_from p (n - p))),
             length-append (select enters (numbers_from 0 p)) (select enters (numbers_from p (n - p))),
-            coming-count u.listed,
-            ap (λ (t : Bool). length (cond t (x ∷ []) [])) v.listed,
+            coming-count k.coming v.listed,
             length-map (select enters (numbers_from 0 p)) (move_in c d m),
             length-map (select enters (numbers_from p (n - p))) (move_in c d m),
-            length-append first (own ++ last),
-            length-append own last,
+            length-append first (listed_of k.coming ++ last),
+            length-append (listed_of k.coming) last,
             ap length entered-part,
             length-map (gone (skyline d after) (skyline d before)) (row_of entered),
           )

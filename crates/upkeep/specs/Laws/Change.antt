@@ -1,9 +1,11 @@
 -- What the steps of a change compute is what the list of the moves afterwards says: a listed move stays exactly if the
 -- coming one does not hide it; a hidden one comes up exactly if no move left hides it, and then the going one was listed
 -- and hid it; the coming one is listed exactly if no move left hides it.
-use Rattle.std.specs.Prelude.{ℕ, ◌<◌, Bool, true, false, cond, ◌&&◌, ◌||◌, ◌≡◌, eqb, ltb}
+use Rattle.std.specs.Prelude.{ℕ, ◌<◌, Bool, true, false, ◌&&◌, ◌||◌, ◌≡◌, eqb, ltb}
 use Rattle.std.proofs.Math.Bool.{not, or_comm, or-false}
 use Rattle.std.specs.Bool.{beq}
+use Rattle.std.specs.Prelude.{Option, Some, None}
+use Rattle.std.specs.Option.{option_map_or}
 use mathlib.Core.List.Memᴰ
 use mathlib.Core.List.{List, map, Memᴰ}
 use Rattle.std.proofs.Math.Path.{refl, sym, ap}
@@ -18,7 +20,7 @@ use Rattle.model.specs.Tree.{Tree}
 use Rattle.model.specs.Opening.{withdraw_opens}
 use Rattle.model.specs.Withdrawing.{without}
 use Rattle.model.specs.Sound.{Fit}
-use Rattle.model.proofs.Laws.Bool.{test_cases, same_test, both_ways, and_both, and_left, and_right, and-drop-left, and-false-right}
+use Rattle.model.proofs.Laws.Bool.{same_test, both_ways, and_both, and_left, and_right, and-drop-left, and-false-right}
 use Rattle.model.proofs.Laws.Basics.{select-map, select-ext, any-map, any-select, any-mem, any-mono, count-ext}
 use Rattle.model.proofs.Laws.Range.{each-place}
 use Rattle.model.proofs.Laws.Skyline.{HiderIn, skyline-mem, enter-hidden, skyline-hider, enter-hidden-self}
@@ -27,6 +29,7 @@ use Rattle.promises.specs.Layout.{number_in, move_in, line_from}
 use Rattle.promises.specs.Sound.{Stands}
 use Rattle.promises.specs.Run.{Bytes}
 use Rattle.dominance.specs.Move.{as_move}
+use Rattle.dominance.specs.declared.Move as dominance
 use Rattle.memory.specs.Held.{SoundRows}
 use Rattle.memory.specs.Tests.{is_listed}
 use Rattle.memory.specs.Laws.Lines.{moves_in-line}
@@ -119,11 +122,12 @@ rest-without c d n g m s b l =
 changed-hidden : (d : ℕ) (k : Exchange) (ms : List Move) (x : Move) → hidden d (moves_after d k ms) x ≡ (hidden d (drop_at k.goes ms) x || hidden_by_coming d k x)
 unfolding moves_after hidden_by_coming
 changed-hidden d k ms x =
-    let rest = drop_at k.goes ms in
-    let y = as_move k.coming in
-    test_cases (λ (b : Bool). hidden d (cond b (insert d y rest) rest) x ≡ (hidden d rest x || (b && hides d y x))) k.comes
-    (λ _. enter-hidden d y rest x)
-    (λ _. sym (or-false (hidden d rest x)))
+    by_coming (drop_at k.goes ms) k.coming
+  where
+    by_coming : (rest : List Move) (o : Option dominance.Move)
+        → hidden d (option_map_or (λ y. insert d (as_move y) rest) o rest) x ≡ (hidden d rest x || option_map_or (λ y. hides d (as_move y) x) o false)
+    by_coming rest None = sym (or-false (hidden d rest x))
+    by_coming rest (Some y) = enter-hidden d (as_move y) rest x
 
 -- A listed move goes: it is on the board, and flagged.
 module _ (c n g : ℕ) (m : List ℕ) (e : goes_listed c n g m ≡ true) where
@@ -221,15 +225,15 @@ module _ (c d n : ℕ) (k : Exchange) (m : List ℕ) (s : SoundRows c d n m) (b 
       ∙ enter-test (is_listed c m i) (eqb i k.goes) hid (hidden_by_coming d k x) (hidden d rest x) (went i h)
       ∙ ap (λ (t : Bool). not (is_listed c m i) && t) (sym (stays-rest i))
 
-  pub listed-law : k.comes ≡ true → Fit c d (as_move k.coming) → not (hidden_by_others c d n k.goes (as_move k.coming) m) ≡ coming_listed c d n k m
+  pub listed-law : (x : dominance.Move) → k.coming ≡ Some x → Fit c d (as_move x) → not (hidden_by_others c d n k.goes (as_move x) m) ≡ coming_listed c d n k m
   unfolding moves_after
-  listed-law e fit =
-      let y = as_move k.coming in
+  listed-law x e fit =
+      let y = as_move x in
       ap not (others-hide c d n m k.goes y ∙ sym (enter-hidden-self d c (held-dimension c d n m s) y rest fit))
-      ∙ ap (λ (t : Bool). t && not (hidden d (cond t (insert d y rest) rest) y)) (sym e)
+      ∙ ap (λ (o : Option dominance.Move). option_map_or (λ z. not (hidden d (option_map_or (λ w. insert d (as_move w) rest) o rest) (as_move z))) o false) (sym e)
 
-  pub unlisted-law : k.comes ≡ false → false ≡ coming_listed c d n k m
-  unlisted-law e = ap (λ (t : Bool). t && not (hidden d (moves_after d k before) (as_move k.coming))) (sym e)
+  pub unlisted-law : k.coming ≡ None → false ≡ coming_listed c d n k m
+  unlisted-law e = ap (λ (o : Option dominance.Move). option_map_or (λ x. not (hidden d (moves_after d k before) (as_move x))) o false) (sym e)
 
   -- ---- the sets and the counts
 

@@ -23,7 +23,7 @@ pub set_costs-requires : goal.set_costs-requires
 set_costs-requires c =
     let a = c.args in
     coming-asked c.requires.asked refl
-    (flags-written a.h.size (listed-frame a.x.number a.u.listed (c.requires.asked.fit refl).number c.set_flags.ensures.frame c.set_listed.ensures))
+    (flags-written a.h.size (listed-frame a.x.number a.u.listed (c.requires.asked.fit c.args.x refl).number c.set_flags.ensures.frame c.set_listed.ensures))
 
 pub enter_line-requires : goal.enter_line-requires
 unfolding Bytes

@@ -1,13 +1,16 @@
 -- `foresee::alike` meets its contract. Assumes nothing.
 use Prim.Native.Nat.{ℕ}
-use mathlib.Core.Bool.{Bool, true, false, ◌&&◌}
+use mathlib.Core.Bool.{Bool, false, ◌&&◌}
 use mathlib.Core.List.{List, [], ◌∷◌}
-use mathlib.Core.Path.{◌≡◌, refl, sym, ap, ap₂, ◌∙◌}
-use borrow.Author.Tests.{lt-ltb, le-ltb, not-true, not-false}
+use mathlib.Core.Path.{◌≡◌, refl, sym, ap, ◌∙◌}
+use borrow.Author.Tests.{lt-ltb, le-ltb}
 use lib.Dec.{eqb, ltb}
 use lib.Pointwise.{pointwise}
+use Rattle.std.specs.Prelude.{Option, Some, None}
+use Rattle.std.specs.Option.{option_map_or}
 use Rattle.model.specs.Basics.{equal}
 use Rattle.promises.specs.Layout.{number_in, costs_in, move_in}
+use Rattle.dominance.specs.declared.Move.{Move}
 use Rattle.upkeep.specs.declared.exchange.Exchange.{Exchange}
 use Rattle.planning.specs.Plan.{alike}
 use Rattle.planning.proofs.foresee.alike.Goals as goal
@@ -20,28 +23,37 @@ compared [] (y ∷ q) = refl
 compared (x ∷ p) [] = refl
 compared (x ∷ p) (y ∷ q) = ap (λ (t : Bool). eqb x y && t) (compared p q)
 
-alike-by : (c d n : ℕ) (k : Exchange) (m : List ℕ) (comes inside : Bool) → k.comes ≡ comes → ltb k.goes n ≡ inside
-    → (comes && (inside && equal k.coming.costs (costs_in c d m (number_in c m k.goes)))) ≡ alike c d n k m
+alike-by : (c d n : ℕ) (k : Exchange) (m : List ℕ) (o : Option Move) → k.coming ≡ o
+    → option_map_or (λ x. ltb k.goes n && equal x.costs (costs_in c d m (number_in c m k.goes))) o false ≡ alike c d n k m
 unfolding alike
-alike-by c d n k m comes inside e f =
-    sym (ap₂ (λ (p q : Bool). p && (q && equal k.coming.costs (costs_in c d m (number_in c m k.goes)))) e f)
+alike-by c d n k m o e =
+    ap (λ (p : Option Move). option_map_or (λ x. ltb k.goes n && equal x.costs (costs_in c d m (number_in c m k.goes))) p false) (sym e)
 
-pub returns-then-not-k : goal.returns-then-not-k
-returns-then-not-k c =
-    let a = c.args in
-    alike-by a.b.now.head.size a.b.now.head.dimension a.b.now.head.count a.k a.b.now.bytes.now false _ (not-true _ c.if-not-k.true) refl
+pub returns-in_default : goal.returns-in_default
+returns-in_default c =
+    let b = c.args.b.now in
+    alike-by b.head.size b.head.dimension b.head.count c.args.k b.bytes.now None c.in_default.is
 
-pub returns-then-b-goes : goal.returns-then-b-goes
-returns-then-b-goes c =
-    let a = c.args in
-    alike-by a.b.now.head.size a.b.now.head.dimension a.b.now.head.count a.k a.b.now.bytes.now true false (not-false _ c.if-not-k.false) (le-ltb _ _ c.if-b-goes.true)
-
-pub returns : goal.returns
+pub returns-then-k-b : goal.returns-then-k-b
 unfolding move_in
-returns c =
-    let a = c.args in
-    let b = a.b.now in
+returns-then-k-b c =
+    let k = c.args.k in
+    let b = c.args.b.now in
+    let x = c.in-Some.x in
+    let costs = costs_in b.head.size b.head.dimension b.bytes.now (number_in b.head.size b.bytes.now k.goes) in
     c.eq.ensures
-    ∙ compared a.k.coming.costs c.costs_at.result
-    ∙ ap (equal a.k.coming.costs) c.costs_at.ensures
-    ∙ alike-by b.head.size b.head.dimension b.head.count a.k b.bytes.now true true (not-false _ c.if-not-k.false) (lt-ltb _ _ c.if-b-goes.false)
+    ∙ compared x.costs c.costs_at.result
+    ∙ ap (equal x.costs) c.costs_at.ensures
+    ∙ ap (λ (t : Bool). t && equal x.costs costs) (sym (lt-ltb k.goes b.head.count c.if-k-b.true))
+    ∙ alike-by b.head.size b.head.dimension b.head.count k b.bytes.now (Some x) c.in-Some.is
+
+pub returns-else-k-b : goal.returns-else-k-b
+returns-else-k-b c =
+    let k = c.args.k in
+    let b = c.args.b.now in
+    let x = c.in-Some.x in
+    let costs = costs_in b.head.size b.head.dimension b.bytes.now (number_in b.head.size b.bytes.now k.goes) in
+    let past = le-ltb k.goes b.head.count c.if-k-b.false in
+    past
+    ∙ ap (λ (t : Bool). t && equal x.costs costs) (sym past)
+    ∙ alike-by b.head.size b.head.dimension b.head.count k b.bytes.now (Some x) c.in-Some.is

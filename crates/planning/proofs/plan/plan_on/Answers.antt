@@ -1,5 +1,5 @@
 -- `plan::plan_on` meets its contract. Assumes nothing.
-use mathlib.Core.Bool.{true, false, cond}
+use mathlib.Core.Bool.{Bool, true, false, cond}
 use mathlib.Core.Path.{◌≡◌, sym, ap, ◌∙◌, subst}
 use native.Mathlib.Omega.{arith}
 use Rattle.zorder.specs.Address.{row_costs}
@@ -87,4 +87,4 @@ returns c =
     (subst (λ (k : Exchange). Upkept a.h k a.m.now up.result) c.exchange_of-k.ensures up.ensures)
     (subst (λ (k : Exchange). ComingPlace a.h k a.m.now c.coming_place-place.result) c.exchange_of-k.ensures c.coming_place-place.ensures)
     c.needed-need.ensures c.enough.result c.enough.ensures
-    (c.reported.ensures ∙ ap (λ (k : Exchange). cond k.comes 0 up.result.opened) c.exchange_of-k.ensures)
+    (c.reported.ensures ∙ ap (λ (t : Bool). cond t 0 up.result.opened) c.comes.ensures)
