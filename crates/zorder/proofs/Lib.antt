@@ -4,5 +4,4 @@ pub mod Bits
 pub mod Digits
 pub mod Fill
 pub mod Row
-pub mod TwoWords
 pub mod Checks

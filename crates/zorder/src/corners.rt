@@ -8,15 +8,14 @@ ghost use Rattle.zorder.specs.Words.{value};
 use crate::interleave::cost_count_bad;
 use crate::refusal::check;
 use crate::separate::{separated, too_large};
-use crate::two_words::{below, leading_zeros, xor};
 use crate::{AddressWords, BITS, COSTS, Refusal, Square};
 
 // How many groups of the two addresses are not kept.
-fn unkept(d: usize, a: AddressWords, b: AddressWords) -> usize
-    requires { (1 ≤ d) × (d ≤ row_costs) × (value a < 2 ^ (16 * d)) × (value b < 2 ^ (16 * d)) }
-    ensures { (result ≡ definition.unkept d (value a) (value b)) × (result ≤ 16) }
+fn unkept(d: usize, a: u128, b: u128) -> usize
+    requires { (1 ≤ d) × (d ≤ row_costs) × (a < 2 ^ (16 * d)) × (b < 2 ^ (16 * d)) }
+    ensures { (result ≡ definition.unkept d a b) × (result ≤ 16) }
 {
-    let zeros = leading_zeros(xor(a, b));
+    let zeros = u128::leading_zeros(a ^ b) as usize;
     BITS - (zeros - (128 - BITS * d)) / d
 }
 
@@ -77,12 +76,14 @@ pub(crate) fn far(d: usize, u: usize, costs: [u16; COSTS]) -> [u16; COSTS]
 pub fn region(d: usize, a: AddressWords, b: AddressWords) -> Result<Square, Refusal>
     ensures { RegionPromise d (value a) (value b) result }
 {
+    let first = u128::from(a);
+    let last = u128::from(b);
     check(cost_count_bad(d), Refusal::BadCostCount)?;
-    check(too_large(d, a), Refusal::BadArgument)?;
-    check(too_large(d, b), Refusal::BadArgument)?;
-    check(below(b, a), Refusal::BadArgument)?;
-    let u = unkept(d, a, b);
-    let costs = separated(d, a);
+    check(too_large(d, first), Refusal::BadArgument)?;
+    check(too_large(d, last), Refusal::BadArgument)?;
+    check(last < first, Refusal::BadArgument)?;
+    let u = unkept(d, first, last);
+    let costs = separated(d, first);
     Ok(Square {
         near: near(d, u, costs),
         far: far(d, u, costs),

@@ -4,10 +4,8 @@ ghost use Rattle.zorder.specs.Address as definition;
 ghost use Rattle.zorder.specs.Address.{row_costs};
 ghost use Rattle.zorder.specs.Refusal.{all_zero, cost_count_bad};
 ghost use Rattle.zorder.specs.Promise.{AddressPromise};
-ghost use Rattle.zorder.specs.Words.{value};
 
 use crate::refusal::check;
-use crate::two_words::shift_in;
 use crate::{AddressWords, BITS, COSTS, Refusal};
 
 // Gives the group for bit j of the first d costs.
@@ -23,13 +21,13 @@ pub(crate) fn group(d: usize, costs: [u16; COSTS], j: usize) -> u64
 }
 
 // The groups of the first d costs, highest first.
-fn interleaved(d: usize, costs: [u16; COSTS]) -> AddressWords
-    requires { (1 ≤ d) × (d ≤ row_costs) }
-    ensures { value result ≡ definition.address d costs }
+fn interleaved(d: usize, costs: [u16; COSTS]) -> u128
+    requires { d ≤ row_costs }
+    ensures { result ≡ definition.address d costs }
 {
-    let mut a = AddressWords { upper: 0, lower: 0 };
+    let mut a: u128 = 0;
     for j in (0..BITS).rev() {
-        a = shift_in(a, d, group(d, costs, j));
+        a = (a << d) | u128::from(group(d, costs, j));
     }
     a
 }
@@ -55,5 +53,5 @@ pub fn address(d: usize, costs: [u16; COSTS]) -> Result<AddressWords, Refusal>
 {
     check(cost_count_bad(d), Refusal::BadCostCount)?;
     check(!zero_past(d, costs), Refusal::BadArgument)?;
-    Ok(interleaved(d, costs))
+    Ok(AddressWords::from(interleaved(d, costs)))
 }

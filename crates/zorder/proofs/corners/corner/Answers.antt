@@ -1,8 +1,8 @@
 use mathlib.Core.List.{map}
-use mathlib.Core.Path.{◌≡◌, ap, ◌∙◌}
+use mathlib.Core.Path.{◌≡◌}
 use native.Mathlib.Omega.{arith}
 use lib.ListN.{take}
-use Rattle.zorder.proofs.Fill.{filled, filled_none, mapped-more, mapped-all}
+use Rattle.zorder.proofs.Fill.{filled_none, mapped-more, mapped-all}
 use Rattle.zorder.proofs.Row.{row-costs}
 use Rattle.zorder.proofs.corners.corner.Goals as goal
 
@@ -23,6 +23,4 @@ pub returns : goal.returns
 returns g c =
     let a = c.args in
     let all : c.loop-i.i ≡ a.d = omega arith in
-    c.loop-i.invariant
-    ∙ ap (filled (map (g.filled a.u) (take a.d a.costs))) all
-    ∙ mapped-all (g.filled a.u) a.d a.costs (omega arith) (omega arith)
+    rw (c.loop-i.invariant, all) (mapped-all (g.filled a.u) a.d a.costs (omega arith) (omega arith))

@@ -22,7 +22,7 @@ use Rattle.zorder.proofs.Laws.Inverse.{costs_of-costs}
 use Rattle.zorder.proofs.Laws.Refusal.{count-right, address-right}
 use Rattle.zorder.proofs.Checks.{three-checks}
 use Rattle.zorder.proofs.Row.{take-padded}
-use Rattle.zorder.proofs.corners.region.Goals.{In_ok-check, In_ok-check-2, In_ok-check-3}
+use Rattle.zorder.proofs.corners.region.Goals.{After-from-last, In_ok-check, In_ok-check-2, In_ok-check-3}
 use Rattle.zorder.proofs.corners.region.Goals as goal
 
 -- A refused call.
@@ -76,50 +76,63 @@ right c = sym c.cost_count_bad.ensures ∙ c.in_ok-check.ensures
 few : (c : In_ok-check) → (2 ≤ c.args.d) × (c.args.d ≤ 8)
 few c = count-right c.args.d (right c)
 
-first-good : (c : In_ok-check-2) → address_bad c.args.d (value c.args.a) ≡ false
+first-good : (c : In_ok-check-2) → address_bad c.args.d c.from-first.result ≡ false
 first-good c = sym c.too_large.ensures ∙ c.in_ok-check-2.ensures
 
-also-good : (c : In_ok-check-3) → address_bad c.args.d (value c.args.b) ≡ false
-also-good c = sym c.too_large-2.ensures ∙ c.in_ok-check-3.ensures
+last-good : (c : In_ok-check-3) → address_bad c.args.d c.from-last.result ≡ false
+last-good c = sym c.too_large-2.ensures ∙ c.in_ok-check-3.ensures
+
+-- What is promised of the numbers is promised of the words.
+of-words : (c : After-from-last) {r : Result Square Refusal} → RegionPromise c.args.d c.from-first.result c.from-last.result r
+    → RegionPromise c.args.d (value c.args.a) (value c.args.b) r
+of-words c {r} promise =
+    let a = c.args in
+    subst (λ (n : ℕ). RegionPromise a.d n (value a.b) r) c.from-first.ensures (subst (λ (n : ℕ). RegionPromise a.d c.from-first.result n r) c.from-last.ensures promise)
 
 pub returns-in_err-check : goal.returns-in_err-check
 returns-in_err-check c =
-    let a = c.args in
-    bad-count a.d (value a.a) (value a.b) c.from_residual.result (search rules) (sym c.cost_count_bad.ensures ∙ c.in_err-check.ensures.0)
+    of-words (goal.at.returns-in_err-check c).After-from-last (
+    bad-count c.args.d c.from-first.result c.from-last.result c.from_residual.result (search rules) (sym c.cost_count_bad.ensures ∙ c.in_err-check.ensures.0)
+    )
 
 pub too_large-requires : goal.too_large-requires
 too_large-requires c = (few c).1
 
 pub returns-in_err-check-2 : goal.returns-in_err-check-2
 returns-in_err-check-2 c =
-    let a = c.args in
-    bad-large a.d (value a.a) (value a.b) c.from_residual-in_err-check-2.result (search rules) (right (goal.at.returns-in_err-check-2 c).In_ok-check)
-    (ap (λ (t : Bool). t || address_bad a.d (value a.b)) (sym c.too_large.ensures ∙ c.in_err-check-2.ensures.0))
+    let d = c.args.d in
+    let at = goal.at.returns-in_err-check-2 c in
+    of-words at.After-from-last (
+    bad-large d c.from-first.result c.from-last.result c.from_residual-in_err-check-2.result (search rules) (right at.In_ok-check)
+    (ap (λ (t : Bool). t || address_bad d c.from-last.result) (sym c.too_large.ensures ∙ c.in_err-check-2.ensures.0))
+    )
 
 pub too_large-requires-2 : goal.too_large-requires-2
 too_large-requires-2 c = (few (goal.at.too_large-requires-2 c).In_ok-check).1
 
 pub returns-in_err-check-3 : goal.returns-in_err-check-3
 returns-in_err-check-3 c =
-    let a = c.args in
     let at = goal.at.returns-in_err-check-3 c in
-    bad-large a.d (value a.a) (value a.b) c.from_residual-in_err-check-3.result (search rules) (right at.In_ok-check)
+    of-words at.After-from-last (
+    bad-large c.args.d c.from-first.result c.from-last.result c.from_residual-in_err-check-3.result (search rules) (right at.In_ok-check)
     (ap₂ ◌||◌ (first-good at.In_ok-check-2) (sym c.too_large-2.ensures ∙ c.in_err-check-3.ensures.0))
+    )
 
 pub returns-in_err-check-4 : goal.returns-in_err-check-4
 returns-in_err-check-4 c =
-    let a = c.args in
     let at = goal.at.returns-in_err-check-4 c in
-    bad-order a.d (value a.a) (value a.b) c.from_residual-in_err-check-4.result (search rules) (right at.In_ok-check)
-    (ap₂ ◌||◌ (first-good at.In_ok-check-2) (also-good at.In_ok-check-3))
-    (sym c.below.ensures ∙ c.in_err-check-4.ensures.0)
+    of-words at.After-from-last (
+    bad-order c.args.d c.from-first.result c.from-last.result c.from_residual-in_err-check-4.result (search rules) (right at.In_ok-check)
+    (ap₂ ◌||◌ (first-good at.In_ok-check-2) (last-good at.In_ok-check-3))
+    c.in_err-check-4.ensures.0
+    )
 
 pub unkept-u-requires : goal.unkept-u-requires
 unkept-u-requires c =
-    let a = c.args in
+    let d = c.args.d in
     let at = goal.at.unkept-u-requires c in
     let within = few at.In_ok-check in
-    (omega arith, within.1, address-right a.d (value a.a) (first-good at.In_ok-check-2), address-right a.d (value a.b) (also-good at.In_ok-check-3))
+    (omega arith, within.1, address-right d c.from-first.result (first-good at.In_ok-check-2), address-right d c.from-last.result (last-good at.In_ok-check-3))
 
 pub separated-costs-requires : goal.separated-costs-requires
 separated-costs-requires c = (few (goal.at.separated-costs-requires c).In_ok-check).1
@@ -132,9 +145,14 @@ far-requires c = ((few (goal.at.far-requires c).In_ok-check).1, c.unkept-u.ensur
 
 pub returns : goal.returns
 returns c =
-    let a = c.args in
+    let d = c.args.d in
+    let first = c.from-first.result in
+    let last = c.from-last.result in
     let at = goal.at.returns c in
-    accepted a.d (value a.a) (value a.b) _ (right at.In_ok-check)
-    (ap₂ ◌||◌ (first-good at.In_ok-check-2) (also-good at.In_ok-check-3))
-    (sym c.below.ensures ∙ c.in_ok-check-4.ensures)
-    (told a.d (value a.a) (value a.b) c.unkept-u.result c.separated-costs.result c.unkept-u.ensures.0 c.separated-costs.ensures _ c.near.ensures c.far.ensures (omega (arith, pow_mono c.unkept-u.ensures.1)))
+    let u = c.unkept-u in
+    of-words at.After-from-last (
+    accepted d first last _ (right at.In_ok-check)
+    (ap₂ ◌||◌ (first-good at.In_ok-check-2) (last-good at.In_ok-check-3))
+    c.in_ok-check-4.ensures
+    (told d first last u.result c.separated-costs.result u.ensures.0 c.separated-costs.ensures _ c.near.ensures c.far.ensures (omega (arith, pow_mono u.ensures.1)))
+    )

@@ -2,7 +2,7 @@
 -- Assumes nothing.
 use Prim.Native.Nat.{ℕ, ◌-◌, ◌*◌, ◌/◌, ◌^◌, ◌≤◌, ◌<◌}
 use mathlib.Core.Logic.{◌↔◌}
-use mathlib.Core.Path.{◌≡◌, sym, ap, subst, ◌∙◌}
+use mathlib.Core.Path.{◌≡◌, sym, ◌∙◌}
 use native.Mathlib.Nat.{mul_comm, div-le_of_le-mul, div-eq_of_lt, lt_of_lt_of_le}
 use native.Mathlib.Omega.{arith}
 use lib.Bits.{bit_xor}
@@ -10,10 +10,9 @@ use lib.Count.{count_leading_zeros, leading_le}
 use lib.Pow.{pow_mono}
 use Rattle.zorder.specs.Address.{row_costs}
 use Rattle.zorder.specs.Region.{unkept}
-use Rattle.zorder.specs.Words.{value}
 use Rattle.zorder.proofs.Laws.Region.{unkept-unique}
 use Rattle.zorder.proofs.Bits.{round-up-iff, shr-eq-leading}
-use Rattle.zorder.proofs.corners.unkept.Goals.{After-leading_zeros-zeros}
+use Rattle.zorder.proofs.corners.unkept.Goals.{Start}
 use Rattle.zorder.proofs.corners.unkept.Goals as goal
 
 -- What the code counts, of two addresses of d costs.
@@ -41,13 +40,8 @@ counted d a b some few f h =
           (λ e. by-group.0 (by_length.0 e), λ k. by_length.1 (by-group.1 k));
     }
 
--- The number counted, at the place where it is.
-counted-here : (c : After-leading_zeros-zeros) → Counted c.args.d (value c.args.a) (value c.args.b) c.leading_zeros-zeros.result
-counted-here c =
-    let a = c.args in
-    subst (Counted a.d (value a.a) (value a.b))
-    (sym (c.leading_zeros-zeros.ensures ∙ ap (count_leading_zeros 128) c.xor.ensures))
-    (counted a.d (value a.a) (value a.b) c.requires.0 c.requires.1 c.requires.2 c.requires.3)
+counted-here : (c : Start) → Counted c.args.d c.args.a c.args.b (count_leading_zeros 128 (bit_xor c.args.a c.args.b))
+counted-here c = counted c.args.d c.args.a c.args.b c.requires.0 c.requires.1 c.requires.2 c.requires.3
 
 pub overflow_sub-result-2 : goal.overflow_sub-result-2
 overflow_sub-result-2 c = (counted-here c).room

@@ -3,7 +3,6 @@ use Prim.Native.Nat.{ℕ}
 use mathlib.Core.Bool.{true, false, not}
 use mathlib.Core.List.{List}
 use mathlib.Core.Path.{◌≡◌, refl, sym, ap, subst, ◌∙◌}
-use native.Mathlib.Omega.{arith}
 use Rattle.std.proofs.Common.{rules, Result, Ok, Err}
 use Rattle.zorder.specs.Address as definition
 use Rattle.zorder.specs.Promise.{AddressPromise, refusal_number, number_of, detail_of}
@@ -13,7 +12,6 @@ use Rattle.zorder.specs.declared.AddressWords.{AddressWords}
 use Rattle.zorder.specs.declared.refusal.Refusal.{Refusal}
 use Rattle.zorder.specs.declared.refusal.Refusal.TheVariants.{BadCostCount, BadArgument}
 use Rattle.zorder.proofs.Laws.Refusal.{count-right}
-use Rattle.zorder.proofs.Laws.Words.{words-value}
 use Rattle.zorder.proofs.Checks.{two-checks}
 use Rattle.zorder.proofs.interleave.address.Goals.{In_ok-check}
 use Rattle.zorder.proofs.interleave.address.Goals as goal
@@ -54,13 +52,12 @@ returns-in_err-check-2 c =
 
 pub interleaved-requires : goal.interleaved-requires
 interleaved-requires c =
-    let within = count-right c.args.d (right (goal.at.interleaved-requires c).In_ok-check) in
-    (omega arith, within.1)
+    (count-right c.args.d (right (goal.at.interleaved-requires c).In_ok-check)).1
 
 pub returns : goal.returns
 unfolding cost_past_bad
 returns c =
     let a = c.args in
-    accepted a.d a.costs c.interleaved.result (right (goal.at.returns c).In_ok-check)
+    accepted a.d a.costs c.from.result (right (goal.at.returns c).In_ok-check)
     (ap not (sym c.zero_past.ensures) ∙ c.in_ok-check-2.ensures)
-    (sym (words-value c.interleaved.result (omega arith)) ∙ ap words_of c.interleaved.ensures)
+    (c.from.ensures ∙ ap words_of c.interleaved.ensures)

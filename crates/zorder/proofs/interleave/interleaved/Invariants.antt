@@ -2,9 +2,8 @@
 use Prim.Native.Nat.{ℕ}
 use lib.ListN.{take}
 use Rattle.zorder.specs.Address.{groups}
-use Rattle.zorder.specs.Words.{value}
 use Rattle.zorder.proofs.Digits.{Whole}
 use Rattle.zorder.proofs.interleave.interleaved.Given as goal
 
 abbrev pub invariant-loop-j : goal.invariant-loop-j
-invariant-loop-j l = Whole l.d (λ (k : ℕ). groups k (take l.d l.costs)) 16 (value l.a) l.j
+invariant-loop-j l = Whole l.d (λ (k : ℕ). groups k (take l.d l.costs)) 16 l.a l.j

@@ -1,10 +1,11 @@
-use Prim.Native.Nat.{ℕ, ◌+◌, ◌-◌, ◌*◌, ◌^◌, ◌≤◌, ◌<◌}
-use mathlib.Core.Path.{refl, sym, ap}
-use native.Mathlib.Nat.{one-mul, mul-le-mul}
+use Prim.Native.Nat.{ℕ, ◌+◌, ◌-◌, ◌*◌, ◌/◌, ◌%◌, ◌^◌}
+use mathlib.Core.Path.{refl, sym, ap, subst}
+use native.Mathlib.Nat.{one-mul}
 use native.Mathlib.Omega.{arith}
-use Rattle.zorder.specs.Address.{row_costs, bit, cost_from_bits}
-use Rattle.zorder.specs.Words.{value}
-use Rattle.zorder.proofs.Digits.{Digits, digit-in, digits-end}
+use lib.Bits.{bit_or}
+use Rattle.zorder.specs.Address.{bit, cost_from_bits}
+use Rattle.zorder.proofs.Bits.{and_one}
+use Rattle.zorder.proofs.Digits.{Digits, Whole, digit-in, digits-end}
 use Rattle.zorder.proofs.separate.cost_in.Goals.{In-loop-j}
 use Rattle.zorder.proofs.separate.cost_in.Goals as goal
 
@@ -17,36 +18,19 @@ cost-bits d e a = record {
   small = λ k. omega arith;
 }
 
--- The place of a bit is below 128.
-place-lt : (d e j : ℕ) → e < d → d ≤ row_costs → 0 < j → j ≤ 16 → d * (j - 1) + e < 128
-place-lt d e j inside few some most =
-    let low : j - 1 ≤ 15 = omega arith in
-    omega (arith, mul-le-mul few low)
-
-place-in : (c : In-loop-j) → c.args.d * (c.loop-j.j - 1) + c.args.e < 128
-place-in c =
-    let a = c.args in
-    place-lt a.d a.e c.loop-j.j (omega arith) (omega arith) (omega arith) (omega arith)
-
-pub overflow_mul-d : goal.overflow_mul-d
-overflow_mul-d c = omega (arith, place-in c)
-
-pub overflow_add-d : goal.overflow_add-d
-overflow_add-d c = omega (arith, place-in c)
-
-pub bit-requires : goal.bit-requires
-bit-requires c = place-in c
-
 pub loop-j-preserved : goal.loop-j-preserved
+unfolding bit
 loop-j-preserved c =
     let a = c.args in
     let own = c.loop-j in
-    rw
-    c.bit.ensures.0
-    (digit-in (cost-bits a.d a.e (value a.a)) 16 16 own.c own.j (omega arith) c.loop-j-test.true own.invariant)
+    let next : ℕ → ℕ = λ k. cost_from_bits a.d a.e k a.a in
+    subst
+    (λ (b : ℕ). Whole 1 next 16 (bit_or (own.c * 2 % 2 ^ 16) b) (own.j - 1))
+    (sym (and_one (a.a / 2 ^ (a.d * (own.j - 1) + a.e))))
+    (digit-in (cost-bits a.d a.e a.a) 16 16 own.c own.j (omega arith) c.loop-j-test.true own.invariant)
 
 pub returns : goal.returns
 returns c =
     let a = c.args in
     let own = c.loop-j in
-    digits-end (cost-bits a.d a.e (value a.a)) 16 own.c own.j c.loop-j-test.false own.invariant
+    digits-end (cost-bits a.d a.e a.a) 16 own.c own.j c.loop-j-test.false own.invariant

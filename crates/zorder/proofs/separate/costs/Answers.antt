@@ -2,7 +2,7 @@
 use Prim.Native.Nat.{ℕ}
 use mathlib.Core.Bool.{true, false}
 use mathlib.Core.List.{List}
-use mathlib.Core.Path.{◌≡◌, refl, sym, subst, ◌∙◌}
+use mathlib.Core.Path.{◌≡◌, refl, sym, ap, subst, ◌∙◌}
 use Rattle.std.proofs.Common.{rules, Result, Ok, Err}
 use Rattle.zorder.specs.Address.{costs_of, padded}
 use Rattle.zorder.specs.Promise.{CostsPromise, refusal_number, number_of, detail_of}
@@ -47,7 +47,7 @@ pub returns-in_err-check-2 : goal.returns-in_err-check-2
 returns-in_err-check-2 c =
     let a = c.args in
     bad-address a.d (value a.address) c.from_residual-in_err-check-2.result (search rules) (right (goal.at.returns-in_err-check-2 c).In_ok-check)
-    (sym c.too_large.ensures ∙ c.in_err-check-2.ensures.0)
+    (sym (c.too_large.ensures ∙ ap (address_bad a.d) c.from-a.ensures) ∙ c.in_err-check-2.ensures.0)
 
 pub separated-requires : goal.separated-requires
 separated-requires c = (count-right c.args.d (right (goal.at.separated-requires c).In_ok-check)).1
@@ -56,5 +56,5 @@ pub returns : goal.returns
 returns c =
     let a = c.args in
     accepted a.d (value a.address) c.separated.result (right (goal.at.returns c).In_ok-check)
-    (sym c.too_large.ensures ∙ c.in_ok-check-2.ensures)
-    c.separated.ensures
+    (sym (c.too_large.ensures ∙ ap (address_bad a.d) c.from-a.ensures) ∙ c.in_ok-check-2.ensures)
+    (c.separated.ensures ∙ ap (λ (n : ℕ). padded a.d (costs_of a.d n)) c.from-a.ensures)

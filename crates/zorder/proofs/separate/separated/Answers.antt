@@ -6,7 +6,6 @@ use native.Mathlib.Omega.{arith}
 use lib.ListN.{length, get_or, set}
 use Rattle.zorder.specs.Address.{cost_from_bits, costs_from, costs_of}
 use Rattle.zorder.proofs.Laws.Inverse.{costs_of-costs}
-use Rattle.zorder.specs.Words.{value}
 use Rattle.zorder.proofs.Fill.{filled, filled_none, filled_more, filled-all}
 use Rattle.zorder.proofs.separate.separated.Goals as goal
 
@@ -17,22 +16,22 @@ cost-at d (suc n) zero a h = ap (λ (e : ℕ). cost_from_bits d e 16 a) (omega a
 cost-at d (suc n) (suc i) a h = cost-at d n i a (le_of_suc-le-suc h) ∙ ap (λ (e : ℕ). cost_from_bits d e 16 a) (omega arith)
 
 pub loop-i-init : goal.loop-i-init
-loop-i-init c = filled_none (costs_of c.args.d (value c.args.a))
+loop-i-init c = filled_none (costs_of c.args.d c.args.a)
 
 pub loop-i-preserved : goal.loop-i-preserved
 unfolding costs_of
 loop-i-preserved c =
     let a = c.args in
     let own = c.loop-i in
-    let t : List ℕ = costs_of a.d (value a.a) in
-    let count : length t ≡ a.d = (costs_of-costs a.d (value a.a)).count in
-    ap₂ (λ (row : List ℕ) (v : ℕ). set row own.i v) own.invariant (c.cost_in.ensures ∙ sym (cost-at a.d a.d own.i (value a.a) c.loop-i-test.true))
+    let t : List ℕ = costs_of a.d a.a in
+    let count : length t ≡ a.d = (costs_of-costs a.d a.a).count in
+    ap₂ (λ (row : List ℕ) (v : ℕ). set row own.i v) own.invariant (c.cost_in.ensures ∙ sym (cost-at a.d a.d own.i a.a c.loop-i-test.true))
     ∙ filled_more t own.i 0 (omega arith) (omega arith)
 
 pub returns : goal.returns
 returns c =
     let a = c.args in
     let own = c.loop-i in
-    let t : List ℕ = costs_of a.d (value a.a) in
+    let t : List ℕ = costs_of a.d a.a in
     let all : own.i ≡ a.d = omega arith in
-    own.invariant ∙ ap (filled t) all ∙ filled-all t a.d (costs_of-costs a.d (value a.a)).count
+    own.invariant ∙ ap (filled t) all ∙ filled-all t a.d (costs_of-costs a.d a.a).count
