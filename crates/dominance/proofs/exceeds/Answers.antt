@@ -1,7 +1,7 @@
 use mathlib.Core.Path.{ap₂, ◌∙◌}
 use native.Mathlib.Omega.{arith}
 use Rattle.model.specs.Dominance.{somewhere_less}
-use Rattle.dominance.specs.Laws.Sums.{at-selected}
+use Rattle.dominance.specs.Laws.Tests.{at-selected}
 use Rattle.dominance.proofs.exceeds.Goals as goal
 
 pub returns : goal.returns

@@ -1,6 +1,6 @@
 -- `set_factor` meets its contract. Assumes nothing.
 use native.Mathlib.Omega.{arith}
-use Rattle.dominance.specs.Laws.Sums.{bit-number}
+use Rattle.dominance.specs.Laws.Tests.{bit-number}
 use Rattle.dominance.proofs.set_factor.Goals as goal
 
 pub returns : goal.returns

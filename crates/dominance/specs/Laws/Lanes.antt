@@ -57,26 +57,26 @@ over-number a b =
     (λ e. (omega (arith, ltb-true b a e), omega arith))
     (λ e. (omega arith, omega (arith, ltb-false b a e)))
 
-pub lesser-number : (a b : ℕ) → a - (a - b) ≡ cond (less b a) b a
-unfolding less
-lesser-number a b =
-    test_cases (λ t. a - (a - b) ≡ cond t b a) (ltb b a)
-    (λ e. omega (arith, ltb-true b a e))
-    (λ e. omega (arith, ltb-false b a e))
-
-pub greater-number : (a b : ℕ) → a + (b - a) ≡ cond (less a b) b a
-unfolding less
-greater-number a b =
-    test_cases (λ t. a + (b - a) ≡ cond t b a) (ltb a b)
-    (λ e. omega (arith, ltb-true a b e))
-    (λ e. omega (arith, ltb-false a b e))
-
 module _ (p q : List ℕ) (i : ℕ) where
+  pub lesser-number : get_or p i 0 - (get_or p i 0 - get_or q i 0) ≡ lesser p q i
+  unfolding less
+  lesser-number =
+      test_cases (λ t. get_or p i 0 - (get_or p i 0 - get_or q i 0) ≡ cond t (get_or q i 0) (get_or p i 0)) (ltb (get_or q i 0) (get_or p i 0))
+      (λ e. omega (arith, ltb-true (get_or q i 0) (get_or p i 0) e))
+      (λ e. omega (arith, ltb-false (get_or q i 0) (get_or p i 0) e))
+
+  pub greater-number : get_or p i 0 + (get_or q i 0 - get_or p i 0) ≡ greater p q i
+  unfolding less
+  greater-number =
+      test_cases (λ t. get_or p i 0 + (get_or q i 0 - get_or p i 0) ≡ cond t (get_or q i 0) (get_or p i 0)) (ltb (get_or p i 0) (get_or q i 0))
+      (λ e. omega (arith, ltb-true (get_or p i 0) (get_or q i 0) e))
+      (λ e. omega (arith, ltb-false (get_or p i 0) (get_or q i 0) e))
+
   pub lesser-below : (lesser p q i ≤ get_or p i 0) × (lesser p q i ≤ get_or q i 0)
-  lesser-below = (omega (arith, lesser-number (get_or p i 0) (get_or q i 0)), omega (arith, lesser-number (get_or p i 0) (get_or q i 0)))
+  lesser-below = (omega (arith, lesser-number), omega (arith, lesser-number))
 
   pub greater-above : (get_or p i 0 ≤ greater p q i) × (get_or q i 0 ≤ greater p q i)
-  greater-above = (omega (arith, greater-number (get_or p i 0) (get_or q i 0)), omega (arith, greater-number (get_or p i 0) (get_or q i 0)))
+  greater-above = (omega (arith, greater-number), omega (arith, greater-number))
 
 -- ---- bounds
 

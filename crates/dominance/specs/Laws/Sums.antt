@@ -17,7 +17,6 @@ use Rattle.model.proofs.Laws.Hiding.{better-or-equal}
 use Rattle.model.proofs.Laws.Queries.{at_first}
 use Rattle.model.proofs.Laws.Chosen.{chosen-first, bit-first, bit-past-first}
 use Rattle.model.proofs.Laws.Range.{from, from_all, from_more, from_end}
-use Rattle.dominance.specs.Lanes.{is_first, is_chosen}
 use Rattle.dominance.specs.Sums.{count_less}
 
 -- The widened difference, divided: 1 if a is less than b, else 0.
@@ -113,33 +112,41 @@ count-few (a ∷ p) (b ∷ q) =
     (λ e. omega (arith, count-few p q))
     (λ e. omega (arith, count-few p q))
 
--- ---- sums and ors over the costs, one by one, each times 1 where a test passes, else times 0
+-- ---- sums and ors over the costs, one by one, each times a factor
 
 -- A number times 1 if a test passes, else times 0.
-times : (x n : ℕ) (t : Bool) → cond t (x + n) n ≡ cond t 1 0 * x + n
-times x n true = ap (λ (y : ℕ). y + n) (sym (one-mul x))
-times x n false = sym (ap (λ (y : ℕ). y + n) (zero-mul x) ∙ zero-add n)
+times : (k x n : ℕ) (t : Bool) → k < 2 → eqb k 1 ≡ t → cond t (x + n) n ≡ k * x + n
+times k x n true h e = ap (λ (y : ℕ). y + n) (sym (ap (λ (j : ℕ). j * x) (eqb-true k 1 e) ∙ one-mul x))
+times k x n false h e =
+    let z : k ≡ 0 = omega (arith, eqb-false k 1 e) in
+    sym (ap (λ (j : ℕ). j * x + n) z ∙ ap (λ (y : ℕ). y + n) (zero-mul x) ∙ zero-add n)
 
-both_at_most_one : (t s : Bool) → cond t 1 0 * cond s 1 0 ≤ 1
-both_at_most_one t true = omega (arith, mul-one (cond t 1 0), at_most_one t)
-both_at_most_one t false = omega (arith, mul-zero (cond t 1 0))
+one_at_most : (k : ℕ) (t : Bool) → k < 2 → k * cond t 1 0 ≤ 1
+one_at_most k true h = omega (arith, mul-one k)
+one_at_most k false h = omega (arith, mul-zero k)
 
-module _ (test : ℕ → Bool) (a b : List ℕ) where
+-- The places whose factor is 1.
+unfoldable pub counted : (ℕ → ℕ) → List ℕ → List ℕ
+counted factor s = select (λ j. eqb (factor j) 1) s
+
+module _ (factor : ℕ → ℕ) (small : (i : ℕ) → factor i < 2) (a b : List ℕ) where
   abbrev lower : ℕ → Bool
   lower i = less (get_or a i 0) (get_or b i 0)
 
-  -- What the costs at some places add, those left out that fail the test.
+  -- What the costs at some places add, those of factor 0 left out.
   pub added : List ℕ → ℕ
-  added s = count_less (at (select test s) a) (at (select test s) b)
+  added s = count_less (at (counted factor s) a) (at (counted factor s) b)
 
   added-if : (i : ℕ) (s : List ℕ) (t : Bool) → count_less (at (cons_if t i s) a) (at (cons_if t i s) b) ≡ cond t (cond (lower i) 1 0 + count_less (at s a) (at s b)) (count_less (at s a) (at s b))
   unfolding at count_less
   added-if i s true = refl
   added-if i s false = refl
 
-  added-cons : (i : ℕ) (s : List ℕ) → added (i ∷ s) ≡ cond (test i) 1 0 * cond (lower i) 1 0 + added s
-  unfolding added select
-  added-cons i s = added-if i (select test s) (test i) ∙ times (cond (lower i) 1 0) (added s) (test i)
+  added-cons : (i : ℕ) (s : List ℕ) → added (i ∷ s) ≡ factor i * cond (lower i) 1 0 + added s
+  unfolding added counted select
+  added-cons i s =
+      added-if i (counted factor s) (eqb (factor i) 1)
+      ∙ times (factor i) (cond (lower i) 1 0) (added s) (eqb (factor i) 1) (small i) refl
 
   -- The costs before cost i are summed up: with those to come that is the whole.
   pub record SumTo (n i sum : ℕ) : Type 0 where
@@ -149,15 +156,15 @@ module _ (test : ℕ → Bool) (a b : List ℕ) where
   pub sum-none : (n : ℕ) → SumTo n 0 0
   sum-none n = record { few = omega arith; whole = zero-add (added (from n 0)) ∙ ap added (from_all n) }
 
-  pub sum_more : {n i : ℕ} (sum x : ℕ) → i < n → x ≡ cond (test i) 1 0 * cond (lower i) 1 0 → SumTo n i sum → SumTo n (i + 1) (sum + x)
+  pub sum_more : {n i : ℕ} (sum x : ℕ) → i < n → x ≡ factor i * cond (lower i) 1 0 → SumTo n i sum → SumTo n (i + 1) (sum + x)
   sum_more {n} {i} sum x h e t =
       record {
-        few = omega (arith, t.few, both_at_most_one (test i) (lower i));
+        few = omega (arith, t.few, one_at_most (factor i) (lower i) (small i));
         whole = omega (arith, t.whole, ap added (from_more n i h), added-cons i (from n (i + 1)));
       }
 
-  pub sum-end : (n i sum : ℕ) → n ≤ i → SumTo n i sum → sum ≡ count_less (at (select test (numbers_from 0 n)) a) (at (select test (numbers_from 0 n)) b)
-  unfolding added select at count_less
+  pub sum-end : (n i sum : ℕ) → n ≤ i → SumTo n i sum → sum ≡ count_less (at (counted factor (numbers_from 0 n)) a) (at (counted factor (numbers_from 0 n)) b)
+  unfolding added counted select at count_less
   sum-end n i sum h t = omega (arith, t.whole, ap added (from_end n i h))
 
   -- Whether there is one among the costs before cost i, by an or: 0 exactly if their sum is.
@@ -172,37 +179,43 @@ module _ (test : ℕ → Bool) (a b : List ℕ) where
   pub or-none : (n : ℕ) → OrTo n 0 0
   or-none n = record { sum = 0; to = sum-none n; same = refl }
 
-  pub or-more : {n i : ℕ} (any x : ℕ) → i < n → x ≡ cond (test i) 1 0 * cond (lower i) 1 0 → OrTo n i any → OrTo n (i + 1) (bit_or any x)
+  pub or-more : {n i : ℕ} (any x : ℕ) → i < n → x ≡ factor i * cond (lower i) 1 0 → OrTo n i any → OrTo n (i + 1) (bit_or any x)
   or-more any x h e t = record { sum = t.sum + x; to = sum_more t.sum x h e t.to; same = same_more any x t.sum t.same }
 
-  pub or-end : (n i any : ℕ) → n ≤ i → OrTo n i any → ltb 0 any ≡ somewhere_less (at (select test (numbers_from 0 n)) a) (at (select test (numbers_from 0 n)) b)
+  pub or-end : (n i any : ℕ) → n ≤ i → OrTo n i any → ltb 0 any ≡ somewhere_less (at (counted factor (numbers_from 0 n)) a) (at (counted factor (numbers_from 0 n)) b)
   or-end n i any h t =
       t.same
       ∙ ap (ltb 0) (sum-end n i t.sum h t.to)
-      ∙ somewhere-sum (at (select test (numbers_from 0 n)) a) (at (select test (numbers_from 0 n)) b)
+      ∙ somewhere-sum (at (counted factor (numbers_from 0 n)) a) (at (counted factor (numbers_from 0 n)) b)
 
--- ---- the tests: a set, and the first d costs
+-- ---- the factors of a set, and of the first d costs
 
--- A bit is 1 or 0.
-pub bit-number : (set i : ℕ) → set / 2 ^ i % 2 ≡ cond (is_chosen set i) 1 0
-bit-number set i =
-    test_cases (λ t. set / 2 ^ i % 2 ≡ cond t 1 0) (is_chosen set i)
-    (λ e. eqb-true (set / 2 ^ i % 2) 1 e)
-    (λ e. omega (arith, eqb-false (set / 2 ^ i % 2) 1 e, mod-lt (set / 2 ^ i) {m = 2} (omega arith)))
+abbrev pub bit_of : ℕ → ℕ → ℕ
+bit_of set i = set / 2 ^ i % 2
+
+pub bit-small : (set i : ℕ) → bit_of set i < 2
+bit-small set i = mod-lt (set / 2 ^ i) {m = 2} (omega arith)
 
 abbrev pub first_of : ℕ → ℕ → ℕ
 first_of d i = cond (ltb i d) 1 0
 
-pub selected-first : (n d : ℕ) → d ≤ n → select (is_first d) (numbers_from 0 n) ≡ numbers_from 0 d
-unfolding chosen_costs
-selected-first n d h = (λ i. select (λ j. first_bit j i) (numbers_from 0 n)) ∙ chosen-first n d h
+pub first_small : (d i : ℕ) → first_of d i < 2
+first_small d i = omega (arith, at_most_one (ltb i d))
+
+pub counted-set : (n set : ℕ) → counted (bit_of set) (numbers_from 0 n) ≡ chosen_costs n set
+unfolding counted chosen_costs
+counted-set n set = refl
+
+pub counted-first : (n d : ℕ) → d ≤ n → counted (first_of d) (numbers_from 0 n) ≡ numbers_from 0 d
+unfolding counted chosen_costs
+counted-first n d h = (λ i. select (λ j. eqb (first_bit j i) 1) (numbers_from 0 n)) ∙ chosen-first n d h
   where
-    first_bit : (j : ℕ) → is_first d j ≡ is_chosen (2 ^ d - 1) j
+    first_bit : (j : ℕ) → first_of d j ≡ bit_of (2 ^ d - 1) j
     first_bit j =
-        test_cases (λ t. t ≡ is_chosen (2 ^ d - 1) j) (ltb j d)
-        (λ e. sym (ap (λ (k : ℕ). eqb k 1) (bit-first d j (ltb-true j d e))))
-        (λ e. sym (ap (λ (k : ℕ). eqb k 1) (bit-past-first d j (ltb-false j d e))))
+        test_cases (λ t. cond t 1 0 ≡ bit_of (2 ^ d - 1) j) (ltb j d)
+        (λ e. sym (bit-first d j (ltb-true j d e)))
+        (λ e. sym (bit-past-first d j (ltb-false j d e)))
 
 -- The costs there are the first d.
-pub at-selected : (d : ℕ) (p : List ℕ) → d ≤ row_costs → length p ≡ row_costs → at (select (is_first d) (numbers_from 0 row_costs)) p ≡ take d p
-at-selected d p h l = ap (λ (s : List ℕ). at s p) (selected-first row_costs d h) ∙ at_first d p (omega arith)
+pub at-counted : (d : ℕ) (p : List ℕ) → d ≤ row_costs → length p ≡ row_costs → at (counted (first_of d) (numbers_from 0 row_costs)) p ≡ take d p
+at-counted d p h l = ap (λ (s : List ℕ). at s p) (counted-first row_costs d h) ∙ at_first d p (omega arith)
