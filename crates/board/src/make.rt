@@ -51,9 +51,9 @@ fn make_moves(m: &mut [u8], p: ChangePlan)
     requires { plan.MovesReady p m.old }
     ensures { plan.MovesMade p m.old m.new }
 {
-    if !p.makes {
+    let Some(places) = p.places else {
         return;
-    }
+    };
     let h = p.head;
     let change = p.change;
     let u = p.upkeep;
@@ -61,8 +61,8 @@ fn make_moves(m: &mut [u8], p: ChangePlan)
     let kind = change.kind;
     match kind {
         Kind::Enter => make_enter(m, h, x, u),
-        Kind::Withdraw => make_withdraw(m, h, p.goes, u),
-        Kind::Recost => make_recost(m, h, p.goes, x, u),
+        Kind::Withdraw => make_withdraw(m, h, places.goes, u),
+        Kind::Recost => make_recost(m, h, places.goes, x, u),
     }
 }
 

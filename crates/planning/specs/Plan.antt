@@ -1,6 +1,6 @@
 -- What a plan of a change says, and what carrying it out asks and leaves.
 use Rattle.std.specs.Prelude.{ℕ, ◌+◌, ◌-◌, ◌<◌, ◌≤◌, Bool, true, false, cond, ◌&&◌, Option, None, Some, ◌≡◌, List, ◌++◌, ltb, length}
-use Rattle.std.specs.Option.{ForSome, ForNone, option_map_or}
+use Rattle.std.specs.Option.{ForSome, ForNone, option_map_or, option_and_then}
 use Rattle.model.specs.Basics.{equal}
 use Rattle.model.specs.Moves.{Row, left, entered}
 use Rattle.model.specs.Calls.{refused_with, change_refusal, change_notice, keeps_moves}
@@ -51,7 +51,7 @@ PreparedFor Withdraw h x goes u m = ToWithdraw h.size h.dimension h.count goes u
 PreparedFor Recost h x goes u m = ToRecost h.size h.dimension h.count goes (coming_of x) u m
 
 abbrev pub MovesReady : ChangePlan → List ℕ → Type 0
-MovesReady p m = p.makes ≡ true → PreparedFor p.change.kind p.head p.change p.goes p.upkeep m
+MovesReady p m = ForSome p.places (λ x. PreparedFor p.change.kind p.head p.change x.goes p.upkeep m)
 
 -- A block that can be given.
 pub record Giveable (c : ℕ) (x : Change) (m : List ℕ) : Type 0 where
@@ -65,8 +65,8 @@ pub record Able (p : ChangePlan) (m : List ℕ) : Type 0 where
   pub block : number_of p.verdict ≡ 0 → comes p.change.kind ≡ true → Giveable p.head.size p.change m
 
 pub record MovesMade (p : ChangePlan) (m m' : List ℕ) : Type 0 where
-  pub made : p.makes ≡ true → Made (call_of p.change) m m'
-  pub idle : p.makes ≡ false → m' ≡ m
+  pub made : ForSome p.places (λ _. Made (call_of p.change) m m')
+  pub idle : ForNone p.places (m' ≡ m)
   pub length : length m' ≡ length m
 
 -- A refused plan leaves every byte; of an accepted one the moves are made, then the block is given.
@@ -98,7 +98,7 @@ abbrev pub coming_if : Bool → ℕ → Move → Option Coming
 coming_if told place x = cond told (Some (record { place = place; entrant = x })) None
 
 abbrev pub coming_in : ChangePlan → Option Coming
-coming_in p = coming_if p.upkeep.listed p.place (coming_of p.change)
+coming_in p = option_and_then (λ x. coming_if p.upkeep.listed x.comes (coming_of p.change)) p.places
 
 abbrev pub entered_of : ChangePlan → Telling
 entered_of p =
@@ -131,15 +131,15 @@ pub record Planned (x : Change) (m : List ℕ) (lent : ℕ) (p : ChangePlan) : T
   pub able : Able p m
   pub change : p.change ≡ x
   pub size : number_of p.verdict ≡ 0 → p.head.size ≡ size_in m
-  pub idle : number_of p.verdict ≡ 0 → p.makes ≡ false → Made (call_of x) m m
-  pub nothing : Sound m → keeps_moves (board_in m) (call_of x) ≡ true → number_of p.verdict ≡ 0 → p.makes ≡ false
+  pub idle : number_of p.verdict ≡ 0 → ForNone p.places (Made (call_of x) m m)
+  pub nothing : Sound m → keeps_moves (board_in m) (call_of x) ≡ true → number_of p.verdict ≡ 0 → p.places ≡ None
 
 -- No move changes, and no row is told.
 pub record KeepsMoves (h : Head) (x : Change) (v : Verdict) (p : ChangePlan) : Type 0 where
   pub verdict : p.verdict ≡ v
   pub need : p.need ≡ 0
   pub opened : p.opened ≡ 0
-  pub makes : p.makes ≡ false
+  pub places : p.places ≡ None
   pub head : p.head ≡ h
   pub change : p.change ≡ x
   pub none : p.upkeep.left ≡ 0

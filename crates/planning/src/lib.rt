@@ -9,4 +9,4 @@ mod plan;
 
 pub use change::{Change, Kind, comes, coming_of};
 pub use notice::{entered_of, left_of};
-pub use plan::{ChangePlan, plan_change, plan_on};
+pub use plan::{ChangePlan, Places, plan_change, plan_on};

@@ -31,11 +31,12 @@ pub fn left_of(p: ChangePlan) -> Telling
 fn coming_in(p: ChangePlan) -> Option<Coming>
     ensures { result ≡ coming_in p }
 {
+    let places = p.places?;
     if !p.upkeep.listed {
         return None;
     }
     Some(Coming {
-        place: p.place,
+        place: places.comes,
         entrant: coming_of(p.change),
     })
 }

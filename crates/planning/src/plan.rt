@@ -2,7 +2,7 @@
 ghost use Rattle.memory.specs.Held.{SoundAt};
 ghost use Rattle.planning.specs.Plan as spec;
 
-use crate::change::{Change, comes, exchange_of};
+use crate::change::{Change, exchange_of};
 use crate::foresee::{alike, coming_place, needed, no_upkeep, reported};
 use crate::judge::judge;
 use memory::{Board, Head};
@@ -11,18 +11,22 @@ use soundness::sound_head;
 use tree::place_of;
 use upkeep::{Upkeep, upkeep_of};
 
+// The move at place `goes` goes, if there is one, and one that comes gets place `comes`.
+#[derive(Clone, Copy)]
+pub struct Places {
+    pub goes: usize,
+    pub comes: usize,
+}
+
 // `need` rows are needed, also where too few are lent, and `opened` nodes were opened: the answer
-// alone tells zero of a refused call. `makes` says that moves change: then the move at place `goes`
-// goes, if there is one, and one that comes gets `place`. An accepted change that makes none gives
-// its block all the same.
+// alone tells zero of a refused call. Where moves change they have places. An accepted change of no
+// moves gives its block all the same.
 #[derive(Clone, Copy)]
 pub struct ChangePlan {
     pub verdict: Verdict,
     pub need: usize,
     pub opened: usize,
-    pub makes: bool,
-    pub goes: usize,
-    pub place: usize,
+    pub places: Option<Places>,
     pub head: Head,
     pub change: Change,
     pub upkeep: Upkeep,
@@ -36,9 +40,7 @@ fn keeps_moves(head: Head, change: Change, verdict: Verdict) -> ChangePlan
         verdict,
         need: 0,
         opened: 0,
-        makes: false,
-        goes: 0,
-        place: 0,
+        places: None,
         head,
         change,
         upkeep: no_upkeep(),
@@ -60,16 +62,14 @@ pub fn plan_on(m: &[u8], h: Head, x: Change, lent: usize) -> ChangePlan
     if alike(&board, k) {
         return keeps_moves(h, x, Ok(()));
     }
-    let place = coming_place(&board, k);
-    let upkeep = upkeep_of(&board, k, place);
+    let comes = coming_place(&board, k);
+    let upkeep = upkeep_of(&board, k, comes);
     let need = needed(upkeep);
     ChangePlan {
         verdict: enough(need, lent),
         need,
-        opened: reported(comes(x.kind), upkeep.opened),
-        makes: true,
-        goes,
-        place,
+        opened: reported(k.coming.is_some(), upkeep.opened),
+        places: Some(Places { goes, comes }),
         head: h,
         change: x,
         upkeep,

@@ -1,7 +1,6 @@
 -- Carrying out a plan, by its kind.
-use Rattle.std.specs.Prelude.{ℕ, true, false, List, ◌≡◌}
-use Rattle.std.proofs.Common.{sym, subst, arith}
-use Rattle.model.proofs.Laws.Bool.{both_ways}
+use Rattle.std.specs.Prelude.{ℕ, true, false, Some, List, ◌≡◌}
+use Rattle.std.proofs.Common.{sym, subst, ◌∙◌, arith}
 use Rattle.promises.specs.Sound.{Sound}
 use Rattle.model.specs.Calls as calls
 use Rattle.dominance.specs.Move.{as_move}
@@ -16,13 +15,15 @@ use Rattle.planning.specs.declared.change.Change.{Change}
 use Rattle.planning.specs.declared.change.Kind.{Kind}
 use Rattle.planning.specs.declared.change.Kind.TheVariants.{Enter, Withdraw, Recost}
 use Rattle.planning.specs.declared.plan.ChangePlan.{ChangePlan}
+use Rattle.planning.specs.declared.plan.Places.{Places}
+use Rattle.planning.proofs.Laws.Coming.{never}
 
-module _ (p : ChangePlan) (m : List ℕ) (ready : MovesReady p m) (h : p.makes ≡ true) where
+module _ (p : ChangePlan) (m : List ℕ) (ready : MovesReady p m) (q : Places) (h : p.places ≡ Some q) where
   -- What the plan's kind asks.
-  pub prepared-for : {kind : Kind} → p.change.kind ≡ kind → PreparedFor kind p.head p.change p.goes p.upkeep m
-  prepared-for e = subst (λ (kind : Kind). PreparedFor kind p.head p.change p.goes p.upkeep m) e (ready h)
+  pub prepared-for : {kind : Kind} → p.change.kind ≡ kind → PreparedFor kind p.head p.change q.goes p.upkeep m
+  prepared-for e = subst (λ (kind : Kind). PreparedFor kind p.head p.change q.goes p.upkeep m) e (ready q h)
 
-  sound-for : (kind : Kind) → PreparedFor kind p.head p.change p.goes p.upkeep m → Sound m
+  sound-for : (kind : Kind) → PreparedFor kind p.head p.change q.goes p.upkeep m → Sound m
   unfolding PreparedFor
   sound-for Enter a = a.asked.sound.sound
   sound-for Withdraw a = a.0.asked.sound.sound
@@ -32,8 +33,8 @@ module _ (p : ChangePlan) (m : List ℕ) (ready : MovesReady p m) (h : p.makes �
   moves-made {m'} {kind} e made =
       let sound = sound-for kind (prepared-for e) in
       record {
-        made = λ _. subst (λ (kind : Kind). Made (change_of kind p.change.number p.change.block p.change.costs) m m') (sym e) made;
-        idle = λ f. both_ways h f;
+        made = λ _ _. subst (λ (kind : Kind). Made (change_of kind p.change.number p.change.block p.change.costs) m m') (sym e) made;
+        idle = λ f. never (λ _. m' ≡ m) q (sym f ∙ h);
         length = (made.kept sound.tree sound.stands).only.length;
       }
 

@@ -1,6 +1,6 @@
 -- A plan that is told and carried out keeps the promise of its change.
 use Prim.Native.Nat.{ℕ, zero, suc, ◌<◌}
-use Rattle.std.specs.Prelude.{Bool, true, false, ◌≡◌, get_or}
+use Rattle.std.specs.Prelude.{true, false, Option, Some, None, ◌≡◌, get_or}
 use mathlib.Core.List.{List, ◌++◌, map}
 use Rattle.std.proofs.Math.Path.{refl, ap, ap₂}
 use Rattle.std.proofs.Common.{sym, ◌∙◌, subst, arith}
@@ -28,6 +28,7 @@ use Rattle.planning.specs.Plan.{CarriedOut, Planned, left_of, rows_filled}
 use Rattle.board.specs.Laws.Give.{kept-given, given-alone, given-again}
 use Rattle.planning.specs.declared.change.Change.{Change}
 use Rattle.planning.specs.declared.plan.ChangePlan.{ChangePlan}
+use Rattle.planning.specs.declared.plan.Places.{Places}
 
 -- ---- the rows
 
@@ -72,9 +73,9 @@ module _ {x : Change} {m : List ℕ} {p : ChangePlan} (rows : List (List ℕ)) (
 -- ---- the memory
 
 module _ {x : Change} {m m' : List ℕ} {lent : ℕ} {p : ChangePlan} (plan : Planned x m lent p) (out : CarriedOut p m m') where
-  accepted-made : number_of p.verdict ≡ 0 → (b : Bool) → p.makes ≡ b → Made (call_of x) m out.between
-  accepted-made e true f = subst (λ (y : Change). Made (call_of y) m out.between) plan.change ((out.moves e).made f)
-  accepted-made e false f = subst (Made (call_of x) m) (sym ((out.moves e).idle f)) (plan.idle e f)
+  accepted-made : number_of p.verdict ≡ 0 → (o : Option Places) → p.places ≡ o → Made (call_of x) m out.between
+  accepted-made e (Some q) f = subst (λ (y : Change). Made (call_of y) m out.between) plan.change ((out.moves e).made q f)
+  accepted-made e None f = subst (Made (call_of x) m) (sym ((out.moves e).idle f)) (plan.idle e f)
 
   accepted-passed : Sound m → number_of p.verdict ≡ 0 → change_refusal (board_in m) (call_of x) ≡ 0
   unfolding change_answer
@@ -93,7 +94,7 @@ module _ {x : Change} {m m' : List ℕ} {lent : ℕ} {p : ChangePlan} (plan : Pl
       → MemoryAfter (change_writes (size_in m) (call_of x)) k m m' (changed (board_in m) (call_of x)) (change_tree (dimension_in m) (call_of x) s.tree)
   unfolding MemoryAfter
   plan-left zero e s =
-      kept-given s x.kind x.number x.block x.costs ((accepted-made e p.makes refl).kept s.tree s.stands) (accepted-passed s e) (block-given e) (block-kept e)
+      kept-given s x.kind x.number x.block x.costs ((accepted-made e p.places refl).kept s.tree s.stands) (accepted-passed s e) (block-given e) (block-kept e)
   plan-left (suc k) e s = out.refused (omega (arith, e))
 
   -- Equal costs: no move changes.

@@ -25,3 +25,7 @@ module _ {A : Type 0} where
   pub if-some : (t : Bool) (p : A → Bool) (x : A) → option_map_or p (cond t (Some x) None) false ≡ (t && p x)
   if-some true p x = refl
   if-some false p x = refl
+
+  pub some-if : (t : Bool) (x : A) → is_some (cond t (Some x) None) ≡ t
+  some-if true x = refl
+  some-if false x = refl

@@ -37,9 +37,9 @@ use Rattle.rows.specs.Telling.{place_in}
 use Rattle.rows.specs.declared.telling.Telling.{Telling}
 use Rattle.planning.specs.Kind.{change_of, call_of, comes, coming_of, exchange_of}
 use Rattle.planning.specs.Change.{Other, needed_rows, Made}
-use Rattle.planning.specs.Plan.{alike, ReadyRows, Giveable, Planned, KeepsMoves, coming_if}
+use Rattle.planning.specs.Plan.{alike, ReadyRows, PreparedFor, Giveable, Planned, KeepsMoves, coming_if}
 use Rattle.planning.proofs.Laws.Judge.{board-moves}
-use Rattle.planning.proofs.Laws.Coming.{came, if-came, if-some}
+use Rattle.planning.proofs.Laws.Coming.{only, never, came, if-came, if-some}
 use Rattle.planning.proofs.Laws.Places.{costs-board}
 use Rattle.planning.proofs.Laws.Notice.{left_rows, entered_rows, rows_left, rows-entered, count_left, count-entered, rows-notice, rows-needed}
 use Rattle.planning.proofs.Laws.Calls.{not-refused, call-notice}
@@ -49,6 +49,7 @@ use Rattle.planning.specs.declared.change.Change.{Change}
 use Rattle.planning.specs.declared.change.Kind.{Kind}
 use Rattle.planning.specs.declared.change.Kind.TheVariants.{Enter, Withdraw, Recost}
 use Rattle.planning.specs.declared.plan.ChangePlan.{ChangePlan}
+use Rattle.planning.specs.declared.plan.Places.{Places}
 
 -- ---- no move changes
 
@@ -97,7 +98,7 @@ module _ {h : Head} {x : Change} {v : Verdict} {m : List ℕ} {lent : ℕ} {p : 
         enough = omega (arith, zero_left, zero-entered);
         able =
             record {
-              moves = λ _ f. both_ways f e.makes;
+              moves = λ _ y f. never (λ (y : Places). PreparedFor p.change.kind p.head p.change y.goes p.upkeep m) y (sym e.places ∙ f);
               block = λ z c.
                   subst (λ (g : Head). Giveable g.size p.change m) (sym e.head)
                   (subst (λ (y : Change). Giveable h.size y m) (sym e.change)
@@ -106,7 +107,7 @@ module _ {h : Head} {x : Change} {v : Verdict} {m : List ℕ} {lent : ℕ} {p : 
         change = e.change;
         size = λ z. ap (λ (g : Head). g.size) e.head ∙ size (sym number ∙ z);
         idle = λ z _. idle (sym number ∙ z);
-        nothing = λ _ _ _. e.makes;
+        nothing = λ _ _ _. e.places;
       }
 
 pub plan-unsound : {h : Head} {x : Change} {m : List ℕ} {lent : ℕ} {p : ChangePlan} → (Sound m → ⊥) → KeepsMoves h x (refused_by Unsound 0) p → Planned x m lent p
@@ -220,10 +221,11 @@ module _ {c d n g : ℕ} {m : List ℕ} (s : SoundRows c d n m) (b : Bytes m) (x
 
     pub plan-full : {lent : ℕ} {u : Upkeep} (up : UpkeptRows c d n (exchange_of x g) m u) {place : ℕ} (q : PlaceRows c d n (exchange_of x g) m place) {need : ℕ} → need ≡ needed_rows u
         → (v : Verdict) → answer_of v ≡ rows_answer need lent → {opened : ℕ} → opened ≡ cond (comes x.kind) 0 u.opened
-        → Planned x m lent (record { verdict = v; need = need; opened = opened; makes = true; goes = g; place = place; head = head; change = x; upkeep = u })
+        → Planned x m lent (record { verdict = v; need = need; opened = opened; places = Some (record { goes = g; comes = place }); head = head; change = x; upkeep = u })
     unfolding needed_rows
     plan-full {lent} {u} up {place} q {need} is v answer {opened} shown =
         let a = ready.asked in
+        let places : Places = record { goes = g; comes = place } in
         let moves = kind-moves s b (coming_of x) x.block w e x.kind ok in
         let notice = rows-notice a b other up q (coming_of x) own ∙ call-notice (exchange_of x g) s call moves in
         let needs : need ≡ length (change_notice (board_in m) call) = is ∙ rows-needed a b other up q (coming_of x) own ∙ ap length (call-notice (exchange_of x g) s call moves) in
@@ -253,11 +255,13 @@ module _ {c d n g : ℕ} {m : List ℕ} (s : SoundRows c d n m) (b : Bytes m) (x
           enough = counted-parts (number_of v) u.left need lent (omega (arith, is)) few;
           able =
               record {
-                moves = λ _ _. kind-prepared s b (coming_of x) x.block w e x.kind ok (λ f l. other.costs (coming_of x) (came f) l) up;
+                moves = λ _.
+                    only (λ (y : Places). PreparedFor x.kind head x y.goes u m)
+                    (kind-prepared s b (coming_of x) x.block w e x.kind ok (λ f l. other.costs (coming_of x) (came f) l) up);
                 block = λ _. giveable;
               };
           change = refl;
           size = λ _. s.size;
-          idle = λ _ f. both_ways refl f;
+          idle = λ _ f. never (λ _. Made call m m) places (sym f);
           nothing = λ _ same _. both_ways same (never-nothing x.kind refl);
         }

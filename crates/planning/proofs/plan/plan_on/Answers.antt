@@ -12,11 +12,13 @@ use Rattle.upkeep.specs.Change.{ChangeAsked, ComingPlace, Upkept}
 use Rattle.upkeep.specs.declared.exchange.Exchange.{Exchange}
 use Rattle.model.specs.Calls.{change_refusal}
 use Rattle.promises.specs.Layout.{board_in}
-use Rattle.planning.specs.Kind.{call_of}
+use Rattle.planning.specs.Kind.{call_of, comes, coming_of}
 use Rattle.planning.specs.Plan.{alike, KeepsMoves}
 use Rattle.std.specs.Prelude.{Err}
 use Rattle.std.proofs.Common.{rules}
 use Rattle.promises.specs.declared.Refusal.{Refusal}
+use Rattle.std.specs.Option.{is_some}
+use Rattle.planning.proofs.Laws.Coming.{some-if}
 use Rattle.planning.proofs.Laws.Judge.{judged}
 use Rattle.planning.proofs.Laws.Notice.{upkeep-counted}
 use Rattle.planning.proofs.Laws.Plan.{ready, plan-refused, plan-idle, plan-full}
@@ -65,13 +67,13 @@ returns-then-alike c =
     plan-idle c.requires (bytes made) a.x (costs made) c.place_of-goes.ensures (none made)
     (subst (λ (k : Exchange). alike a.h.size a.h.dimension a.h.count k a.m.now ≡ true) c.exchange_of-k.ensures (sym c.alike.ensures ∙ c.if-alike.true)) c.keeps_moves-then-alike.ensures
 
-pub coming_place-place-requires : goal.coming_place-place-requires
-coming_place-place-requires c = held-ordered _ _ _ _ c.requires
+pub coming_place-comes-requires : goal.coming_place-comes-requires
+coming_place-comes-requires c = held-ordered _ _ _ _ c.requires
 
 pub upkeep_of-upkeep-requires : goal.upkeep_of-upkeep-requires
 upkeep_of-upkeep-requires c = record {
   change_asked = asked (goal.at.upkeep_of-upkeep-requires c).After-exchange_of-k;
-  coming_place = c.coming_place-place.ensures;
+  coming_place = c.coming_place-comes.ensures;
 }
 
 pub needed-need-requires : goal.needed-need-requires
@@ -82,9 +84,10 @@ returns c =
     let a = c.args in
     let up = c.upkeep_of-upkeep in
     let made = (goal.at.returns c).After-exchange_of-k in
+    let comes-as = c.is_some.ensures ∙ ap (λ (k : Exchange). is_some k.coming) c.exchange_of-k.ensures ∙ some-if (comes a.x.kind) (coming_of a.x) in
     plan-full c.requires (bytes made) a.x (costs made) c.place_of-goes.ensures (none made)
     (subst (λ (k : Exchange). alike a.h.size a.h.dimension a.h.count k a.m.now ≡ false) c.exchange_of-k.ensures (sym c.alike.ensures ∙ c.if-alike.false))
     (subst (λ (k : Exchange). Upkept a.h k a.m.now up.result) c.exchange_of-k.ensures up.ensures)
-    (subst (λ (k : Exchange). ComingPlace a.h k a.m.now c.coming_place-place.result) c.exchange_of-k.ensures c.coming_place-place.ensures)
+    (subst (λ (k : Exchange). ComingPlace a.h k a.m.now c.coming_place-comes.result) c.exchange_of-k.ensures c.coming_place-comes.ensures)
     c.needed-need.ensures c.enough.result c.enough.ensures
-    (c.reported.ensures ∙ ap (λ (t : Bool). cond t 0 up.result.opened) c.comes.ensures)
+    (c.reported.ensures ∙ ap (λ (t : Bool). cond t 0 up.result.opened) comes-as)
