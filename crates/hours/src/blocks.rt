@@ -3,7 +3,7 @@
 ghost use Rattle.std.specs.Prelude.{map, ◌≡◌, length, take};
 ghost use Rattle.model.specs.Hours.{block_count};
 ghost use Rattle.promises.specs.Answers.{block_hours};
-ghost use Rattle.hours.specs.Open.{FirstBad, OpenBlocks};
+ghost use Rattle.hours.specs.Open.{FirstBadFound, OpenBlocks};
 
 use crate::windows::{hours_bad, open_at};
 use crate::{BLOCKS, HOURS};
@@ -16,17 +16,17 @@ fn entries_read(hours: &[[u16; HOURS]]) -> usize
     if n < BLOCKS { n } else { BLOCKS }
 }
 
-// Gives the lowest block whose hours are refused; 64 if there is none.
-pub(crate) fn first_bad(hours: &[[u16; HOURS]]) -> usize
-    ensures { FirstBad (map block_hours hours.now) result }
+// Gives the lowest block whose hours are refused.
+pub(crate) fn first_bad(hours: &[[u16; HOURS]]) -> Option<usize>
+    ensures { FirstBadFound (map block_hours hours.now) result }
 {
     let n = entries_read(hours);
     for k in 0..n {
         if hours_bad(hours[k]) {
-            return k;
+            return Some(k);
         }
     }
-    BLOCKS
+    None
 }
 
 // Gives the blocks open at a minute.

@@ -2,10 +2,10 @@
 // then the list, and 8.
 ghost use Rattle.hours.specs.Open.{HoursPlanned};
 
+use crate::HOURS;
 use crate::blocks::{first_bad, open_blocks};
 use crate::shown::find_shown;
 use crate::windows::minute_bad;
-use crate::{BLOCKS, HOURS};
 use memory::Board;
 use promises::Reason;
 use rows::{Plan, plan_found, refused};
@@ -23,8 +23,7 @@ pub fn plan_hours(m: &[u8], minute: usize, hours: &[[u16; HOURS]], lent: usize) 
     if minute_bad(minute) {
         return refused(Reason::BadArgument, 0);
     }
-    let bad = first_bad(hours);
-    if bad < BLOCKS {
+    if let Some(bad) = first_bad(hours) {
         return refused(Reason::BadHours, bad);
     }
     let blocks = open_blocks(minute as u16, hours);

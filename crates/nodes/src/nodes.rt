@@ -23,13 +23,13 @@ fn corner_dominated(listed: &Index, goes: usize, i: usize, near: [u16; COSTS]) -
 {
     let b = &listed.board;
     let q = bounds_of(b.head.dimension, near);
-    let mut j = listed.next_within(0, i, q);
-    while j < i {
+    let mut found = listed.next_within(0, i, q);
+    while let Some(j) = found {
         let costs = b.costs_of(b.number_at(j));
         if (j != goes) & exceeds(b.head.dimension, near, costs) {
             return true;
         }
-        j = listed.next_within(j + 1, i, q);
+        found = listed.next_within(j + 1, i, q);
     }
     false
 }

@@ -1,12 +1,12 @@
 -- The moves that no move beats, by places in Z-order.
-use Rattle.std.specs.Prelude.{ℕ, ◌≤◌, Bool, not, ◌&&◌, List}
+use Rattle.std.specs.Prelude.{ℕ, ◌≤◌, ◌<◌, Bool, not, ◌&&◌, List, Option, unwrap_or, IfSome}
 use Rattle.model.specs.Basics.{any}
 use Rattle.model.specs.Moves.{Move}
 use Rattle.promises.specs.Layout.{move_in}
 use Rattle.memory.specs.Held.{moves_held}
 use Rattle.memory.specs.Tests.{is_listed}
 use Rattle.memory.specs.declared.head.Head.{Head}
-use Rattle.search.specs.Search.{None, Some}
+use Rattle.search.specs.Search.{None, Some, SomeFound}
 use Rattle.query.specs.Rule.{beats}
 use Rattle.query.specs.declared.rule.Rule.{Rule}
 
@@ -29,6 +29,9 @@ listed_beats c d rule m q j = is_listed c m j && beats_at c d rule m q j
 abbrev pub Beater : Head → Rule → List ℕ → List ℕ → ℕ → Type 0
 Beater h rule m q = Some (beats_at h.size h.dimension rule m q) h.count
 
+abbrev pub BeaterFound : Head → Rule → List ℕ → List ℕ → Option ℕ → Type 0
+BeaterFound h rule m q = SomeFound (beats_at h.size h.dimension rule m q) h.count
+
 -- The next place from j on, up to n, that is to be looked at: no listed move passed by beats these costs.
 pub record NextRow (c d n : ℕ) (rule : Rule) (m q : List ℕ) (j r : ℕ) : Type 0 where
   pub from : j ≤ r
@@ -37,3 +40,8 @@ pub record NextRow (c d n : ℕ) (rule : Rule) (m q : List ℕ) (j r : ℕ) : Ty
 
 abbrev pub Next : Head → Rule → List ℕ → List ℕ → ℕ → ℕ → Type 0
 Next h = NextRow h.size h.dimension h.count
+
+-- The same of a place or none: the end stands for none.
+pub record NextFound (h : Head) (rule : Rule) (m q : List ℕ) (j : ℕ) (r : Option ℕ) : Type 0 where
+  pub next : Next h rule m q j (unwrap_or r h.count)
+  pub below : IfSome r (λ k. k < h.count)

@@ -23,15 +23,15 @@ fn few_before(all: &Index, most: usize, i: usize) -> bool
     let costs = b.costs_at(i);
     let q = bounds_of(b.head.dimension, costs);
     let mut found: usize = 0;
-    let mut j = all.next_within(0, i, q);
-    while j < i {
+    let mut next = all.next_within(0, i, q);
+    while let Some(j) = next {
         if exceeds(b.head.dimension, costs, b.costs_at(j)) {
             if found == most {
                 return false;
             }
             found += 1;
         }
-        j = all.next_within(j + 1, i, q);
+        next = all.next_within(j + 1, i, q);
     }
     true
 }

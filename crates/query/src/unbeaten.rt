@@ -6,7 +6,7 @@ ghost use Rattle.dominance.specs.Lanes.{Lanes, bound, is_chosen};
 ghost use Rattle.memory.specs.Held.{SoundAt};
 ghost use Rattle.search.specs.declared.search.Among.TheVariants.{Listed};
 ghost use Rattle.memory.specs.Tests.{is_listed};
-ghost use Rattle.search.specs.Search.{First};
+ghost use Rattle.search.specs.Search.{FirstFound};
 ghost use Rattle.upkeep.specs.Found.{FindsMoves};
 ghost use Rattle.query.specs.Rule.{Fair};
 ghost use Rattle.query.specs.Unbeaten as spec;
@@ -15,22 +15,21 @@ use crate::rule::{Rule, beats};
 use dominance::bounds_in;
 use memory::Board;
 use numbers::empty;
-use search::{Among, Index, tried_next};
+use search::{Among, Index};
 use upkeep::{Found, add_found};
 use zorder::COSTS;
 
 // The next listed place from i on.
-fn next_listed(b: &Board, i: usize) -> usize
+fn next_listed(b: &Board, i: usize) -> Option<usize>
     requires { i ≤ b.now.head.count }
-    ensures { First (is_listed b.now.head.size b.now.bytes.now) i b.now.head.count result }
+    ensures { FirstFound (is_listed b.now.head.size b.now.bytes.now) i b.now.head.count result }
 {
-    let n = b.head.count;
-    for j in i..n {
+    for j in i..b.head.count {
         if b.is_listed(b.number_at(j)) {
-            return j;
+            return Some(j);
         }
     }
-    n
+    None
 }
 
 // Bounds on those of the first d costs that are in the set.
@@ -43,10 +42,10 @@ fn chosen_bounds(d: usize, set: usize, q: [u16; COSTS]) -> [u16; COSTS]
 
 // The next place from j on with a listed move that may beat these costs: on chosen costs one that
 // is nowhere greater there.
-fn candidate(listed: &Index, rule: Rule, j: usize, costs: [u16; COSTS]) -> usize
+fn candidate(listed: &Index, rule: Rule, j: usize, costs: [u16; COSTS]) -> Option<usize>
     requires place { j ≤ listed.now.board.head.count }
     requires listed { listed.now.among ≡ Listed }
-    ensures { spec.Next listed.now.board.head rule listed.now.board.bytes.now costs j result }
+    ensures { spec.NextFound listed.now.board.head rule listed.now.board.bytes.now costs j result }
 {
     let b = &listed.board;
     match rule {
@@ -58,34 +57,33 @@ fn candidate(listed: &Index, rule: Rule, j: usize, costs: [u16; COSTS]) -> usize
     }
 }
 
-// A place with a listed move that beats these costs; n if there is none, and then no move does.
-fn listed_beater(listed: &Index, rule: Rule, costs: [u16; COSTS]) -> usize
+// A place with a listed move that beats these costs; if there is none, no move does.
+fn listed_beater(listed: &Index, rule: Rule, costs: [u16; COSTS]) -> Option<usize>
     requires sound_at { SoundAt listed.now.board.head listed.now.board.bytes.now × Fair rule }
     requires listed { listed.now.among ≡ Listed }
-    ensures { spec.Beater listed.now.board.head rule listed.now.board.bytes.now costs result }
+    ensures { spec.BeaterFound listed.now.board.head rule listed.now.board.bytes.now costs result }
 {
     let b = &listed.board;
-    let n = b.head.count;
-    let mut j = candidate(listed, rule, 0, costs);
-    while j < n {
+    let mut found = candidate(listed, rule, 0, costs);
+    while let Some(j) = found {
         if beats(b.head.dimension, rule, b.costs_at(j), costs) {
-            return j;
+            return Some(j);
         }
-        j = candidate(listed, rule, j + 1, costs);
+        found = candidate(listed, rule, j + 1, costs);
     }
-    j
+    None
 }
 
-// A place with a move that beats these costs, `last` if that does; n if none does.
-fn beater(listed: &Index, rule: Rule, last: usize, costs: [u16; COSTS]) -> usize
+// A place with a move that beats these costs, `last` if that does.
+fn beater(listed: &Index, rule: Rule, last: usize, costs: [u16; COSTS]) -> Option<usize>
     requires sound_at { SoundAt listed.now.board.head listed.now.board.bytes.now × Fair rule }
     requires listed { listed.now.among ≡ Listed }
-    ensures { spec.Beater listed.now.board.head rule listed.now.board.bytes.now costs result }
+    ensures { spec.BeaterFound listed.now.board.head rule listed.now.board.bytes.now costs result }
 {
     let b = &listed.board;
     if last < b.head.count {
         if beats(b.head.dimension, rule, b.costs_at(last), costs) {
-            return last;
+            return Some(last);
         }
     }
     listed_beater(listed, rule, costs)
@@ -103,9 +101,9 @@ pub(crate) fn find_unbeaten(b: &Board, rule: Rule) -> Found
     let mut count: usize = 0;
     let mut last = 0;
     for i in 0..n {
-        let j = beater(&listed, rule, last, b.costs_at(i));
-        count += add_found(b, i, n <= j, &mut numbers);
-        last = tried_next(j, n, last);
+        let found = beater(&listed, rule, last, b.costs_at(i));
+        count += add_found(b, i, found.is_none(), &mut numbers);
+        last = found.unwrap_or(last);
     }
     Found { numbers, count }
 }

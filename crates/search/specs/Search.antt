@@ -1,5 +1,5 @@
 -- What the search over places finds.
-use Rattle.std.specs.Prelude.{ℕ, ◌-◌, ◌/◌, ◌%◌, ◌^◌, ◌≤◌, ◌<◌, Bool, true, false, not, ◌&&◌, List, [], ◌≡◌, eqb, length, get_or}
+use Rattle.std.specs.Prelude.{ℕ, ◌-◌, ◌/◌, ◌%◌, ◌^◌, ◌≤◌, ◌<◌, Bool, true, false, not, ◌&&◌, List, [], ◌≡◌, eqb, length, get_or, Option, unwrap_or, IfSome}
 use Rattle.zorder.specs.Address.{row_costs}
 use Rattle.model.specs.Dominance.{nowhere_greater}
 use Rattle.dominance.specs.Lanes.{bound, is_first}
@@ -58,8 +58,20 @@ pub record Some (test : ℕ → Bool) (n r : ℕ) : Type 0 where
   pub found : r < n → test r ≡ true
   pub none : n ≤ r → None test 0 n
 
+-- The same of a place or none: n stands for none.
+pub record FirstFound (test : ℕ → Bool) (i n : ℕ) (r : Option ℕ) : Type 0 where
+  pub first : First test i n (unwrap_or r n)
+  pub below : IfSome r (λ j. j < n)
+
+pub record SomeFound (test : ℕ → Bool) (n : ℕ) (r : Option ℕ) : Type 0 where
+  pub some : Some test n (unwrap_or r n)
+  pub below : IfSome r (λ j. j < n)
+
 abbrev pub ListedSome : Head → List ℕ → List ℕ → ℕ → ℕ → Type 0
 ListedSome h m q = Some (fits Listed h.size m q)
+
+abbrev pub ListedFound : Head → List ℕ → List ℕ → ℕ → Option ℕ → Type 0
+ListedFound h m q = SomeFound (fits Listed h.size m q)
 
 -- p is nowhere greater than q, place by place; and in the costs of a row.
 abbrev pub Below : List ℕ → List ℕ → Type 0

@@ -154,17 +154,17 @@ pub fn fits_at(b: &Board, i: usize, among: Among, q: [u16; COSTS]) -> bool
     looks_at(b, i, among)
 }
 
-// The first place from i up to `to` that fits; `to` if none does.
-fn within(b: &Board, i: usize, to: usize, among: Among, q: [u16; COSTS]) -> usize
+// The first place from i up to `to` that fits.
+fn within(b: &Board, i: usize, to: usize, among: Among, q: [u16; COSTS]) -> Option<usize>
     requires { (i ≤ to) × (to ≤ b.now.head.count) }
-    ensures { spec.First (spec.fits among b.now.head.size b.now.bytes.now q) i to result }
+    ensures { spec.FirstFound (spec.fits among b.now.head.size b.now.bytes.now q) i to result }
 {
     for j in i..to {
         if fits_at(b, j, among, q) {
-            return j;
+            return Some(j);
         }
     }
-    to
+    None
 }
 
 // Finds the same as `within`, run by run.
@@ -175,24 +175,23 @@ pub fn next_within(
     among: Among,
     corners: &[[u16; COSTS]; RUNS],
     q: [u16; COSTS],
-) -> usize
+) -> Option<usize>
     requires places { (i ≤ to) × (to ≤ b.now.head.count) }
     requires corners { spec.Corners among b.now.head.size b.now.bytes.now to corners.now }
-    ensures { spec.First (spec.fits among b.now.head.size b.now.bytes.now q) i to result }
+    ensures { spec.FirstFound (spec.fits among b.now.head.size b.now.bytes.now q) i to result }
 {
     let mut f = i;
     while f < to {
         let e = run_end(f, to);
         let low = corners[f / RUN];
         if !exceeds(COSTS, low, q) {
-            let j = within(b, f, e, among, q);
-            if j < e {
-                return j;
+            if let Some(j) = within(b, f, e, among, q) {
+                return Some(j);
             }
         }
         f = e;
     }
-    f
+    None
 }
 
 // A board with the corners of its runs for one kind of search.
@@ -217,17 +216,12 @@ impl<'a> Index<'a> {
         }
     }
 
-    // Finds the first place from i up to `to` that fits; `to` if none does.
-    pub fn next_within(&self, i: usize, to: usize, q: [u16; COSTS]) -> usize
+    // Finds the first place from i up to `to` that fits.
+    pub fn next_within(&self, i: usize, to: usize, q: [u16; COSTS]) -> Option<usize>
         requires { (i ≤ to) × (to ≤ self.now.board.head.count) }
-        ensures { spec.First (spec.fits self.now.among self.now.board.head.size
+        ensures { spec.FirstFound (spec.fits self.now.among self.now.board.head.size
             self.now.board.bytes.now q) i to result }
     {
         next_within(&self.board, i, to, self.among, &self.corners, q)
     }
-}
-
-// Gives the place that is tried first in the next search: the one found, if one was.
-pub fn tried_next(found: usize, to: usize, first: usize) -> usize {
-    if found < to { found } else { first }
 }

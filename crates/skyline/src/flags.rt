@@ -1,6 +1,6 @@
 // Whether the kept list is the list of the moves: each move is held against the listed moves that
 // stand before it only.
-ghost use Rattle.std.specs.Prelude.{◌≡◌, ◌<◌, ltb};
+ghost use Rattle.std.specs.Prelude.{◌≡◌, ◌<◌, is_some, IfSome};
 ghost use Rattle.memory.specs.Room.{Readable, InOrder};
 ghost use Rattle.search.specs.Search as search;
 ghost use Rattle.memory.specs.Tests as tests;
@@ -11,14 +11,19 @@ use memory::Board;
 use search::{CELLS, RUNS, bounds_at};
 use zorder::COSTS;
 
-// Gives a place before i with a listed move that hides the one at i, `last` if that does; i if
-// there is none. An earlier move that is nowhere greater hides: of equal costs the lower number
+// Gives a place before i with a listed move that hides the one at i, `last` if that does. An earlier move that is nowhere greater hides: of equal costs the lower number
 // stands first.
-pub fn hider_before(b: &Board, i: usize, last: usize, corners: &[[u16; COSTS]; RUNS]) -> usize
+pub fn hider_before(
+    b: &Board,
+    i: usize,
+    last: usize,
+    corners: &[[u16; COSTS]; RUNS],
+) -> Option<usize>
     requires place { InOrder b.now.head b.now.bytes.now × (i < b.now.head.count) }
     requires listed_corners { search.ListedCorners b.now.head b.now.bytes.now i corners.now }
-    ensures { tests.hidden_at b.now.head.size b.now.head.dimension b.now.bytes.now i ≡ ltb result
-        i }
+    ensures hidden { tests.hidden_at b.now.head.size b.now.head.dimension b.now.bytes.now i
+        ≡ is_some result }
+    ensures place { IfSome result (λ j. j < i) }
 {
     found_from(b, i, last, corners, bounds_at(b, i))
 }

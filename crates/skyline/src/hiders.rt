@@ -1,6 +1,6 @@
 // Whether each move that is not listed is hidden by a listed one before it. What hid one often
 // hides the next, or one of the last eight hiders does: these are tried before the search is asked.
-ghost use Rattle.std.specs.Prelude.{true, ◌≡◌, ◌<◌, length};
+ghost use Rattle.std.specs.Prelude.{true, ◌≡◌, ◌<◌, length, Some, OnSome};
 ghost use Rattle.memory.specs.Room.{Readable, InOrder};
 ghost use Rattle.search.specs.Search as search;
 ghost use Rattle.memory.specs.Tests as tests;
@@ -33,7 +33,7 @@ fn guess(columns: &[u16; CELLS], places: &[usize; HIDERS], q: [u16; COSTS]) -> u
 // Whether place k is before i, and its move listed and nowhere greater than q.
 fn tried(b: &Board, k: usize, i: usize, q: [u16; COSTS]) -> bool
     requires { i < b.now.head.count }
-    ensures { result ≡ true → search.ListedSome b.now.head b.now.bytes.now q i k }
+    ensures { result ≡ true → search.ListedFound b.now.head b.now.bytes.now q i (Some k) }
 {
     if k < i {
         return fits_at(b, k, Among::Listed, q);
@@ -41,8 +41,8 @@ fn tried(b: &Board, k: usize, i: usize, q: [u16; COSTS]) -> bool
     false
 }
 
-// A place before i with a listed move that is nowhere greater than q, of the last hiders; i if none
-// of those tried is.
+// A place before i with a listed move that is nowhere greater than q, of the last hiders; none if
+// those tried are none.
 fn guessed(
     b: &Board,
     i: usize,
@@ -50,35 +50,34 @@ fn guessed(
     columns: &[u16; CELLS],
     places: &[usize; HIDERS],
     q: [u16; COSTS],
-) -> usize
+) -> Option<usize>
     requires { i < b.now.head.count }
-    ensures { result < i → search.ListedSome b.now.head b.now.bytes.now q i result }
+    ensures { OnSome result (search.ListedFound b.now.head b.now.bytes.now q i result) }
 {
     if tried(b, last, i, q) {
-        return last;
+        return Some(last);
     }
     let other = guess(columns, places, q);
     if tried(b, other, i, q) {
-        return other;
+        return Some(other);
     }
-    i
+    None
 }
 
-// Gives a place before i with a listed move that is nowhere greater than q, `first` if that is one;
-// i if there is none.
+// Gives a place before i with a listed move that is nowhere greater than q, `first` if that is one.
 pub(crate) fn found_from(
     b: &Board,
     i: usize,
     first: usize,
     corners: &[[u16; COSTS]; RUNS],
     q: [u16; COSTS],
-) -> usize
+) -> Option<usize>
     requires place { i < b.now.head.count }
     requires listed_corners { search.ListedCorners b.now.head b.now.bytes.now i corners.now }
-    ensures { search.ListedSome b.now.head b.now.bytes.now q i result }
+    ensures { search.ListedFound b.now.head b.now.bytes.now q i result }
 {
     if tried(b, first, i, q) {
-        return first;
+        return Some(first);
     }
     next_within(b, 0, i, Among::Listed, corners, q)
 }
@@ -105,12 +104,13 @@ pub(crate) fn hidden_right(
             nearest = i;
         } else {
             let q = bounds_at(b, i);
-            last = guessed(b, i, last, columns, &places, q);
-            if i <= last {
-                last = found_from(b, i, nearest, corners, q);
-                if i <= last {
+            if let Some(hider) = guessed(b, i, last, columns, &places, q) {
+                last = hider;
+            } else {
+                let Some(hider) = found_from(b, i, nearest, corners, q) else {
                     return false;
-                }
+                };
+                last = hider;
                 places[at] = last;
                 put(columns, at, seen_at(b, last, Among::Listed));
                 at = (at + 1) % HIDERS;

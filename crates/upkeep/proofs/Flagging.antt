@@ -4,7 +4,7 @@ use mathlib.Core.Bool.{Bool, true, false, not, ◌&&◌, beq}
 use mathlib.Core.List.{List, []}
 use mathlib.Core.Path.{◌≡◌, refl, sym, ap, ap₂, ◌∙◌, subst}
 use native.Mathlib.Omega.{arith}
-use lib.Dec.{eqb, ltb}
+use lib.Dec.{eqb}
 use lib.ListN.{get_or, set}
 use Rattle.zorder.specs.Address.{row_costs}
 use Rattle.model.specs.Moves.{Move, move_before}
@@ -30,7 +30,7 @@ unfolding all_to
 all_to-ext p q zero h = refl
 all_to-ext p q (suc n) h = ap₂ ◌&&◌ (all_to-ext p q n (λ i l. h i (omega arith))) (h n (omega arith))
 
-beq-opposite : (b : Bool) → beq (not b) b ≡ false
+beq-opposite : (b : Bool) → beq b (not b) ≡ false
 beq-opposite true = refl
 beq-opposite false = refl
 
@@ -60,34 +60,34 @@ module _ (c d n : ℕ) (m m' : List ℕ) (moves : (i : ℕ) → i < n → move_i
 module _ (c d i : ℕ) (m₀ m : List ℕ) (room : Room c m) (within : i < c) (number : number_in c m i < c)
     (others : (j : ℕ) → j < i → number_in c m j ≡ number_in c m i → ⊥) (flagged : Flagged c d i m₀ m) where
   -- A turn: the move at place i is flagged.
-  pub flagged-more : (k : ℕ) (hidden : Bool) → k ≡ number_in c m i → hidden ≡ hidden_before c d m i (move_in c d m i) → Flagged c d (i + 1) m₀ (set_listed c k (not hidden) m)
+  pub flagged-more : (k : ℕ) (listed : Bool) → k ≡ number_in c m i → not listed ≡ hidden_before c d m i (move_in c d m i) → Flagged c d (i + 1) m₀ (set_listed c k listed m)
   unfolding is_listed move_in
-  flagged-more k hidden e f = record { right = right; frame = frame-trans flagged.frame frame }
+  flagged-more k listed e f = record { right = right; frame = frame-trans flagged.frame frame }
     where
       m' : List ℕ
-      m' = set_listed c k (not hidden) m
+      m' = set_listed c k listed m
 
       below : k < c
       below = omega arith
 
       frame : FlagsOnly c m m'
-      frame = set_listed-flags c k m below (not hidden)
+      frame = set_listed-flags c k m below listed
 
       moves : (j : ℕ) → j ≤ i → move_in c d m' j ≡ move_in c d m j
       moves j l = move-ext c d m m' j j (number-over-flags c frame j (omega arith)) (costs-over-flags c frame d (number_in c m j))
 
       flags : (j : ℕ) → j < i → flag_in c m' (number_in c m j) ≡ flag_in c m (number_in c m j)
-      flags j l = flag-set_listed-other c k m (number_in c m j) (λ g. others j l (g ∙ e)) (not hidden)
+      flags j l = flag-set_listed-other c k m (number_in c m j) (λ g. others j l (g ∙ e)) listed
 
       before : (j : ℕ) → j < i → move_in c d m' j ≡ move_in c d m j
       before j l = moves j (omega arith)
 
       right : flags_right c d (i + 1) m' ≡ true
       right =
-          flags-more c d m' i (flags-ext c d i m m' before flags ∙ flagged.right) (not hidden) hidden
-          (ap (λ (x : Move). eqb (flag_in c m' x.number) 1) (moves i (omega arith)) ∙ ap (λ (v : ℕ). eqb (flag_in c m' v) 1) (sym e) ∙ listed-set_listed c k m room below (not hidden))
+          flags-more c d m' i (flags-ext c d i m m' before flags ∙ flagged.right) listed (not listed)
+          (ap (λ (x : Move). eqb (flag_in c m' x.number) 1) (moves i (omega arith)) ∙ ap (λ (v : ℕ). eqb (flag_in c m' v) 1) (sym e) ∙ listed-set_listed c k m room below listed)
           (ap (hidden_before c d m' i) (moves i (omega arith)) ∙ hidden-ext c d i m m' before flags i (move_in c d m i) (omega arith) ∙ sym f)
-          (beq-opposite hidden)
+          (beq-opposite listed)
 
 -- Numbers stay where flags are written.
 module _ (c n : ℕ) (m₀ m : List ℕ) (f : FlagsOnly c m₀ m) (few : n ≤ c) where
@@ -139,24 +139,24 @@ module _ (h : Head) (m₀ m : List ℕ) (i : ℕ) (corners : List (List ℕ)) (r
       let g = once-kept h.size h.count m₀ m w.flagged.frame readable.rows once j i (omega arith) more e in
       omega arith
 
-  module _ (k hider : ℕ) (m' : List ℕ) (number : k ≡ number_in h.size m i) (hidden : hidden_at h.size h.dimension m i ≡ ltb hider i)
-      (stored : m' ≡ set_listed h.size k (not (ltb hider i)) m) where
+  module _ (k : ℕ) (listed : Bool) (m' : List ℕ) (number : k ≡ number_in h.size m i) (hidden : hidden_at h.size h.dimension m i ≡ not listed)
+      (stored : m' ≡ set_listed h.size k listed m) where
     below : number_in h.size m i < h.size
     below = numbers-kept h.size h.count m₀ m w.flagged.frame readable.rows readable.numbers i more
 
     pub stored-frame : FlagsOnly h.size m₀ m'
     stored-frame =
-        frame-trans w.flagged.frame (subst (FlagsOnly h.size m) (sym stored) (set_listed-flags h.size k m (omega (arith, below)) (not (ltb hider i))))
+        frame-trans w.flagged.frame (subst (FlagsOnly h.size m) (sym stored) (set_listed-flags h.size k m (omega (arith, below)) listed))
 
     pub flagging-more : (r : List ℕ) → CornerWith Listed h.size m' i (i + 1) (get_or corners (i / 64) []) r → Flagging h m₀ m' (i + 1) (set corners (i / 64) r)
     flagging-more r corner = record {
       flagged =
           subst (Flagged h.size h.dimension (i + 1) m₀) (sym stored)
-          (flagged-more h.size h.dimension i m₀ m (room-over h.size w.flagged.frame readable.room) (omega (arith, readable.rows)) below others w.flagged k (ltb hider i) number (sym hidden));
+          (flagged-more h.size h.dimension i m₀ m (room-over h.size w.flagged.frame readable.room) (omega (arith, readable.rows)) below others w.flagged k listed number (sym hidden));
       corners =
           corners-more i (i + 1) corners r (omega (arith, readable.rows, readable.room)) (omega arith)
           (subst (λ (l : List ℕ). ListedCorners h l i corners) (sym stored)
-          (corners-kept h.size i k m (not (ltb hider i)) corners (omega (arith, readable.rows)) (omega (arith, below)) (λ j l e. others j l (e ∙ number)) w.corners))
+          (corners-kept h.size i k m listed corners (omega (arith, readable.rows)) (omega (arith, below)) (λ j l e. others j l (e ∙ number)) w.corners))
           corner;
     }
 

@@ -43,14 +43,13 @@ pub fn hidden_by_others(all: &Index, goes: usize, i: usize, x: Move) -> bool
     let b = &all.board;
     let costs = x.costs;
     let q = bounds_of(b.head.dimension, costs);
-    let j = all.next_within(0, i, q);
-    if i <= j {
+    let Some(j) = all.next_within(0, i, q) else {
         return false;
-    }
+    };
     if j != goes {
         return true;
     }
-    all.next_within(j + 1, i, q) < i
+    all.next_within(j + 1, i, q).is_some()
 }
 
 // Says whether the coming move hides x.

@@ -4,7 +4,7 @@ ghost use Rattle.memory.specs.Room.{Readable, InOrder};
 ghost use Rattle.upkeep.specs.Flag.{Once, Flagged};
 
 use memory::{Board, Head, set_listed};
-use search::{Among, RUN, RUNS, corner_with, tried_next};
+use search::{Among, RUN, RUNS, corner_with};
 use skyline::hider_before;
 use zorder::COSTS;
 
@@ -21,10 +21,10 @@ pub fn flag_all(m: &mut [u8], h: Head)
         let b = Board { bytes: m, head: h };
         let hider = hider_before(&b, i, last, &corners);
         let number = b.number_at(i);
-        set_listed(m, h.size, number, !(hider < i));
+        set_listed(m, h.size, number, hider.is_none());
         let b = Board { bytes: m, head: h };
         let low = corners[i / RUN];
         corners[i / RUN] = corner_with(&b, i, Among::Listed, low);
-        last = tried_next(hider, i, last);
+        last = hider.unwrap_or(last);
     }
 }

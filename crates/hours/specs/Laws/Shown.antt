@@ -1,7 +1,7 @@
 -- The list over the moves in open blocks: what the search before each place finds, and that it is the definition's.
 use Prim.Native.Nat.{ℕ, ◌+◌, ◌-◌, ◌/◌, ◌%◌, ◌^◌, ◌≤◌, ◌<◌}
 use Rattle.std.proofs.Math.Bool.{Bool, not}
-use Rattle.std.specs.Prelude.{true, false, ◌&&◌, ◌≡◌, ltb, take}
+use Rattle.std.specs.Prelude.{true, false, ◌&&◌, ◌≡◌, ltb, take, Option, unwrap_or, is_some}
 use mathlib.Core.List.{List}
 use Rattle.std.proofs.Math.Path.{refl, sym, ap, subst}
 use Rattle.std.proofs.Common.{◌∙◌}
@@ -24,13 +24,13 @@ use Rattle.line.specs.Line.{moves_in}
 use Rattle.promises.specs.Layout.{number_in, block_in, costs_in, move_in, line_from, line_in, board_in}
 use Rattle.promises.specs.Run.{Bytes}
 use Rattle.memory.specs.Held.{SoundRows}
-use Rattle.search.specs.Search.{in_blocks, looks, looks_at, seen, seen_at, bounds_at, fits, Some}
+use Rattle.search.specs.Search.{in_blocks, looks, looks_at, seen, seen_at, bounds_at, fits, Some, SomeFound}
 use Rattle.memory.specs.Tests.{any_to, is_listed}
 use Rattle.memory.specs.Laws.Blocks.{block_at, blocks-right}
 use Rattle.memory.specs.Laws.Costs.{row-length, words-first}
 use Rattle.memory.specs.Laws.Held.{held-dimension, held-ordered, held-listed}
 use Rattle.search.specs.Laws.Search.{bounds-lanes}
-use Rattle.search.specs.Laws.Hiders.{some-any, some-ext, words-within}
+use Rattle.search.specs.Laws.Hiders.{some-any, some-ext, found-before, words-within}
 use Rattle.memory.specs.Laws.Lines.{moves_in-line}
 use Rattle.memory.specs.Laws.Places.{any-tab, any_to-past, any_to-mono}
 use Rattle.search.specs.declared.search.Among.TheVariants.{InBlocks}
@@ -90,6 +90,10 @@ module _ (c d n : ℕ) (m : List ℕ) (s : SoundRows c d n m) (b : Bytes m) (blo
       own-found r found.to
       ∙ ap not (sym (hidden-places ∙ earlier-places ∙ some-any hides_at i r (some-ext fits-hides found)))
       ∙ ap (λ (t : Bool). t && not (hidden d (moves_in_blocks c d n blocks m) (move_in c d m i))) (sym here)
+
+  -- One is found if it is hidden.
+  pub open-found : (r : Option ℕ) → SomeFound (fits (InBlocks blocks) c m (bounds_at c d m i)) i r → in_blocks blocks c m (number_in c m i) ≡ true → not (is_some r) ≡ shown c d n blocks m (move_in c d m i)
+  open-found r f here = ap not (sym (found-before i r f.below)) ∙ sym (own-found (unwrap_or r i) f.some.to) ∙ open-shown (unwrap_or r i) f.some here
 
   -- What is listed no move hides, in whatever block.
   all-places : hidden d (moves_in (line_from c d n m)) (move_in c d m i) ≡ any_to (λ j. hides d (move_in c d m j) (move_in c d m i)) n

@@ -2,7 +2,8 @@
 -- that are nowhere greater there.
 use Prim.Native.Nat.{ℕ, ◌%◌, ◌^◌, ◌≤◌, ◌<◌}
 use Rattle.std.proofs.Math.Bool.{Bool, not}
-use Rattle.std.specs.Prelude.{true, ◌&&◌, ◌≡◌, leb, ltb, get_or}
+use Rattle.std.specs.Prelude.{true, ◌&&◌, ◌≡◌, leb, ltb, get_or, Option, unwrap_or, is_some, IfSome}
+use Rattle.std.specs.Prelude as std
 use mathlib.Core.List.{List, Memᴰ}
 use Rattle.std.proofs.Math.Path.{sym, ap, subst}
 use Rattle.std.proofs.Common.{◌∙◌, arith, lt-ltb, le-ltb, le-leb}
@@ -22,7 +23,7 @@ use Rattle.dominance.specs.Laws.Lanes.{places-bounds}
 use Rattle.promises.specs.Layout.{number_in, costs_in, move_in, line_from}
 use Rattle.promises.specs.Run.{Bytes}
 use Rattle.memory.specs.Held.{SoundRows}
-use Rattle.search.specs.Search.{looks, looks_at, seen, seen_at, fits, None, Some}
+use Rattle.search.specs.Search.{looks, looks_at, seen, seen_at, fits, None, Some, SomeFound}
 use Rattle.search.specs.Laws.Hiders.{some-any}
 use Rattle.memory.specs.Tests.{any_to, is_listed}
 use Rattle.memory.specs.Laws.Costs.{row-length, row-cost, words_small}
@@ -112,3 +113,11 @@ beater-tells c d n m rule x {r} some =
     none-less : Dec (r < n) → not (ltb r n) ≡ leb n r
     none-less (yes l) = ap not (lt-ltb r n l) ∙ sym (lt-leb n r l)
     none-less (no l) = ap not (le-ltb r n (omega arith)) ∙ sym (le-leb n r (omega arith))
+
+-- None beats it where none was found.
+pub beater-found : (c d n : ℕ) (m : List ℕ) (rule : Rule) (x : Move) {r : Option ℕ} → SomeFound (beats_at c d rule m x.costs) n r → unbeaten d rule (moves_in (line_from c d n m)) x ≡ not (is_some r)
+beater-found c d n m rule x {r} f = beater-tells c d n m rule x f.some ∙ past r f.below
+  where
+    past : (r : Option ℕ) → IfSome r (λ j. j < n) → leb n (unwrap_or r n) ≡ not (is_some r)
+    past std.None h = le-leb n n (omega arith)
+    past (std.Some j) h = lt-leb n j h

@@ -1,5 +1,6 @@
 -- The search for what hides a move: of the places before it, those with a listed move that is nowhere greater.
-use Rattle.std.specs.Prelude.{ℕ, ◌≤◌, ◌<◌, Bool, false, not, ◌&&◌, List, ◌≡◌, ltb, length, take}
+use Rattle.std.specs.Prelude.{ℕ, ◌≤◌, ◌<◌, Bool, false, not, ◌&&◌, List, ◌≡◌, ltb, length, take, Option, unwrap_or, is_some, IfSome}
+use Rattle.std.specs.Prelude as std
 use Rattle.std.proofs.Math.Path.{sym, ap}
 use Rattle.std.proofs.Common.{◌∙◌, arith, lt-ltb, le-ltb}
 use Rattle.std.proofs.Math.Decide.{dec_lt}
@@ -13,7 +14,7 @@ use Rattle.promises.specs.Layout.{number_in, costs_in, move_in}
 use Rattle.promises.specs.Run.{Bytes}
 use Rattle.memory.specs.Room.{Ordered}
 use Rattle.memory.specs.Tests.{any_to, is_listed, hidden_before, hidden_at}
-use Rattle.search.specs.Search.{looks, looks_at, seen, seen_at, bounds_at, fits, None, Some}
+use Rattle.search.specs.Search.{looks, looks_at, seen, seen_at, bounds_at, fits, None, Some, SomeFound}
 use Rattle.memory.specs.Laws.Costs.{row-length, words-first, words_small}
 use Rattle.memory.specs.Laws.Places.{all_to-all, any_to-found}
 use Rattle.search.specs.Laws.Search.{bounds-lanes}
@@ -34,6 +35,11 @@ some-any test n r s = go (dec_lt r n)
 
 pub some-ext : {p q : ℕ → Bool} {n r : ℕ} → ((j : ℕ) → j < n → p j ≡ q j) → Some p n r → Some q n r
 some-ext e s = record { to = s.to; found = λ l. sym (e _ l) ∙ s.found l; none = λ l k a g. sym (e k g) ∙ s.none l k a g }
+
+-- One is found if it stands before the end.
+pub found-before : (n : ℕ) (r : Option ℕ) → IfSome r (λ j. j < n) → ltb (unwrap_or r n) n ≡ is_some r
+found-before n std.None h = le-ltb n n (omega arith)
+found-before n (std.Some j) h = lt-ltb j n h
 
 -- ---- what is nowhere greater on the first d costs
 
@@ -71,3 +77,6 @@ module _ (c d : ℕ) (m : List ℕ) (few : d ≤ row_costs) (b : Bytes m) where
   pub hidden-at : (n : ℕ) → Ordered c d n m → (i r : ℕ) → i < n → Some (fits Listed c m (bounds_at c d m i)) i r → hidden_at c d m i ≡ ltb r i
   unfolding seen_at seen
   hidden-at n o i r l s = hider-hidden n i r (bounds_at c d m i) o l (bounds-lanes c d m i) s
+
+  pub hidden-found : (n : ℕ) → Ordered c d n m → (i : ℕ) (r : Option ℕ) → i < n → SomeFound (fits Listed c m (bounds_at c d m i)) i r → hidden_at c d m i ≡ is_some r
+  hidden-found n o i r l f = hidden-at n o i (unwrap_or r i) l f.some ∙ found-before i r f.below

@@ -1,6 +1,7 @@
 -- The search over places: what a turn of each loop keeps, and that a corner somewhere greater than what is looked for passes its
 -- run by.
-use Rattle.std.specs.Prelude.{ℕ, ◌+◌, ◌-◌, ◌*◌, ◌/◌, ◌≤◌, ◌<◌, Bool, true, false, not, ◌&&◌, List, [], ◌≡◌, length, get_or, set, take}
+use Rattle.std.specs.Prelude.{ℕ, ◌+◌, ◌-◌, ◌*◌, ◌/◌, ◌≤◌, ◌<◌, Bool, true, false, not, ◌&&◌, List, [], ◌≡◌, length, get_or, set, take, Option, unwrap_or, IfSome}
+use Rattle.std.specs.Prelude as std
 use Rattle.std.proofs.Math.Bool.{and-true}
 use Rattle.std.proofs.Common.{sym, ap₂, ◌∙◌, subst, arith, length-set, length-take, get_or-set_same, get_or-set_other, get_or-take, take_all}
 use Rattle.std.proofs.Math.Path.{ap}
@@ -17,7 +18,7 @@ use Rattle.dominance.specs.Laws.Sums.{nowhere-somewhere}
 use Rattle.promises.specs.Layout.{number_in, costs_in, tab}
 use Rattle.promises.proofs.Laws.Tab.{length-tab, get_or-tab, tab-of}
 use Rattle.memory.specs.Laws.Costs.{row-length}
-use Rattle.search.specs.Search.{looks_at, seen, seen_at, bounds_at, fits, None, First, Some, Below, Under, Corners, CornerWith}
+use Rattle.search.specs.Search.{looks_at, seen, seen_at, bounds_at, fits, None, First, Some, FirstFound, SomeFound, Below, Under, Corners, CornerWith}
 use Rattle.search.specs.declared.search.Among.{Among}
 use Rattle.search.specs.declared.search.Among.TheVariants.{All, Listed, Hidden, InBlocks}
 
@@ -92,6 +93,31 @@ tried-some l e = record { to = omega arith; found = λ _. e; none = λ g. absurd
 
 pub first_some : {test : ℕ → Bool} {n r : ℕ} → First test 0 n r → Some test n r
 first_some f = record { to = f.to; found = f.found; none = λ l k a g. f.passed k a (omega arith) }
+
+pub tried-found : {test : ℕ → Bool} {n r : ℕ} → r < n → test r ≡ true → SomeFound test n (std.Some r)
+tried-found l e = record { some = tried-some l e; below = l }
+
+pub first-found : {test : ℕ → Bool} {n : ℕ} {r : Option ℕ} → FirstFound test 0 n r → SomeFound test n r
+first-found f = record { some = first_some f.first; below = f.below }
+
+-- What holds of the place found, or of the end where there is none.
+module _ (n : ℕ) {r : Option ℕ} where
+  pub found-at : (P : ℕ → Type 0) {j : ℕ} → r ≡ std.Some j → P (unwrap_or r n) → P j
+  found-at P e h = subst (λ (o : Option ℕ). P (unwrap_or o n)) e h
+
+  pub found-none : (P : ℕ → Type 0) → r ≡ std.None → P (unwrap_or r n) → P n
+  found-none P e h = subst (λ (o : Option ℕ). P (unwrap_or o n)) e h
+
+  pub found-below : {j : ℕ} → r ≡ std.Some j → IfSome r (λ k. k < n) → j < n
+  found-below e h = subst (λ (o : Option ℕ). IfSome o (λ k. k < n)) e h
+
+-- A place found is the first, and none found is the end.
+module _ {test : ℕ → Bool} {i n : ℕ} {r : Option ℕ} where
+  pub first-at : {j : ℕ} → FirstFound test i n r → r ≡ std.Some j → First test i n j
+  first-at f e = found-at n (First test i n) e f.first
+
+  pub first-end : FirstFound test i n r → r ≡ std.None → First test i n n
+  first-end f e = found-none n (First test i n) e f.first
 
 -- ---- what fits
 
@@ -196,5 +222,5 @@ run-passed a c m q n f e corners h wide end room over k l g =
     same = omega arith
 
 -- What a search among moves of a kind finds, by the kind's other name.
-pub first-among : {a a' : Among} (c : ℕ) (m q : List ℕ) {i n r : ℕ} → a ≡ a' → First (fits a c m q) i n r → First (fits a' c m q) i n r
-first-among c m q {i} {n} {r} e f = subst (λ (b : Among). First (fits b c m q) i n r) e f
+pub first-among : {a a' : Among} (c : ℕ) (m q : List ℕ) {i n : ℕ} {r : Option ℕ} → a ≡ a' → FirstFound (fits a c m q) i n r → FirstFound (fits a' c m q) i n r
+first-among c m q {i} {n} {r} e f = subst (λ (b : Among). FirstFound (fits b c m q) i n r) e f

@@ -1,10 +1,9 @@
-use mathlib.Core.Path.{◌≡◌, sym, subst}
+use mathlib.Core.Path.{◌≡◌, sym, ◌∙◌, subst}
 use native.Mathlib.Omega.{arith}
 use Rattle.promises.specs.Layout.{move_in}
 use Rattle.memory.specs.Held.{move_held}
 use Rattle.memory.specs.declared.board.Board.{Board}
-use Rattle.hours.specs.Open.{shown_in}
-use lib.Dec.{eqb}
+use Rattle.hours.specs.Open.{is_shown, shown_in}
 use Rattle.upkeep.specs.Laws.Found.{finds-few, finds-none, adds-few, finds-more, finds-all}
 use Rattle.hours.proofs.shown.find_shown.Invariants.{test}
 use Rattle.hours.proofs.shown.find_shown.Goals as goal
@@ -23,9 +22,9 @@ loop-i-preserved c =
     let a = c.args in
     -- The index is of this board.
     let told =
-    subst (λ (b : Board). eqb c.hider_of-hider.result c.loop-i.i ≡ shown_in b.head a.blocks b.bytes.now (move_held b.head b.bytes.now c.loop-i.i))
-    c.new-open.ensures.board c.hider_of-hider.ensures in
-    finds-more a.b.now.head.size a.b.now.bytes.now (test a.b.now.head a.blocks a.b.now.bytes.now) c.loop-i.invariant (sym told) c.add_found-count.ensures (omega arith)
+    subst (λ (b : Board). is_shown c.standing_of-standing.result ≡ shown_in b.head a.blocks b.bytes.now (move_held b.head b.bytes.now c.loop-i.i))
+    c.new-open.ensures.board c.standing_of-standing.ensures in
+    finds-more a.b.now.head.size a.b.now.bytes.now (test a.b.now.head a.blocks a.b.now.bytes.now) c.loop-i.invariant (sym told ∙ sym c.is_shown.ensures) c.add_found-count.ensures (omega arith)
 
 pub returns : goal.returns
 returns c =

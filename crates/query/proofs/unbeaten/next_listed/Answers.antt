@@ -1,12 +1,9 @@
 use mathlib.Core.Path.{sym, ◌∙◌}
 use native.Mathlib.Omega.{arith}
 use Rattle.memory.specs.Tests.{is_listed}
-use Rattle.search.specs.Laws.Search.{none-empty, none_more}
+use Rattle.search.specs.Laws.Search.{none_more}
 use Rattle.memory.specs.Laws.Turns.{listed_at}
 use Rattle.query.proofs.unbeaten.next_listed.Goals as goal
-
-pub loop-j-init : goal.loop-j-init
-loop-j-init c = none-empty _ _
 
 pub returns-then-is_listed : goal.returns-then-is_listed
 returns-then-is_listed c =
@@ -14,10 +11,13 @@ returns-then-is_listed c =
     let own = c.loop-j in
     let number = c.number_at in
     record {
-      from = omega arith;
-      to = omega arith;
-      passed = own.invariant;
-      found = λ l. listed_at a.b.now.head.size a.b.now.bytes.now own.j number.result number.ensures.0 ∙ sym c.is_listed.ensures ∙ c.if-is_listed.true;
+      first = record {
+        from = omega arith;
+        to = omega arith;
+        passed = own.invariant;
+        found = λ l. listed_at a.b.now.head.size a.b.now.bytes.now own.j number.result number.ensures.0 ∙ sym c.is_listed.ensures ∙ c.if-is_listed.true;
+      };
+      below = omega arith;
     }
 
 pub loop-j-preserved : goal.loop-j-preserved
@@ -27,6 +27,3 @@ loop-j-preserved c =
     let number = c.number_at in
     none_more (is_listed a.b.now.head.size a.b.now.bytes.now) a.i own.j own.invariant
     (listed_at a.b.now.head.size a.b.now.bytes.now own.j number.result number.ensures.0 ∙ sym c.is_listed.ensures ∙ c.if-is_listed.false)
-
-pub returns : goal.returns
-returns c = record { from = omega arith; to = omega arith; passed = λ k f g. c.loop-j.invariant k f (omega arith); found = λ l. absurd (omega arith) }

@@ -1,8 +1,6 @@
-use Prim.Native.Nat.{ℕ}
-use mathlib.Core.Path.{◌≡◌, refl, subst}
+use mathlib.Core.Path.{refl, ◌∙◌}
 use native.Mathlib.Omega.{arith}
 use Rattle.search.specs.Laws.Search.{corners-none}
-use Rattle.upkeep.specs.Flag.{Flagged}
 use Rattle.upkeep.proofs.Flagging.{flagged-none, flagging-more, stored-frame, readable-kept, ordered-kept}
 use Rattle.upkeep.proofs.flag.flag_all.Goals as goal
 
@@ -18,19 +16,9 @@ loop-i-preserved c =
     let number = c.number_at-number in
     let hider = c.hider_before-hider in
     let more = c.loop-i-test.true in (
-      flagging-more a.h a.m.now own.m own.i own.corners c.requires.readable.0 c.requires.once more own.invariant.0 number.result hider.result _ number.ensures.0 hider.ensures c.set_listed.ensures c.corner_with.result c.corner_with.ensures,
+      flagging-more a.h a.m.now own.m own.i own.corners c.requires.readable.0 c.requires.once more own.invariant.0 number.result _ _ number.ensures.0 (hider.ensures.hidden ∙ c.is_none.ensures) c.set_listed.ensures c.corner_with.result c.corner_with.ensures,
       λ k. omega (arith, c.slice_known-in-loop-i-1.given k),
     )
-
-pub shape_of-m : goal.shape_of-m
-shape_of-m c = c.loop-i.invariant.0.flagged.frame.length
-
-pub returns : goal.returns
-returns c =
-    let a = c.args in
-    let own = c.loop-i in
-    let all : own.i ≡ a.h.count = omega arith in
-    subst (λ (k : ℕ). Flagged a.h.size a.h.dimension k a.m.now own.m) all own.invariant.0.flagged
 
 -- What was flagged so far leaves the moves as they were.
 pub invariant_of-b : goal.invariant_of-b
@@ -53,5 +41,5 @@ invariant_of-b-in-loop-i c =
     let number = c.number_at-number in
     let hider = c.hider_before-hider in
     let was = c.requires.readable.0 in
-    let frame = stored-frame a.h a.m.now own.m own.i own.corners was c.requires.once c.loop-i-test.true own.invariant.0 number.result hider.result _ number.ensures.0 hider.ensures c.set_listed.ensures in
+    let frame = stored-frame a.h a.m.now own.m own.i own.corners was c.requires.once c.loop-i-test.true own.invariant.0 number.result _ _ number.ensures.0 (hider.ensures.hidden ∙ c.is_none.ensures) c.set_listed.ensures in
     record { readable = readable-kept a.h.size a.h.count a.m.now _ frame was.rows a.h.dimension was; fits = λ k. omega (arith, c.slice_known-in-loop-i-1.given k) }
