@@ -1,9 +1,8 @@
 -- The comparison by arithmetic; Definition 1 and the rule of the list by two questions; sums and ors over the costs, one by one.
-use Rattle.std.specs.Prelude.{ℕ, zero, suc, ◌+◌, ◌-◌, ◌*◌, ◌/◌, ◌%◌, ◌^◌, ◌≤◌, ◌<◌, Bool, cond, not, ◌&&◌, ◌||◌, List, [], ◌∷◌, ◌≡◌, ltb, eqb, length, get_or, take}
+use Rattle.std.specs.Prelude.{ℕ, zero, suc, ◌+◌, ◌-◌, ◌*◌, ◌/◌, ◌^◌, ◌≤◌, ◌<◌, Bool, cond, not, ◌&&◌, ◌||◌, List, [], ◌∷◌, ◌≡◌, ltb, eqb, length, get_or, take}
 use Rattle.std.proofs.Math.Bool.{true, false, or_comm}
 use Rattle.std.proofs.Math.Path.{refl, ap}
-use Rattle.std.proofs.Common.{sym, ap₂, ◌∙◌, mod-lt, zero-add, zero-mul, one-mul, mul-zero, mul-one, arith, ltb-true, ltb-false, lt-ltb, eqb-true}
-use Rattle.std.proofs.lemmas.Bool.{eqb-false}
+use Rattle.std.proofs.Common.{sym, ap₂, ◌∙◌, zero-add, zero-mul, one-mul, mul-zero, mul-one, arith, ltb-true, ltb-false, lt-ltb}
 use Rattle.std.specs.Int.Bits.{bit_or, or_add_and}
 use Rattle.std.proofs.lemmas.Nat.{and_le_l, and_le_r}
 use Rattle.zorder.specs.Address.{row_costs}
@@ -40,13 +39,6 @@ unfolding less
 less-times zero a b h = ap₂ (λ (x y : ℕ). cond (ltb x y) 1 0) (zero-mul a) (zero-mul b) ∙ sym (zero-mul (cond (ltb a b) 1 0))
 less-times (suc zero) a b h = ap₂ (λ (x y : ℕ). cond (ltb x y) 1 0) (one-mul a) (one-mul b) ∙ sym (one-mul (cond (ltb a b) 1 0))
 less-times (suc (suc k)) a b h = absurd (omega arith)
-
--- A division that gives 1 before d, and 0 from d on.
-pub first-number : (d i : ℕ) → d ≤ row_costs → i < row_costs → (d + row_costs - 1 - i) / row_costs ≡ cond (ltb i d) 1 0
-first-number d i h k =
-    test_cases (λ t. (d + row_costs - 1 - i) / row_costs ≡ cond t 1 0) (ltb i d)
-    (λ e. omega (arith, ltb-true i d e))
-    (λ e. omega (arith, ltb-false i d e))
 
 -- ---- the two questions, for lists of any length
 
@@ -181,14 +173,7 @@ module _ (test : ℕ → Bool) (a b : List ℕ) where
       ∙ ap (ltb 0) (sum-end n i t.sum h t.to)
       ∙ somewhere-sum (at (select test (numbers_from 0 n)) a) (at (select test (numbers_from 0 n)) b)
 
--- ---- the tests: a set, and the first d costs
-
--- A bit is 1 or 0.
-pub bit-number : (set i : ℕ) → set / 2 ^ i % 2 ≡ cond (is_chosen set i) 1 0
-bit-number set i =
-    test_cases (λ t. set / 2 ^ i % 2 ≡ cond t 1 0) (is_chosen set i)
-    (λ e. eqb-true (set / 2 ^ i % 2) 1 e)
-    (λ e. omega (arith, eqb-false (set / 2 ^ i % 2) 1 e, mod-lt (set / 2 ^ i) {m = 2} (omega arith)))
+-- ---- the first d costs
 
 abbrev pub first_of : ℕ → ℕ → ℕ
 first_of d i = cond (ltb i d) 1 0
