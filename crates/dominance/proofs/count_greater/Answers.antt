@@ -24,12 +24,6 @@ more c =
 pub loop-i-init : goal.loop-i-init
 loop-i-init c = sum-none (first_of c.args.d) (first_small c.args.d) c.args.q c.args.p row_costs
 
-pub less_times-greater-requires : goal.less_times-greater-requires
-less_times-greater-requires c = c.first_factor.ensures.1
-
-pub overflow_add-greater : goal.overflow_add-greater
-overflow_add-greater c = omega (arith, (more c).few)
-
 pub loop-i-preserved : goal.loop-i-preserved
 loop-i-preserved c = more c
 

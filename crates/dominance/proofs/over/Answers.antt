@@ -5,7 +5,6 @@ use mathlib.Core.Path.{◌≡◌, ap, ◌∙◌}
 use native.Mathlib.Omega.{arith}
 use lib.Dec.{eqb}
 use Rattle.model.specs.Dominance.{less}
-use Rattle.model.proofs.Laws.Basics.{at_most_one}
 use Rattle.dominance.specs.Laws.Lanes.{factor-test, over-number}
 use Rattle.dominance.proofs.over.Goals.{After-choose}
 use Rattle.dominance.proofs.over.Goals as goal
@@ -15,13 +14,6 @@ chosen c =
     let x = c.args in
     let pick : Bool → ℕ = λ t. cond t x.a x.b in
     c.choose.ensures ∙ ap (λ (k : ℕ). pick (eqb k 1)) c.less.ensures ∙ ap pick (factor-test (less x.b x.a))
-
--- The comparison is 0 or 1.
-pub overflow_cast-less : goal.overflow_cast-less
-overflow_cast-less c = let x = c.args in omega (arith, c.less.ensures, at_most_one (less x.b x.a))
-
-pub choose-requires : goal.choose-requires
-choose-requires c = let x = c.args in omega (arith, c.less.ensures, at_most_one (less x.b x.a))
 
 pub overflow_sub-result : goal.overflow_sub-result
 overflow_sub-result c = let x = c.args in omega (arith, chosen c, (over-number x.a x.b).0)

@@ -6,9 +6,6 @@ use Rattle.zorder.proofs.Fill.{filled_none, mapped-more, mapped-all}
 use Rattle.zorder.proofs.Row.{row-costs}
 use Rattle.zorder.proofs.corners.corner.Goals as goal
 
-pub fill-requires : goal.fill-requires
-fill-requires g c = c.requires.1.1.0 _ ((row-costs c.well_formed.1.1.0).small c.loop-i.i)
-
 pub loop-i-init : goal.loop-i-init
 loop-i-init g c = filled_none (map (g.filled c.args.u) (take c.args.d c.args.costs))
 

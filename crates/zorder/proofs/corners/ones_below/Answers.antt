@@ -2,16 +2,10 @@
 use Prim.Native.Nat.{ℕ, ◌*◌, ◌/◌, ◌^◌}
 use mathlib.Core.Path.{◌≡◌, ◌∙◌}
 use native.Mathlib.Omega.{arith}
-use lib.Pow.{pow_pos, pow_mono}
+use lib.Pow.{pow_mono}
 use Rattle.zorder.proofs.Laws.Corners.{zeros_below-one, ones_below-one}
 use Rattle.zorder.proofs.Bits.{fill-ones-lt}
 use Rattle.zorder.proofs.corners.ones_below.Goals as goal
-
-pub overflow_sub-result : goal.overflow_sub-result
-overflow_sub-result c = omega (arith, pow_pos c.args.u, pow_mono c.requires)
-
-pub overflow_cast-result-2 : goal.overflow_cast-result-2
-overflow_cast-result-2 c = omega (arith, pow_pos c.args.u, pow_mono c.requires)
 
 pub overflow_add-result : goal.overflow_add-result
 overflow_add-result c =

@@ -46,8 +46,5 @@ counted-here c = counted c.args.d c.args.a c.args.b c.requires.0 c.requires.1 c.
 pub overflow_sub-result-2 : goal.overflow_sub-result-2
 overflow_sub-result-2 c = (counted-here c).room
 
-pub overflow_sub-result-3 : goal.overflow_sub-result-3
-overflow_sub-result-3 c = (counted-here c).most
-
 pub returns : goal.returns
 returns c = ((counted-here c).count, omega arith)

@@ -5,8 +5,5 @@ use native.Mathlib.Omega.{arith}
 use Rattle.zorder.proofs.Laws.Corners.{zeros_below-one}
 use Rattle.zorder.proofs.corners.zeros_below.Goals as goal
 
-pub overflow_cast-result-4 : goal.overflow_cast-result-4
-overflow_cast-result-4 c = omega (arith, div-mul-le_self c.args.c (2 ^ c.args.u))
-
 pub returns : goal.returns
 returns c = omega (arith, div-mul-le_self c.args.c (2 ^ c.args.u), zeros_below-one c.args.u c.args.c)
