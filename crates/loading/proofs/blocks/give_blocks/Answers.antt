@@ -1,6 +1,6 @@
-use Prim.Native.Nat.{ℕ, ◌-◌}
+use Prim.Native.Nat.{◌-◌}
 use mathlib.Core.List.{[], map}
-use mathlib.Core.Path.{◌≡◌, sym, subst}
+use mathlib.Core.Path.{sym, subst}
 use native.Mathlib.Omega.{arith}
 use lib.ListN.{drop}
 use Rattle.promises.specs.Answers.{input_row}
@@ -33,13 +33,3 @@ loop-left-preserved c =
     let stored = c.set_block in
     subst (BlocksGiven a.c (drop (own.left - 1) (map input_row a.rows.now)) a.m.now) (sym stored.ensures)
     (lent-more a.c a.rows.now a.m.now own.left (omega arith) (omega arith) [] c.requires.1 number.result block.result own.m number.ensures.0 block.ensures c.requires.0 own.invariant)
-
-pub shape_of-m : goal.shape_of-m
-shape_of-m c = c.loop-left.invariant.frame.length
-
-pub returns : goal.returns
-returns c =
-    let a = c.args in
-    let own = c.loop-left in
-    let none : own.left ≡ 0 = omega arith in
-    subst (λ (k : ℕ). BlocksGiven a.c (drop k (map input_row a.rows.now)) a.m.now own.m) none own.invariant

@@ -1,4 +1,4 @@
-use Rattle.std.proofs.Common.{ℕ, ◌+◌, List, map, refl, sym, ap, ◌∙◌, add-one, arith}
+use Rattle.std.proofs.Common.{ℕ, ◌+◌, List, map, refl, sym, ap, ◌∙◌, add-one}
 use mathlib.Core.Path.{ap₂}
 use lib.ListN.{set}
 use Rattle.rows.specs.Rows.{row_numbers}
@@ -9,9 +9,6 @@ use Rattle.rows.proofs.filling.fill.Goals as goal
 pub loop-k-init : goal.loop-k-init
 unfolding position filled_rows
 loop-k-init c = record { place = refl; rows = refl }
-
-pub told_next-s-requires : goal.told_next-s-requires
-told_next-s-requires c = c.requires.0 (omega arith)
 
 pub loop-k-preserved : goal.loop-k-preserved
 unfolding position filled_rows

@@ -1,18 +1,9 @@
-use mathlib.Core.Path.{refl, sym, ap, ◌∙◌}
+use mathlib.Core.Path.{sym, ap, ◌∙◌}
 use native.Mathlib.Numerals.{add-one}
 use native.Mathlib.Omega.{arith}
 use Rattle.rows.specs.Telling.{told_from}
 use Rattle.rows.specs.Laws.Telling.{from_told, from-other, from_end, next-told, next-none}
 use Rattle.rows.proofs.telling.told_next.Goals as goal
-
-pub overflow_add-end : goal.overflow_add-end
-overflow_add-end c = let asked = c.requires.readable in omega (arith, asked.rows, asked.room.1)
-
-pub loop-j-init : goal.loop-j-init
-loop-j-init c = (refl, refl)
-
-pub told_at-requires : goal.told_at-requires
-told_at-requires c = (c.requires, omega (arith, c.loop-j.invariant.0, c.loop-j-test.true))
 
 pub returns-in-Some : goal.returns-in-Some
 returns-in-Some c =
