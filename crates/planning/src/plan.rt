@@ -53,11 +53,12 @@ pub fn plan_on(m: &[u8], h: Head, x: Change, lent: usize) -> ChangePlan
     requires { SoundAt h m.now }
     ensures { spec.Planned x m.now lent result }
 {
-    let goes = place_of(m, h.size, h.count, x.number);
-    if let Err(reason) = judge(h, x, goes < h.count) {
+    let found = place_of(m, h.size, h.count, x.number);
+    if let Err(reason) = judge(h, x, found.is_some()) {
         return keeps_moves(h, x, Err(Refusal::from(reason)));
     }
     let board = Board { bytes: m, head: h };
+    let goes = found.unwrap_or(h.count);
     let k = exchange_of(x, goes);
     if alike(&board, k) {
         return keeps_moves(h, x, Ok(()));

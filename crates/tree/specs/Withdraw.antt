@@ -1,5 +1,5 @@
 -- What withdrawing a move leaves.
-use Rattle.std.specs.Prelude.{ℕ, suc, ◌+◌, ◌-◌, ◌<◌, ◌≤◌, true, not, ◌≡◌, List, ◌++◌, map, eqb, take, drop, get_or}
+use Rattle.std.specs.Prelude.{ℕ, suc, ◌+◌, ◌-◌, ◌<◌, ◌≤◌, true, not, ◌≡◌, List, ◌++◌, map, eqb, take, drop, get_or, Option, unwrap_or, IfSome}
 use Rattle.model.specs.Basics.{select, distinct}
 use Rattle.model.specs.Moves.{Move}
 use Rattle.model.specs.Tree.{Tree}
@@ -19,6 +19,11 @@ pub record PlaceOf (c n number : ℕ) (m : List ℕ) (r : ℕ) : Type 0 where
   pub is : (d : ℕ) → r ≡ line.place_of number (line_from c d n m)
   pub within : r ≤ n
   pub found : r < n → number_in c m r ≡ number
+
+-- The same of a place or none: n stands for none.
+pub record PlaceFound (c n number : ℕ) (m : List ℕ) (r : Option ℕ) : Type 0 where
+  pub place : PlaceOf c n number m (unwrap_or r n)
+  pub below : IfSome r (λ p. p < n)
 
 pub record RangeAsked (c n p : ℕ) (m : List ℕ) : Type 0 where
   pub room : Room c m

@@ -8,17 +8,17 @@ use memory::{Head, costs_of, height_at, number_at, set_height, set_work, work_at
 use nodes::{entries, node_end, node_start};
 use std::ops::Range;
 
-// Gives the place of the move of a number, or n where it is not on the board.
-pub fn place_of(m: &[u8], c: usize, n: usize, number: u16) -> usize
+// Gives the place of the move of a number, if it is on the board.
+pub fn place_of(m: &[u8], c: usize, n: usize, number: u16) -> Option<usize>
     requires { withdraw.RowsAsked c n m.now }
-    ensures { withdraw.PlaceOf c n number m.now result }
+    ensures { withdraw.PlaceFound c n number m.now result }
 {
     for p in 0..n {
         if number_at(m, c, p) == number {
-            return p;
+            return Some(p);
         }
     }
-    n
+    None
 }
 
 // The rows that go with the move at place p: those of the highest removed node, or its own.

@@ -12,12 +12,14 @@ use Rattle.upkeep.specs.Change.{ChangeAsked, ComingPlace, Upkept}
 use Rattle.upkeep.specs.declared.exchange.Exchange.{Exchange}
 use Rattle.model.specs.Calls.{change_refusal}
 use Rattle.promises.specs.Layout.{board_in}
-use Rattle.planning.specs.Kind.{call_of, comes, coming_of}
+use Rattle.planning.specs.Kind.{JudgesBy, call_of, comes, coming_of}
 use Rattle.planning.specs.Plan.{alike, KeepsMoves}
 use Rattle.std.specs.Prelude.{Err}
 use Rattle.std.proofs.Common.{rules}
 use Rattle.promises.specs.declared.Refusal.{Refusal}
 use Rattle.std.specs.Option.{is_some}
+use Rattle.search.specs.Laws.Hiders.{found-before}
+use Rattle.tree.specs.Withdraw.{PlaceOf}
 use Rattle.planning.proofs.Laws.Coming.{some-if}
 use Rattle.planning.proofs.Laws.Judge.{judged}
 use Rattle.planning.proofs.Laws.Notice.{upkeep-counted}
@@ -27,6 +29,9 @@ use Rattle.planning.proofs.plan.plan_on.Goals as goal
 
 -- What is known once no check turns the change down.
 module _ (c : After-exchange_of-k) where
+  placed : PlaceOf c.args.h.size c.args.h.count c.args.x.number c.args.m.now c.unwrap_or-goes.result
+  placed = subst (PlaceOf c.args.h.size c.args.h.count c.args.x.number c.args.m.now) (sym c.unwrap_or-goes.ensures) c.place_of-found.ensures.place
+
   bytes : Bytes c.args.m.now
   unfolding Bytes
   bytes i = omega (arith, c.type_inv.m i)
@@ -38,23 +43,29 @@ module _ (c : After-exchange_of-k) where
   accepted = search rules
 
   none : change_refusal (board_in c.args.m.now) (call_of c.args.x) ≡ 0
-  none = sym (judged c.requires c.place_of-goes.ensures c.judge.ensures) ∙ accepted
+  none =
+      sym
+      (judged c.requires c.place_of-found.ensures.place
+      (subst (λ (on : Bool). JudgesBy c.args.h c.args.x on c.judge.result) (c.is_some.ensures ∙ sym (found-before c.args.h.count c.place_of-found.result c.place_of-found.ensures.below)) c.judge.ensures))
+      ∙ accepted
 
   -- The exchange of moves is that of the change.
   asked : ChangeAsked c.args.h c.exchange_of-k.result c.args.m.now
   asked =
       subst (λ (k : Exchange). ChangeAsked c.args.h k c.args.m.now) (sym c.exchange_of-k.ensures)
-      (ready c.requires bytes c.args.x costs c.place_of-goes.ensures none).asked
+      (ready c.requires bytes c.args.x costs placed none).asked
 
-pub place_of-goes-requires : goal.place_of-goes-requires
-place_of-goes-requires c = let s = c.requires in record { room = held-room _ _ _ _ s; rows = held-few _ _ _ _ s }
+pub place_of-found-requires : goal.place_of-found-requires
+place_of-found-requires c = let s = c.requires in record { room = held-room _ _ _ _ s; rows = held-few _ _ _ _ s }
 
 pub judge-requires : goal.judge-requires
 judge-requires c = held-dimension _ _ _ _ c.requires
 
 pub returns-in-Err : goal.returns-in-Err
 returns-in-Err c =
-    plan-refused c.requires (judged c.requires c.place_of-goes.ensures c.in-Err.ensures)
+    let on = c.is_some.ensures ∙ sym (found-before c.args.h.count c.place_of-found.result c.place_of-found.ensures.below) in
+    plan-refused c.requires
+    (judged c.requires c.place_of-found.ensures.place (subst (λ (on : Bool). JudgesBy c.args.h c.args.x on (Err c.in-Err.reason)) on c.in-Err.ensures))
     (subst (λ (r : Refusal). KeepsMoves c.args.h c.args.x (Err r) c.keeps_moves.result) c.from.ensures c.keeps_moves.ensures)
 
 pub invariant_of-board : goal.invariant_of-board
@@ -64,7 +75,7 @@ pub returns-then-alike : goal.returns-then-alike
 returns-then-alike c =
     let a = c.args in
     let made = (goal.at.returns-then-alike c).After-exchange_of-k in
-    plan-idle c.requires (bytes made) a.x (costs made) c.place_of-goes.ensures (none made)
+    plan-idle c.requires (bytes made) a.x (costs made) (placed made) (none made)
     (subst (λ (k : Exchange). alike a.h.size a.h.dimension a.h.count k a.m.now ≡ true) c.exchange_of-k.ensures (sym c.alike.ensures ∙ c.if-alike.true)) c.keeps_moves-then-alike.ensures
 
 pub coming_place-comes-requires : goal.coming_place-comes-requires
@@ -84,8 +95,8 @@ returns c =
     let a = c.args in
     let up = c.upkeep_of-upkeep in
     let made = (goal.at.returns c).After-exchange_of-k in
-    let comes-as = c.is_some.ensures ∙ ap (λ (k : Exchange). is_some k.coming) c.exchange_of-k.ensures ∙ some-if (comes a.x.kind) (coming_of a.x) in
-    plan-full c.requires (bytes made) a.x (costs made) c.place_of-goes.ensures (none made)
+    let comes-as = c.is_some-2.ensures ∙ ap (λ (k : Exchange). is_some k.coming) c.exchange_of-k.ensures ∙ some-if (comes a.x.kind) (coming_of a.x) in
+    plan-full c.requires (bytes made) a.x (costs made) (placed made) (none made)
     (subst (λ (k : Exchange). alike a.h.size a.h.dimension a.h.count k a.m.now ≡ false) c.exchange_of-k.ensures (sym c.alike.ensures ∙ c.if-alike.false))
     (subst (λ (k : Exchange). Upkept a.h k a.m.now up.result) c.exchange_of-k.ensures up.ensures)
     (subst (λ (k : Exchange). ComingPlace a.h k a.m.now c.coming_place-comes.result) c.exchange_of-k.ensures c.coming_place-comes.ensures)
