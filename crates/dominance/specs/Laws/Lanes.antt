@@ -1,8 +1,8 @@
 -- Rows place by place: a loop that fills one, the lesser of two, and bounds, which are nowhere less exactly where the costs of
 -- their test are.
-use Rattle.std.specs.Prelude.{ℕ, ◌+◌, ◌-◌, ◌≤◌, ◌<◌, Bool, true, false, List, ◌≡◌, refl, eqb, ltb, length, set, take}
+use Rattle.std.specs.Prelude.{ℕ, zero, suc, ◌+◌, ◌-◌, ◌*◌, ◌≤◌, ◌<◌, Bool, true, false, List, ◌≡◌, refl, eqb, ltb, length, set, take}
 use Rattle.std.proofs.Math.Bool.{cond}
-use Rattle.std.proofs.Common.{sym, ap, ◌∙◌, subst, arith, length-set, get_or-set_same, get_or-set_other, get_or-take, length-take-le}
+use Rattle.std.proofs.Common.{sym, ap, ◌∙◌, subst, zero-mul, one-mul, arith, length-set, get_or-set_same, get_or-set_other, get_or-take, length-take-le}
 use Rattle.std.proofs.Math.Decide.{ℕ_discrete, dec_lt}
 use borrow.Author.Tests.{ltb-true, ltb-false, lt-ltb}
 use Rattle.std.proofs.Math.ListN.{get_or, get_or-eq_default}
@@ -12,7 +12,16 @@ use Rattle.model.proofs.Laws.Bool.{test_cases, same_test}
 use Rattle.model.proofs.Laws.Dominance.{nowhere-greater-places, places-nowhere-greater, take-same-length}
 use Rattle.dominance.specs.Lanes.{Lanes, bound, is_first, lesser, greater}
 
--- ---- a factor as a test
+-- ---- a choice by a factor
+
+pub chosen-number : (k a b : ℕ) → k < 2 → k * a + (1 - k) * b ≡ cond (eqb k 1) a b
+chosen-number zero a b h = omega (arith, zero-mul a, one-mul b)
+chosen-number (suc zero) a b h = omega (arith, one-mul a, zero-mul b)
+chosen-number (suc (suc k)) a b h = absurd (omega arith)
+
+pub chosen-small : (k a b n : ℕ) → k < 2 → a < n → b < n → k * a + (1 - k) * b < n
+chosen-small k a b n h l g =
+    subst (λ (x : ℕ). x < n) (sym (chosen-number k a b h)) (test_cases (λ t. cond t a b < n) (eqb k 1) (λ e. l) (λ e. g))
 
 pub factor-test : (t : Bool) → eqb (cond t 1 0) 1 ≡ t
 factor-test true = refl
