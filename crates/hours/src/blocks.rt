@@ -12,8 +12,7 @@ use crate::{BLOCKS, HOURS};
 fn entries_read(hours: &[[u16; HOURS]]) -> usize
     ensures { result ≡ length (take block_count hours.now) }
 {
-    let n = hours.len();
-    if n < BLOCKS { n } else { BLOCKS }
+    hours.len().min(BLOCKS)
 }
 
 // Gives the lowest block whose hours are refused.

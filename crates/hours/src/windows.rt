@@ -21,12 +21,7 @@ pub(crate) fn minute_bad(t: usize) -> bool
 fn windows_in(entry: [u16; HOURS]) -> usize
     ensures { (windows_of (block_hours entry) ≡ tab (window_at entry) result) × (result ≤ 4) }
 {
-    let n = entry[0];
-    if n < WINDOWS {
-        n as usize
-    } else {
-        WINDOWS as usize
-    }
+    entry[0].min(WINDOWS) as usize
 }
 
 // Says whether a window starts where it ends, or reaches past the week.

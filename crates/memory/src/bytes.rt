@@ -2,18 +2,12 @@
 ghost use Rattle.std.specs.Prelude.{◌≡◌, ◌+◌, ◌<◌, length};
 ghost use Rattle.promises.specs.Layout.{word_at, set_word};
 
-fn wide(b: u8) -> u16
-    ensures { (result ≡ b) × (result < 256) }
-{
-    b as u16
-}
-
 // Reads the number at an offset.
 pub(crate) fn word(m: &[u8], o: usize) -> u16
     requires { o + 1 < length m.now }
     ensures { result ≡ word_at o m.now }
 {
-    wide(m[o]) + 256 * wide(m[o + 1])
+    u16::from(m[o]) + 256 * u16::from(m[o + 1])
 }
 
 // Writes a number at an offset.

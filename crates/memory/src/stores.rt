@@ -51,7 +51,7 @@ pub fn set_listed(m: &mut [u8], c: usize, number: u16, listed: bool)
     requires { Room c m.old × (number < c) }
     ensures { m.new ≡ stores.set_listed c number listed m.old }
 {
-    m[flag_place(c, number)] = if listed { 1 } else { 0 };
+    m[flag_place(c, number)] = u8::from(listed);
 }
 
 // Writes the block of a number's move.

@@ -1,7 +1,7 @@
 // Whether no listed move is hidden: the listed moves are held against each other in chunks of 64,
 // as columns.
 ghost use Rattle.std.specs.Prelude.{◌≡◌, ◌≤◌, ◌<◌, length};
-ghost use Rattle.memory.specs.Room.{Readable, InOrder};
+ghost use Rattle.memory.specs.Room.{InOrder};
 ghost use Rattle.skyline.specs.Chunks as spec;
 ghost use Rattle.memory.specs.Tests as tests;
 
@@ -22,8 +22,8 @@ pub struct Chunk {
 }
 
 // The next 64 listed moves from place `from` on, or as many as there are, each held against those
-// before it in the chunk; none if one of those hides it. The first becomes every column, so that whichever of them fits is a move
-// of the chunk.
+// before it in the chunk; none if one of those hides it. The first becomes every column, so that
+// whichever of them fits is a move of the chunk.
 fn next_chunk(b: &Board, from: usize, columns: &mut [u16; CELLS]) -> Option<Chunk>
     requires { from < b.now.head.count }
     ensures { spec.NextChunk b.now.head b.now.bytes.now from columns.new result }

@@ -1,7 +1,7 @@
 // Whether the kept list is the list of the moves: each move is held against the listed moves that
 // stand before it only.
 ghost use Rattle.std.specs.Prelude.{◌≡◌, ◌<◌, is_some, IfSome};
-ghost use Rattle.memory.specs.Room.{Readable, InOrder};
+ghost use Rattle.memory.specs.Room.{InOrder};
 ghost use Rattle.search.specs.Search as search;
 ghost use Rattle.memory.specs.Tests as tests;
 
@@ -11,8 +11,8 @@ use memory::Board;
 use search::{CELLS, RUNS, bounds_at};
 use zorder::COSTS;
 
-// Gives a place before i with a listed move that hides the one at i, `last` if that does. An earlier move that is nowhere greater hides: of equal costs the lower number
-// stands first.
+// Gives a place before i with a listed move that hides the one at i, `last` if that does. An
+// earlier move that is nowhere greater hides: of equal costs the lower number stands first.
 pub fn hider_before(
     b: &Board,
     i: usize,

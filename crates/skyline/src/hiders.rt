@@ -1,7 +1,7 @@
 // Whether each move that is not listed is hidden by a listed one before it. What hid one often
 // hides the next, or one of the last eight hiders does: these are tried before the search is asked.
 ghost use Rattle.std.specs.Prelude.{true, ◌≡◌, ◌<◌, length, Some, OnSome};
-ghost use Rattle.memory.specs.Room.{Readable, InOrder};
+ghost use Rattle.memory.specs.Room.{InOrder};
 ghost use Rattle.search.specs.Search as search;
 ghost use Rattle.memory.specs.Tests as tests;
 

@@ -1,6 +1,5 @@
 // For each run of 64 places the greatest of what its listed moves are held to, cost by cost.
 ghost use Rattle.std.specs.Prelude.{◌≡◌, ◌≤◌, length};
-ghost use Rattle.memory.specs.Room.{Readable};
 ghost use Rattle.skyline.specs.Chunks as spec;
 
 use dominance::greatest;

@@ -4,8 +4,5 @@ use lib.ListN.{length-take}
 use Rattle.model.specs.Hours.{block_count}
 use Rattle.hours.proofs.blocks.entries_read.Goals as goal
 
-pub returns-then-n-lt-BLOCKS : goal.returns-then-n-lt-BLOCKS
-returns-then-n-lt-BLOCKS c = omega (arith, length-take block_count c.args.hours.now)
-
-pub returns-else-n-lt-BLOCKS : goal.returns-else-n-lt-BLOCKS
-returns-else-n-lt-BLOCKS c = omega (arith, length-take block_count c.args.hours.now)
+pub returns : goal.returns
+returns c = omega (arith, length-take block_count c.args.hours.now)
