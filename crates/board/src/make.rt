@@ -5,7 +5,7 @@ ghost use Rattle.planning.specs.Plan as plan;
 
 use dominance::Move;
 use memory::{Head, set_block, set_costs, set_count, set_listed};
-use planning::{ChangePlan, Kind, comes, coming_of};
+use planning::{Change, ChangePlan};
 use tree::{enter_line, with_rows, withdraw_line};
 use upkeep::{Upkeep, set_flags};
 
@@ -55,14 +55,11 @@ fn make_moves(m: &mut [u8], p: ChangePlan)
         return;
     };
     let h = p.head;
-    let change = p.change;
     let u = p.upkeep;
-    let x = coming_of(change);
-    let kind = change.kind;
-    match kind {
-        Kind::Enter => make_enter(m, h, x, u),
-        Kind::Withdraw => make_withdraw(m, h, places.goes, u),
-        Kind::Recost => make_recost(m, h, places.goes, x, u),
+    match p.change {
+        Change::Enter { coming, block: _ } => make_enter(m, h, coming, u),
+        Change::Withdraw { number: _ } => make_withdraw(m, h, places.goes, u),
+        Change::Recost { coming, block: _ } => make_recost(m, h, places.goes, coming, u),
     }
 }
 
@@ -75,9 +72,7 @@ pub fn carry_out(m: &mut [u8], p: ChangePlan)
         return;
     }
     make_moves(m, p);
-    let change = p.change;
-    let kind = change.kind;
-    if comes(kind) {
-        set_block(m, p.head.size, change.number, change.block);
+    if let Some(block) = p.change.block() {
+        set_block(m, p.head.size, p.change.number(), block);
     }
 }

@@ -1,19 +1,19 @@
 -- The changes as the code asks for them, from what the exported calls are given.
-use Rattle.std.specs.Prelude.{ℕ, replicate}
-use Rattle.zorder.specs.Address.{row_costs}
+use Rattle.std.specs.Prelude.{ℕ}
+use Rattle.dominance.specs.declared.Move as dominance
 use Rattle.planning.specs.declared.change.Change.{Change}
-use Rattle.planning.specs.declared.change.Kind.{Kind}
-use Rattle.planning.specs.declared.change.Kind.TheVariants.{Enter, Withdraw, Recost}
+use Rattle.planning.specs.declared.change.Change.TheVariants.{Enter, Withdraw, Recost}
 use Rattle.calls.specs.declared.answer.Move.{Move}
 
-abbrev pub asked : Kind → Move → Change
-asked kind given = record { kind = kind; number = given.number; block = given.block; costs = given.costs }
+-- The move without its block.
+abbrev pub coming_of : Move → dominance.Move
+coming_of given = record { number = given.number; costs = given.costs }
 
 abbrev pub asked_enter : Move → Change
-asked_enter given = asked Enter given
+asked_enter given = Enter (coming_of given) given.block
 
 abbrev pub asked_withdraw : ℕ → Change
-asked_withdraw number = record { kind = Withdraw; number = number; block = 0; costs = replicate row_costs 0 }
+asked_withdraw number = Withdraw number
 
 abbrev pub asked_recost : Move → Change
-asked_recost given = asked Recost given
+asked_recost given = Recost (coming_of given) given.block

@@ -3,17 +3,15 @@ ghost use Rattle.std.specs.Prelude.{◌≡◌};
 ghost use Rattle.calls.specs.Asked as spec;
 
 use crate::answer::Move;
-use planning::{Change, Kind};
-use zorder::COSTS;
+use planning::Change;
 
-fn asked(kind: Kind, given: Move) -> Change
-    ensures { result ≡ spec.asked kind given }
+// The move without its block.
+fn coming_of(given: Move) -> dominance::Move
+    ensures { result ≡ spec.coming_of given }
 {
     let costs = given.costs;
-    Change {
-        kind,
+    dominance::Move {
         number: given.number,
-        block: given.block,
         costs,
     }
 }
@@ -22,24 +20,27 @@ fn asked(kind: Kind, given: Move) -> Change
 pub fn asked_enter(given: Move) -> Change
     ensures { result ≡ spec.asked_enter given }
 {
-    asked(Kind::Enter, given)
+    let coming = coming_of(given);
+    Change::Enter {
+        coming,
+        block: given.block,
+    }
 }
 
 // Asks that the move of a number is withdrawn.
 pub fn asked_withdraw(number: u16) -> Change
     ensures { result ≡ spec.asked_withdraw number }
 {
-    Change {
-        kind: Kind::Withdraw,
-        number,
-        block: 0,
-        costs: [0u16; COSTS],
-    }
+    Change::Withdraw { number }
 }
 
 // Asks for new costs and a block for a move.
 pub fn asked_recost(given: Move) -> Change
     ensures { result ≡ spec.asked_recost given }
 {
-    asked(Kind::Recost, given)
+    let coming = coming_of(given);
+    Change::Recost {
+        coming,
+        block: given.block,
+    }
 }

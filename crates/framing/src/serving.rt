@@ -1,17 +1,17 @@
 // The answer to one line: the only functions that call the board.
 ghost use Rattle.std.specs.Prelude.{◌≡◌};
 ghost use Rattle.frame_lines.specs.Frames as frames;
-ghost use Rattle.framing.specs.Serving.{HoldsState, Lent, CallAsked, Answers, asked_by};
+ghost use Rattle.framing.specs.Serving.{HoldsState, Lent, CallAsked, Answers};
 ghost use Rattle.framing.specs.Serving.{Served, ChangeServed};
 
 use crate::said::{put_change, put_list, put_loaded};
 use crate::{ROWS, SIZE};
 use board::carry_out;
+use dominance::Move;
 use frame_lines::{Frame, Line, frame_of, put_refusal};
 use listing::plan_list;
 use loading::{INPUT, load};
-use planning::{Change, Kind, plan_change};
-use zorder::COSTS;
+use planning::{Change, plan_change};
 
 // The answer has `answered` bytes, and the board `dimension` costs from now on: 0 before the first
 // accepted load.
@@ -64,18 +64,6 @@ fn listed(m: &[u8], d: usize, out: &mut [u8]) -> usize
     put_list(out, m, d, plan_list(m, ROWS))
 }
 
-// What a frame of a change asks, in block 0.
-fn asked(kind: Kind, number: u16, costs: [u16; COSTS]) -> Change
-    ensures { result ≡ asked_by kind number costs }
-{
-    Change {
-        kind,
-        number,
-        block: 0,
-        costs,
-    }
-}
-
 // Answers a line: what is said of its frame is put at the start of `out`.
 pub fn answer(m: &mut [u8], d: usize, line: Line, out: &mut [u8]) -> Response
     requires holds_state { HoldsState d m.old }
@@ -87,9 +75,16 @@ pub fn answer(m: &mut [u8], d: usize, line: Line, out: &mut [u8]) -> Response
         Frame::List => listed(m, d, out),
         Frame::Early => put_refusal(out, 3, 0),
         Frame::Wrong => put_refusal(out, 9, 0),
-        Frame::Enter { number, costs } => change(m, d, asked(Kind::Enter, number, costs), out),
-        Frame::Withdraw { number } => change(m, d, asked(Kind::Withdraw, number, [0; COSTS]), out),
-        Frame::Recost { number, costs } => change(m, d, asked(Kind::Recost, number, costs), out),
+        // A move of a frame comes into block 0.
+        Frame::Enter { number, costs } => {
+            let coming = Move { number, costs };
+            change(m, d, Change::Enter { coming, block: 0 }, out)
+        }
+        Frame::Withdraw { number } => change(m, d, Change::Withdraw { number }, out),
+        Frame::Recost { number, costs } => {
+            let coming = Move { number, costs };
+            change(m, d, Change::Recost { coming, block: 0 }, out)
+        }
     };
     Response {
         answered,

@@ -21,11 +21,10 @@ use Rattle.rows.specs.Planned.{Foreseen, Tells}
 use Rattle.rows.specs.declared.telling.Coming.{Coming}
 use Rattle.rows.specs.declared.telling.View.{View}
 use Rattle.rows.specs.declared.telling.Telling.{Telling}
-use Rattle.planning.specs.Kind.{call_of, comes, coming_of}
+use Rattle.planning.specs.Kind.{call_of, asked_number, coming_of, given_block}
 use Rattle.planning.specs.Change.{Made, ToEnter, ToWithdraw, ToRecost}
 use Rattle.planning.specs.declared.change.Change.{Change}
-use Rattle.planning.specs.declared.change.Kind.{Kind}
-use Rattle.planning.specs.declared.change.Kind.TheVariants.{Enter, Withdraw, Recost}
+use Rattle.planning.specs.declared.change.Change.TheVariants.{Enter, Withdraw, Recost}
 use Rattle.planning.specs.declared.plan.ChangePlan.{ChangePlan}
 
 -- ---- the exchange of moves
@@ -44,25 +43,25 @@ pub record ReadyRows (c d n : ℕ) (k : Exchange) (m : List ℕ) : Type 0 where
 
 -- ---- carrying a plan out
 
--- What each kind asks of the memory before its moves are made.
-unfoldable pub PreparedFor : Kind → Head → Change → ℕ → Upkeep → List ℕ → Type 0
-PreparedFor Enter h x goes u m = ToEnter h.size h.dimension h.count (coming_of x) u m
-PreparedFor Withdraw h x goes u m = ToWithdraw h.size h.dimension h.count goes u m × (number_in h.size m goes ≡ x.number)
-PreparedFor Recost h x goes u m = ToRecost h.size h.dimension h.count goes (coming_of x) u m
+-- What each change asks of the memory before its moves are made.
+unfoldable pub PreparedFor : Change → Head → ℕ → Upkeep → List ℕ → Type 0
+PreparedFor (Enter coming block) h goes u m = ToEnter h.size h.dimension h.count coming u m
+PreparedFor (Withdraw number) h goes u m = ToWithdraw h.size h.dimension h.count goes u m × (number_in h.size m goes ≡ number)
+PreparedFor (Recost coming block) h goes u m = ToRecost h.size h.dimension h.count goes coming u m
 
 abbrev pub MovesReady : ChangePlan → List ℕ → Type 0
-MovesReady p m = ForSome p.places (λ x. PreparedFor p.change.kind p.head p.change x.goes p.upkeep m)
+MovesReady p m = ForSome p.places (λ x. PreparedFor p.change p.head x.goes p.upkeep m)
 
 -- A block that can be given.
-pub record Giveable (c : ℕ) (x : Change) (m : List ℕ) : Type 0 where
+pub record Giveable (c n b : ℕ) (m : List ℕ) : Type 0 where
   pub room : Room c m
-  pub number : x.number < c
-  pub block : x.block ≤ 63
+  pub number : n < c
+  pub block : b ≤ 63
 
 -- What an accepted plan asks.
 pub record Able (p : ChangePlan) (m : List ℕ) : Type 0 where
   pub moves : number_of p.verdict ≡ 0 → MovesReady p m
-  pub block : number_of p.verdict ≡ 0 → comes p.change.kind ≡ true → Giveable p.head.size p.change m
+  pub block : number_of p.verdict ≡ 0 → ForSome (given_block p.change) (λ block. Giveable p.head.size (asked_number p.change) block m)
 
 pub record MovesMade (p : ChangePlan) (m m' : List ℕ) : Type 0 where
   pub made : ForSome p.places (λ _. Made (call_of p.change) m m')
@@ -74,8 +73,8 @@ pub record CarriedOut (p : ChangePlan) (m m' : List ℕ) : Type 0 where
   pub between : List ℕ
   pub refused : 0 < number_of p.verdict → m' ≡ m
   pub moves : number_of p.verdict ≡ 0 → MovesMade p m between
-  pub given : number_of p.verdict ≡ 0 → comes p.change.kind ≡ true → m' ≡ set_block p.head.size p.change.number p.change.block between
-  pub kept : number_of p.verdict ≡ 0 → comes p.change.kind ≡ false → m' ≡ between
+  pub given : number_of p.verdict ≡ 0 → ForSome (given_block p.change) (λ block. m' ≡ set_block p.head.size (asked_number p.change) block between)
+  pub kept : number_of p.verdict ≡ 0 → ForNone (given_block p.change) (m' ≡ between)
 
 -- ---- what a plan tells
 
@@ -98,7 +97,7 @@ abbrev pub coming_if : Bool → ℕ → Move → Option Coming
 coming_if told place x = cond told (Some (record { place = place; entrant = x })) None
 
 abbrev pub coming_in : ChangePlan → Option Coming
-coming_in p = option_and_then (λ x. coming_if p.upkeep.listed x.comes (coming_of p.change)) p.places
+coming_in p = option_and_then (λ x. option_and_then (λ entrant. coming_if p.upkeep.listed x.comes entrant) (coming_of p.change)) p.places
 
 abbrev pub entered_of : ChangePlan → Telling
 entered_of p =

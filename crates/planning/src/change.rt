@@ -1,69 +1,77 @@
 // A change as it is asked for.
 ghost use Rattle.std.specs.Prelude.{◌≡◌};
+ghost use Rattle.zorder.specs.Address.{row_costs};
+ghost use Rattle.zorder.proofs.Laws.Address.{Costs};
 ghost use Rattle.planning.specs.Kind as spec;
 
 use dominance::Move;
-use upkeep::Exchange;
-use zorder::COSTS;
 
-// Which change is asked for.
+// What a change is asked: the move that comes, with the block it gets, or the number of the one
+// that goes.
 #[derive(Clone, Copy)]
-pub enum Kind {
-    Enter,
-    Withdraw,
-    Recost,
+pub enum Change {
+    Enter { coming: Move, block: u16 },
+    Withdraw { number: u16 },
+    Recost { coming: Move, block: u16 },
 }
 
-// What a change is asked: a withdrawal does not look at block and costs.
-#[derive(Clone, Copy)]
-pub struct Change {
-    pub kind: Kind,
-    pub number: u16,
-    pub block: u16,
-    pub costs: [u16; COSTS],
-}
-
-// Says whether a move comes: only then are block and costs looked at.
-pub fn comes(kind: Kind) -> bool
-    ensures { result ≡ spec.comes kind }
+// The same move: a function that is given one knows what its type says of its costs.
+fn held(coming: Move) -> Move
+    ensures is { result ≡ coming }
+    ensures costs { Costs row_costs coming.costs }
 {
-    match kind {
-        Kind::Enter => true,
-        Kind::Withdraw => false,
-        Kind::Recost => true,
+    coming
+}
+
+impl Change {
+    // Gives the number of the move that changes.
+    pub fn number(self) -> u16
+        ensures { result ≡ spec.asked_number self }
+    {
+        match self {
+            Change::Enter { coming, block: _ } => coming.number,
+            Change::Withdraw { number } => number,
+            Change::Recost { coming, block: _ } => coming.number,
+        }
     }
-}
 
-// Says whether the number has to be new to the board.
-pub(crate) fn is_new(kind: Kind) -> bool
-    ensures { result ≡ spec.is_new kind }
-{
-    match kind {
-        Kind::Enter => true,
-        Kind::Withdraw => false,
-        Kind::Recost => false,
+    // Gives the move that comes, if one does.
+    pub fn coming(self) -> Option<Move>
+        ensures is { result ≡ spec.coming_of self }
+        ensures costs { spec.CostsOf self }
+    {
+        match self {
+            Change::Enter { coming, block: _ } => Some(held(coming)),
+            Change::Withdraw { number: _ } => None,
+            Change::Recost { coming, block: _ } => Some(held(coming)),
+        }
     }
-}
 
-// Gives the move that comes.
-pub fn coming_of(x: Change) -> Move
-    ensures { result ≡ spec.coming_of x }
-{
-    let costs = x.costs;
-    Move {
-        number: x.number,
-        costs,
+    // Gives the block that a move gets, if one comes.
+    pub fn block(self) -> Option<u16>
+        ensures { result ≡ spec.given_block self }
+    {
+        match self {
+            Change::Enter { coming: _, block } => Some(block),
+            Change::Withdraw { number: _ } => None,
+            Change::Recost { coming: _, block } => Some(block),
+        }
     }
-}
 
-// Gives the exchange of moves that a change makes: its number's place is the one that goes.
-pub(crate) fn exchange_of(x: Change, goes: usize) -> Exchange
-    ensures { result ≡ spec.exchange_of x goes }
-{
-    let coming = if comes(x.kind) {
-        Some(coming_of(x))
-    } else {
-        None
-    };
-    Exchange { goes, coming }
+    // Says whether the number has to be new to the board.
+    pub(crate) fn is_new(self) -> bool
+        ensures { result ≡ spec.is_new self }
+    {
+        match self {
+            Change::Enter {
+                coming: _,
+                block: _,
+            } => true,
+            Change::Withdraw { number: _ } => false,
+            Change::Recost {
+                coming: _,
+                block: _,
+            } => false,
+        }
+    }
 }

@@ -7,6 +7,6 @@ mod judge;
 mod notice;
 mod plan;
 
-pub use change::{Change, Kind, comes, coming_of};
+pub use change::Change;
 pub use notice::{entered_of, left_of};
 pub use plan::{ChangePlan, Places, plan_change, plan_on};

@@ -2,7 +2,6 @@
 ghost use Rattle.std.specs.Prelude.{◌≡◌, ◌≤◌};
 ghost use Rattle.planning.specs.Plan.{left_of, coming_in, entered_of};
 
-use crate::change::coming_of;
 use crate::plan::ChangePlan;
 use promises::counted;
 use rows::{Coming, Telling, View};
@@ -32,12 +31,13 @@ fn coming_in(p: ChangePlan) -> Option<Coming>
     ensures { result ≡ coming_in p }
 {
     let places = p.places?;
+    let entrant = p.change.coming()?;
     if !p.upkeep.listed {
         return None;
     }
     Some(Coming {
         place: places.comes,
-        entrant: coming_of(p.change),
+        entrant,
     })
 }
 

@@ -2,14 +2,14 @@
 ghost use Rattle.memory.specs.Held.{SoundAt};
 ghost use Rattle.planning.specs.Plan as spec;
 
-use crate::change::{Change, exchange_of};
+use crate::change::Change;
 use crate::foresee::{alike, coming_place, needed, no_upkeep, reported};
 use crate::judge::judge;
 use memory::{Board, Head};
 use promises::{Reason, Refusal, Verdict, enough};
 use soundness::sound_head;
 use tree::place_of;
-use upkeep::{Upkeep, upkeep_of};
+use upkeep::{Exchange, Upkeep, upkeep_of};
 
 // The move at place `goes` goes, if there is one, and one that comes gets place `comes`.
 #[derive(Clone, Copy)]
@@ -53,13 +53,16 @@ pub fn plan_on(m: &[u8], h: Head, x: Change, lent: usize) -> ChangePlan
     requires { SoundAt h m.now }
     ensures { spec.Planned x m.now lent result }
 {
-    let found = place_of(m, h.size, h.count, x.number);
+    let found = place_of(m, h.size, h.count, x.number());
     if let Err(reason) = judge(h, x, found.is_some()) {
         return keeps_moves(h, x, Err(Refusal::from(reason)));
     }
     let board = Board { bytes: m, head: h };
     let goes = found.unwrap_or(h.count);
-    let k = exchange_of(x, goes);
+    let k = Exchange {
+        goes,
+        coming: x.coming(),
+    };
     if alike(&board, k) {
         return keeps_moves(h, x, Ok(()));
     }

@@ -1,5 +1,6 @@
 -- The moves changed, then the block given: what a call leaves of sound memory.
 use Rattle.std.specs.Prelude.{ℕ, ◌<◌, Bool, true, false, cond, ◌≡◌, refl, eqb, get_or, set}
+use Rattle.std.specs.Option.{ForSome, ForNone}
 use mathlib.Core.List.{List}
 use Rattle.std.proofs.Common.{sym, ◌∙◌, subst, eqb-true}
 use Rattle.std.proofs.Math.Path.{ap}
@@ -29,10 +30,10 @@ use Rattle.memory.specs.Laws.Lines.{each-numbers}
 use Rattle.memory.specs.Laws.Blocks.{same_blocks, set_block-blocks, block-set_block, size-over-blocks, dimension-over-blocks, moves-over-blocks, stands-over-blocks}
 use Rattle.memory.specs.Laws.Held.{held-room}
 use Rattle.planning.specs.Change.{Moved}
-use Rattle.planning.specs.Kind.{change_of, comes}
+use Rattle.planning.specs.Kind.{call_of, asked_number, given_block}
 use Rattle.planning.proofs.Laws.Accepted.{recost-on}
-use Rattle.planning.specs.declared.change.Kind.{Kind}
-use Rattle.planning.specs.declared.change.Kind.TheVariants.{Enter, Withdraw, Recost}
+use Rattle.planning.specs.declared.change.Change as asked
+use Rattle.planning.specs.declared.change.Change.TheVariants.{Enter, Withdraw, Recost}
 
 module _ {m : List ℕ} (s : Sound m) (x : Change) {b : List ℕ} (moved : Moved x m b s.tree) (ok : change_refusal (board_in m) x ≡ 0) where
   abbrev c : ℕ
@@ -123,45 +124,46 @@ unfolding board_in
 number-below {m} s x ok = change-number (board_in m) x ok
 
 -- What a change leaves: its moves, and the block that it gives.
-pub kept-given : {m : List ℕ} (s : Sound m) (kind : Kind) (n block : ℕ) (costs : List ℕ) {b : List ℕ} → Moved (change_of kind n block costs) m b s.tree → change_refusal (board_in m) (change_of kind n block costs) ≡ 0
-    → {m' : List ℕ} → (comes kind ≡ true → m' ≡ set_block (size_in m) n block b) → (comes kind ≡ false → m' ≡ b)
-    → Leaves (change_writes (size_in m) (change_of kind n block costs)) m m' (changed (board_in m) (change_of kind n block costs)) (change_tree (dimension_in m) (change_of kind n block costs) s.tree)
-unfolding change_of comes block_writes change_number
-kept-given {m} s Enter n block costs {b} moved ok given kept =
-    let x = calls.enter n block costs in
-    subst (λ (w : List ℕ). Leaves (change_writes (size_in m) x) m w (changed (board_in m) x) (change_tree (dimension_in m) x s.tree)) (sym (given refl))
-    (kept-with s x moved ok n block (number-below s x ok) (λ i e. e) (entered-blocks (dimension_in m) n block costs (moves_in (line_in m)) (block_in (size_in m) m)))
-kept-given {m} s Withdraw n block costs {b} moved ok given kept =
-    let x = calls.withdraw n in
+pub kept-given : {m : List ℕ} (s : Sound m) (x : asked.Change) {b : List ℕ} → Moved (call_of x) m b s.tree → change_refusal (board_in m) (call_of x) ≡ 0
+    → {m' : List ℕ} → ForSome (given_block x) (λ block. m' ≡ set_block (size_in m) (asked_number x) block b) → ForNone (given_block x) (m' ≡ b)
+    → Leaves (change_writes (size_in m) (call_of x)) m m' (changed (board_in m) (call_of x)) (change_tree (dimension_in m) (call_of x) s.tree)
+unfolding block_writes change_number
+kept-given {m} s (Enter coming block) {b} moved ok given kept =
+    let x = calls.enter coming.number block coming.costs in
+    subst (λ (w : List ℕ). Leaves (change_writes (size_in m) x) m w (changed (board_in m) x) (change_tree (dimension_in m) x s.tree)) (sym (given block refl))
+    (kept-with s x moved ok coming.number block (number-below s x ok) (λ i e. e) (entered-blocks (dimension_in m) coming.number block coming.costs (moves_in (line_in m)) (block_in (size_in m) m)))
+kept-given {m} s (Withdraw number) {b} moved ok given kept =
+    let x = calls.withdraw number in
     subst (λ (w : List ℕ). Leaves (change_writes (size_in m) x) m w (changed (board_in m) x) (change_tree (dimension_in m) x s.tree)) (sym (kept refl))
-    (kept-alone s x moved ok (withdrawn-blocks (dimension_in m) n (moves_in (line_in m)) (block_in (size_in m) m)))
-kept-given {m} s Recost n block costs {b} moved ok given kept =
-    let x = calls.recost n block costs in
-    subst (λ (w : List ℕ). Leaves (change_writes (size_in m) x) m w (changed (board_in m) x) (change_tree (dimension_in m) x s.tree)) (sym (given refl))
-    (kept-with s x moved ok n block (number-below s x ok) (λ i e. e) (recosted-blocks (dimension_in m) n block costs (moves_in (line_in m)) (block_in (size_in m) m)))
+    (kept-alone s x moved ok (withdrawn-blocks (dimension_in m) number (moves_in (line_in m)) (block_in (size_in m) m)))
+kept-given {m} s (Recost coming block) {b} moved ok given kept =
+    let x = calls.recost coming.number block coming.costs in
+    subst (λ (w : List ℕ). Leaves (change_writes (size_in m) x) m w (changed (board_in m) x) (change_tree (dimension_in m) x s.tree)) (sym (given block refl))
+    (kept-with s x moved ok coming.number block (number-below s x ok) (λ i e. e) (recosted-blocks (dimension_in m) coming.number block coming.costs (moves_in (line_in m)) (block_in (size_in m) m)))
 
 -- A change that keeps the moves writes its block alone.
-pub given-alone : {m : List ℕ} (kind : Kind) (n block : ℕ) (costs : List ℕ) → keeps_moves (board_in m) (change_of kind n block costs) ≡ true → {b m' : List ℕ} → b ≡ m
-    → (comes kind ≡ true → m' ≡ set_block (size_in m) n block b) → (i : ℕ) → block_writes (size_in m) (change_of kind n block costs) i ≡ false → get_or m' i 0 ≡ get_or m i 0
-unfolding change_of comes keeps_moves set_block block_writes
-given-alone Enter n block costs e same given i free = both_ways e refl
-given-alone Withdraw n block costs e same given i free = both_ways e refl
-given-alone {m} Recost n block costs e same given i free =
-    ap (λ (w : List ℕ). get_or w i 0) (given refl ∙ ap (set_block (size_in m) n block) same)
-    ∙ get_or-set_other m (block_place (size_in m) n) i block 0 (eqb-false i (block_place (size_in m) n) free)
+pub given-alone : {m : List ℕ} (x : asked.Change) → keeps_moves (board_in m) (call_of x) ≡ true → {b m' : List ℕ} → b ≡ m
+    → ForSome (given_block x) (λ block. m' ≡ set_block (size_in m) (asked_number x) block b) → (i : ℕ) → block_writes (size_in m) (call_of x) i ≡ false → get_or m' i 0 ≡ get_or m i 0
+unfolding keeps_moves set_block block_writes
+given-alone (Enter coming block) e same given i free = both_ways e refl
+given-alone (Withdraw number) e same given i free = both_ways e refl
+given-alone {m} (Recost coming block) e same given i free =
+    ap (λ (w : List ℕ). get_or w i 0) (given block refl ∙ ap (set_block (size_in m) coming.number block) same)
+    ∙ get_or-set_other m (block_place (size_in m) coming.number) i block 0 (eqb-false i (block_place (size_in m) coming.number) free)
 
 -- A change that changes nothing gives a block that is there already.
-pub given-again : {m : List ℕ} → Sound m → (kind : Kind) (n block : ℕ) (costs : List ℕ) → change_refusal (board_in m) (change_of kind n block costs) ≡ 0 → changes_nothing (board_in m) (change_of kind n block costs) ≡ true
-    → {b m' : List ℕ} → b ≡ m → (comes kind ≡ true → m' ≡ set_block (size_in m) n block b) → m' ≡ m
-unfolding change_of comes changes_nothing board_in blocks_on set_block block_in
-given-again s Enter n block costs ok e same given = both_ways e refl
-given-again s Withdraw n block costs ok e same given = both_ways e refl
-given-again {m} s Recost n block costs ok e {b} same given =
-    let on = recost-on (board_in m) n block costs ok in
+pub given-again : {m : List ℕ} → Sound m → (x : asked.Change) → change_refusal (board_in m) (call_of x) ≡ 0 → changes_nothing (board_in m) (call_of x) ≡ true
+    → {b m' : List ℕ} → b ≡ m → ForSome (given_block x) (λ block. m' ≡ set_block (size_in m) (asked_number x) block b) → m' ≡ m
+unfolding changes_nothing board_in blocks_on set_block block_in
+given-again s (Enter coming block) ok e same given = both_ways e refl
+given-again s (Withdraw number) ok e same given = both_ways e refl
+given-again {m} s (Recost coming block) ok e {b} same given =
+    let n = coming.number in
+    let on = recost-on (board_in m) n block coming.costs ok in
     let there : block ≡ block_in (size_in m) m n =
-    eqb-true block ((board_in m).blocks n) (and_right (unchanged n costs (board_in m).moves) (eqb block ((board_in m).blocks n)) e)
+    eqb-true block ((board_in m).blocks n) (and_right (unchanged n coming.costs (board_in m).moves) (eqb block ((board_in m).blocks n)) e)
     ∙ ap (λ (t : Bool). cond t (block_in (size_in m) m n) 0) on in
-    given refl
+    given block refl
     ∙ ap (set_block (size_in m) n block) same
     ∙ ap (set m (block_place (size_in m) n)) there
     ∙ set-get_or m (block_place (size_in m) n) 0

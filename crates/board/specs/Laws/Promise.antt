@@ -1,6 +1,7 @@
 -- A plan that is told and carried out keeps the promise of its change.
 use Prim.Native.Nat.{ℕ, zero, suc, ◌<◌}
 use Rattle.std.specs.Prelude.{true, false, Option, Some, None, ◌≡◌, get_or}
+use Rattle.std.specs.Option.{ForSome, ForNone}
 use mathlib.Core.List.{List, ◌++◌, map}
 use Rattle.std.proofs.Math.Path.{refl, ap, ap₂}
 use Rattle.std.proofs.Common.{sym, ◌∙◌, subst, arith}
@@ -22,7 +23,7 @@ use Rattle.rows.specs.Telling.{filled_rows}
 use Rattle.rows.specs.Planned.{answered, put}
 use Rattle.rows.specs.Laws.Telling.{filled-length}
 use Rattle.rows.proofs.Planned.{foreseen-said, foreseen-unsaid, tells-put, tells_none, put_both}
-use Rattle.planning.specs.Kind.{call_of, comes}
+use Rattle.planning.specs.Kind.{call_of, asked_number, given_block}
 use Rattle.planning.specs.Change.{Made}
 use Rattle.planning.specs.Plan.{CarriedOut, Planned, left_of, rows_filled}
 use Rattle.board.specs.Laws.Give.{kept-given, given-alone, given-again}
@@ -82,19 +83,19 @@ module _ {x : Change} {m m' : List ℕ} {lent : ℕ} {p : ChangePlan} (plan : Pl
   accepted-passed s z =
       accepted-passes (board_in m) (call_of x) lent (sym (ap (λ (a : calls.Answer). a.number) (plan.foreseen.sound s)) ∙ z)
 
-  block-given : number_of p.verdict ≡ 0 → comes x.kind ≡ true → m' ≡ set_block (size_in m) x.number x.block out.between
-  block-given z e =
-      out.given z (ap (λ (y : Change). comes y.kind) plan.change ∙ e)
-      ∙ (λ i. set_block (plan.size z i) (plan.change i).number (plan.change i).block out.between)
+  block-given : number_of p.verdict ≡ 0 → ForSome (given_block x) (λ block. m' ≡ set_block (size_in m) (asked_number x) block out.between)
+  block-given z block e =
+      out.given z block (ap (λ (y : Change). given_block y) plan.change ∙ e)
+      ∙ (λ i. set_block (plan.size z i) (asked_number (plan.change i)) block out.between)
 
-  block-kept : number_of p.verdict ≡ 0 → comes x.kind ≡ false → m' ≡ out.between
-  block-kept z e = out.kept z (ap (λ (y : Change). comes y.kind) plan.change ∙ e)
+  block-kept : number_of p.verdict ≡ 0 → ForNone (given_block x) (m' ≡ out.between)
+  block-kept z e = out.kept z (ap (λ (y : Change). given_block y) plan.change ∙ e)
 
   pub plan-left : (k : ℕ) → number_of p.verdict ≡ k → (s : Sound m)
       → MemoryAfter (change_writes (size_in m) (call_of x)) k m m' (changed (board_in m) (call_of x)) (change_tree (dimension_in m) (call_of x) s.tree)
   unfolding MemoryAfter
   plan-left zero e s =
-      kept-given s x.kind x.number x.block x.costs ((accepted-made e p.places refl).kept s.tree s.stands) (accepted-passed s e) (block-given e) (block-kept e)
+      kept-given s x ((accepted-made e p.places refl).kept s.tree s.stands) (accepted-passed s e) (block-given e) (block-kept e)
   plan-left (suc k) e s = out.refused (omega (arith, e))
 
   -- Equal costs: no move changes.
@@ -108,7 +109,7 @@ module _ {x : Change} {m m' : List ℕ} {lent : ℕ} {p : ChangePlan} (plan : Pl
       by_answer (yes h) = ap (λ (w : List ℕ). get_or w i 0) (out.refused h)
       by_answer (no h) =
           let z : number_of p.verdict ≡ 0 = omega arith in
-          given-alone x.kind x.number x.block x.costs e (kept-moves s e z) (block-given z) i free
+          given-alone x e (kept-moves s e z) (block-given z) i free
 
   -- Equal costs and an equal block: the byte that is written holds it already.
   plan-nothing : Sound m → changes_nothing (board_in m) (call_of x) ≡ true → m' ≡ m
@@ -118,7 +119,7 @@ module _ {x : Change} {m m' : List ℕ} {lent : ℕ} {p : ChangePlan} (plan : Pl
       by_answer (yes h) = out.refused h
       by_answer (no h) =
           let z : number_of p.verdict ≡ 0 = omega arith in
-          given-again s x.kind x.number x.block x.costs (accepted-passed s z) e (kept-moves s (nothing-keeps (board_in m) (call_of x) e) z) (block-given z)
+          given-again s x (accepted-passed s z) e (kept-moves s (nothing-keeps (board_in m) (call_of x) e) z) (block-given z)
 
   plan-unsaid : (Sound m → ⊥) → m' ≡ m
   plan-unsaid bad = out.refused (omega (arith, ap (λ (v : Verdict). number_of v) (plan.foreseen.unsound bad)))

@@ -1,5 +1,6 @@
 -- A change that no check turns down is ready to be told and made.
-use Rattle.std.specs.Prelude.{ℕ, suc, ◌<◌, ◌≤◌, Bool, true, false, cond, ◌&&◌, ◌≡◌, Some, None}
+use Rattle.std.specs.Prelude.{ℕ, suc, ◌<◌, ◌≤◌, Bool, true, false, ◌&&◌, ◌≡◌, Some, None}
+use Rattle.std.specs.Option.{ForSome}
 use Rattle.std.proofs.Math.Bool.{not}
 use mathlib.Core.List.{List, [], ◌∷◌}
 use Rattle.std.proofs.Math.Path.{refl, ap, ap₂, subst}
@@ -18,7 +19,6 @@ use Rattle.model.specs.Withdrawing.{without}
 use Rattle.model.specs.Calls as calls
 use Rattle.model.specs.Calls.{block_bad, on_board, change_refusal, changed_moves}
 use Rattle.model.specs.Sound.{Fit}
-use Rattle.model.proofs.Laws.Bool.{both_ways}
 use Rattle.model.proofs.Laws.Basics.{each-mono}
 use Rattle.model.proofs.Laws.Order.{has-numbers}
 use Rattle.model.proofs.Laws.Numbers.{distinct-length}
@@ -38,10 +38,10 @@ use Rattle.upkeep.specs.Change.{drop_at, moves_after, UpkeptRows}
 use Rattle.upkeep.specs.Laws.Change.{rest-without}
 use Rattle.upkeep.specs.declared.exchange.Exchange.{Exchange}
 use Rattle.upkeep.specs.declared.exchange.Upkeep.{Upkeep}
-use Rattle.planning.specs.Kind.{change_of, comes}
+use Rattle.planning.specs.Kind.{call_of, asked_number, coming_of, CostsOf, given_block, exchange_of}
 use Rattle.planning.specs.Plan.{ReadyRows, PreparedFor}
-use Rattle.planning.specs.declared.change.Kind.{Kind}
-use Rattle.planning.specs.declared.change.Kind.TheVariants.{Enter, Withdraw, Recost}
+use Rattle.planning.specs.declared.change.Change.{Change}
+use Rattle.planning.specs.declared.change.Change.TheVariants.{Enter, Withdraw, Recost}
 use Rattle.planning.proofs.Laws.Judge.{board-moves, judge-size, judge-past, on-board}
 use Rattle.planning.proofs.Laws.Places.{entering-moves}
 use Rattle.planning.proofs.Laws.Coming.{only, never}
@@ -189,55 +189,52 @@ module _ {c d n p : ℕ} {m : List ℕ} (s : SoundRows c d n m) (b : Bytes m) (x
   enter-last ok =
       omega (arith, e.within, ltb-false p n (sym (on-board c d n m s x.number p e) ∙ (enter-checks s b x block w ok).2))
 
-  abbrev change : Kind → Exchange
-  change kind = record { goes = p; coming = cond (comes kind) (Some x) None }
-
-  pub kind-ready : (kind : Kind) → change_refusal (board_in m) (change_of kind x.number block x.costs) ≡ 0 → ReadyRows c d n (change kind) m
-  unfolding change_of comes
-  kind-ready Enter ok =
-      subst (λ (g : ℕ). ReadyRows c d n (record { goes = g; coming = Some x }) m) (sym (enter-last ok)) (enter-ready s b x block w ok)
-  kind-ready Withdraw ok = withdraw-ready s e ok
-  kind-ready Recost ok = recost-ready s b x block w e ok
+module _ {c d n p : ℕ} {m : List ℕ} (s : SoundRows c d n m) (b : Bytes m) where
+  pub kind-ready : (x : Change) → CostsOf x → PlaceOf c n (asked_number x) m p → change_refusal (board_in m) (call_of x) ≡ 0 → ReadyRows c d n (exchange_of x p) m
+  kind-ready (Enter y block) w e ok =
+      subst (λ (g : ℕ). ReadyRows c d n (record { goes = g; coming = Some y }) m) (sym (enter-last s b y block (w y refl) e ok)) (enter-ready s b y block (w y refl) ok)
+  kind-ready (Withdraw number) w e ok = withdraw-ready s e ok
+  kind-ready (Recost y block) w e ok = recost-ready s b y block (w y refl) e ok
 
   -- The moves that it leaves.
-  pub kind-moves : (kind : Kind) → change_refusal (board_in m) (change_of kind x.number block x.costs) ≡ 0
-      → moves_after d (change kind) (moves_in (line_from c d n m)) ≡ changed_moves d (change_of kind x.number block x.costs) (moves_in (line_from c d n m))
-  unfolding change_of comes moves_after changed_moves
-  kind-moves Enter ok = ap (insert d (as_move x)) (ap (λ (g : ℕ). drop_at g (ms s)) (enter-last ok) ∙ entering-moves c d n m)
-  kind-moves Withdraw ok =
+  pub kind-moves : (x : Change) → CostsOf x → PlaceOf c n (asked_number x) m p → change_refusal (board_in m) (call_of x) ≡ 0
+      → moves_after d (exchange_of x p) (moves_in (line_from c d n m)) ≡ changed_moves d (call_of x) (moves_in (line_from c d n m))
+  unfolding moves_after changed_moves
+  kind-moves (Enter y block) w e ok =
+      ap (insert d (as_move y)) (ap (λ (g : ℕ). drop_at g (ms s)) (enter-last s b y block (w y refl) e ok) ∙ entering-moves c d n m)
+  kind-moves (Withdraw number) w e ok =
       let l = withdraw-place s e ok in
       rest-without c d n p m s b l ∙ ap (λ (k : ℕ). without k (ms s)) (e.found l)
-  kind-moves Recost ok = ap (insert d (as_move x)) (recost-rest s b x block w e ok)
+  kind-moves (Recost y block) w e ok = ap (insert d (as_move y)) (recost-rest s b y block (w y refl) e ok)
 
   -- What making its moves asks.
-  pub kind-prepared : (kind : Kind) {u : Upkeep} → change_refusal (board_in m) (change_of kind x.number block x.costs) ≡ 0
-      → (comes kind ≡ true → p < n → costs_in c d m (number_in c m p) ≡ x.costs → ⊥)
-      → UpkeptRows c d n (change kind) m u
-      → PreparedFor kind (record { size = c; dimension = d; count = n }) (record { kind = kind; number = x.number; block = block; costs = x.costs }) p u m
-  unfolding change_of comes PreparedFor
-  kind-prepared Enter {u} ok other up =
-      let ready = enter-ready s b x block w ok in
+  pub kind-prepared : (x : Change) → CostsOf x → PlaceOf c n (asked_number x) m p → {u : Upkeep} → change_refusal (board_in m) (call_of x) ≡ 0
+      → ForSome (coming_of x) (λ y. p < n → costs_in c d m (number_in c m p) ≡ y.costs → ⊥)
+      → UpkeptRows c d n (exchange_of x p) m u
+      → PreparedFor x (record { size = c; dimension = d; count = n }) p u m
+  unfolding PreparedFor
+  kind-prepared (Enter y block) w e {u} ok other up =
+      let ready = enter-ready s b y block (w y refl) ok in
       record {
         asked = ready.asked;
-        space = enter-space s b x block w ok;
-        upkept = subst (λ (g : ℕ). UpkeptRows c d n (record { goes = g; coming = Some x }) m u) (enter-last ok) up;
+        space = enter-space s b y block (w y refl) ok;
+        upkept = subst (λ (g : ℕ). UpkeptRows c d n (record { goes = g; coming = Some y }) m u) (enter-last s b y block (w y refl) e ok) up;
       }
-  kind-prepared Withdraw ok other up =
+  kind-prepared (Withdraw number) w e ok other up =
       let ready = withdraw-ready s e ok in
       let l = withdraw-place s e ok in
       (record { asked = ready.asked; place = l; upkept = up }, e.found l)
-  kind-prepared Recost ok other up =
-      let ready = recost-ready s b x block w e ok in
-      let l = recost-place s b x block w e ok in
-      record { asked = ready.asked; place = l; number = e.found l; other = other refl l; upkept = up }
+  kind-prepared (Recost y block) w e ok other up =
+      let ready = recost-ready s b y block (w y refl) e ok in
+      let l = recost-place s b y block (w y refl) e ok in
+      record { asked = ready.asked; place = l; number = e.found l; other = other y refl l; upkept = up }
 
   -- The block that an accepted change gives.
-  pub kind-block : (kind : Kind) → comes kind ≡ true → change_refusal (board_in m) (change_of kind x.number block x.costs) ≡ 0 → (x.number < c) × (block ≤ 63)
-  unfolding change_of comes
-  kind-block Enter _ ok =
-      let h = enter-checks s b x block w ok in
-      (leb-false c x.number (sym (judge-size c d n m s x.number) ∙ h.0), block-most block h.3)
-  kind-block Withdraw e ok = both_ways e refl
-  kind-block Recost _ ok =
-      let h = recost-checks s b x block w e ok in
-      (leb-false c x.number (sym (judge-size c d n m s x.number) ∙ h.0), block-most block h.3)
+  pub kind-block : (x : Change) → CostsOf x → PlaceOf c n (asked_number x) m p → change_refusal (board_in m) (call_of x) ≡ 0 → ForSome (given_block x) (λ block. (asked_number x < c) × (block ≤ 63))
+  kind-block (Enter y block) w e ok =
+      let h = enter-checks s b y block (w y refl) ok in
+      only (λ (k : ℕ). (y.number < c) × (k ≤ 63)) (leb-false c y.number (sym (judge-size c d n m s y.number) ∙ h.0), block-most block h.3)
+  kind-block (Withdraw number) w e ok = never (λ (k : ℕ). (number < c) × (k ≤ 63))
+  kind-block (Recost y block) w e ok =
+      let h = recost-checks s b y block (w y refl) e ok in
+      only (λ (k : ℕ). (y.number < c) × (k ≤ 63)) (leb-false c y.number (sym (judge-size c d n m s y.number) ∙ h.0), block-most block h.3)

@@ -1,12 +1,12 @@
 -- The refusal of a change, from the answers of its checks on sound memory.
-use Rattle.std.specs.Prelude.{ℕ, suc, Bool, true, false, cond, not, ◌&&◌, ◌||◌, List, [], ◌∷◌, ◌≡◌, refl, ltb, eqb, length, Result, ⊤}
+use Rattle.std.specs.Prelude.{ℕ, suc, Bool, true, false, cond, not, ◌||◌, List, [], ◌∷◌, ◌≡◌, refl, ltb, eqb, length, Result, ⊤}
 use Rattle.std.proofs.Common.{zero-le, suc-le-suc, sym, ap₂, ◌∙◌, lt-ltb}
 use Rattle.std.proofs.Math.Path.{ap}
 use Rattle.std.proofs.Math.Dec.{leb, leb-suc-suc}
 use Rattle.zorder.specs.Refusal.{refusal, cost_past_bad}
 use Rattle.model.specs.Basics.{any}
 use Rattle.model.specs.Calls as calls
-use Rattle.model.specs.Calls.{block_bad, on_board, change_refusal}
+use Rattle.model.specs.Calls.{on_board, change_refusal}
 use Rattle.line.specs.Line.{Placed, moves_in}
 use Rattle.line.specs.Withdraw.{place_of}
 use Rattle.promises.specs.Layout.{board_in, line_from}
@@ -16,10 +16,9 @@ use Rattle.memory.specs.Held.{SoundRows}
 use Rattle.memory.specs.Laws.Lines.{length-line, line_in-line}
 use Rattle.tree.specs.Withdraw.{PlaceOf}
 use Rattle.memory.specs.declared.head.Head.{Head}
-use Rattle.planning.specs.Kind.{change_of, call_of, comes, is_new, JudgesBy}
+use Rattle.planning.specs.Kind.{call_of, asked_number, gets_bad_block, gets_past_cost, is_new, JudgesBy}
 use Rattle.planning.specs.declared.change.Change.{Change}
-use Rattle.planning.specs.declared.change.Kind.{Kind}
-use Rattle.planning.specs.declared.change.Kind.TheVariants.{Enter, Withdraw, Recost}
+use Rattle.planning.specs.declared.change.Change.TheVariants.{Enter, Withdraw, Recost}
 
 found-step : (b : Bool) (p l : ℕ) → b || ltb p l ≡ ltb (cond b 0 (suc p)) (suc l)
 found-step true p l = sym (lt-ltb 0 (suc l) (suc-le-suc zero-le))
@@ -54,24 +53,24 @@ module _ (c d n : ℕ) (m : List ℕ) (s : SoundRows c d n m) where
 
 -- ---- the checks of each kind of change
 
-refusal-of : (kind : Kind) (b : calls.Board) (number block : ℕ) (costs : List ℕ)
-    → change_refusal b (change_of kind number block costs)
+refusal-of : (x : Change) (b : calls.Board)
+    → change_refusal b (call_of x)
     ≡ refusal
-    ((leb b.size number, 4)
-    ∷ (comes kind && block_bad block, 11)
-    ∷ (comes kind && cost_past_bad b.dimension costs, 7)
-    ∷ (cond (is_new kind) (on_board number b.moves) (not (on_board number b.moves)), cond (is_new kind) 5 6)
+    ((leb b.size (asked_number x), 4)
+    ∷ (gets_bad_block x, 11)
+    ∷ (gets_past_cost b.dimension x, 7)
+    ∷ (cond (is_new x) (on_board (asked_number x) b.moves) (not (on_board (asked_number x) b.moves)), cond (is_new x) 5 6)
     ∷ [])
-unfolding change_refusal change_of comes is_new refusal
-refusal-of Enter b number block costs = refl
-refusal-of Withdraw b number block costs = refl
-refusal-of Recost b number block costs = refl
+unfolding change_refusal refusal
+refusal-of (Enter coming block) b = refl
+refusal-of (Withdraw number) b = refl
+refusal-of (Recost coming block) b = refl
 
 -- Each check by its answer, known or not.
-pub judges-by : (h : Head) (x : Change) (on : Bool) {o : Result ⊤ Reason} (large high past new : Bool) → leb h.size x.number ≡ large
-    → (comes x.kind && block_bad x.block) ≡ high
-    → (comes x.kind && cost_past_bad h.dimension x.costs) ≡ past
-    → is_new x.kind ≡ new
+pub judges-by : (h : Head) (x : Change) (on : Bool) {o : Result ⊤ Reason} (large high past new : Bool) → leb h.size (asked_number x) ≡ large
+    → gets_bad_block x ≡ high
+    → gets_past_cost h.dimension x ≡ past
+    → is_new x ≡ new
     → check_number o ≡ refusal ((large, 4) ∷ (high, 11) ∷ (past, 7) ∷ (cond new on (not on), cond new 5 6) ∷ [])
     → JudgesBy h x on o
 judges-by h x on large high past new e k f g a =
@@ -79,18 +78,18 @@ judges-by h x on large high past new e k f g a =
       is = λ b size dimension o.
           a
           ∙ sym
-          (refusal-of x.kind b x.number x.block x.costs
+          (refusal-of x b
           ∙ (λ i.
           refusal
-          (((ap (λ (k : ℕ). leb k x.number) size ∙ e) i, 4)
+          (((ap (λ (k : ℕ). leb k (asked_number x)) size ∙ e) i, 4)
           ∷ (k i, 11)
-          ∷ ((ap (λ (k : ℕ). comes x.kind && cost_past_bad k x.costs) dimension ∙ f) i, 7)
+          ∷ ((ap (λ (k : ℕ). gets_past_cost k x) dimension ∙ f) i, 7)
           ∷ (cond (g i) (o i) (not (o i)), cond (g i) 5 6)
           ∷ [])));
     }
 
-pub judged : {c d n p : ℕ} {m : List ℕ} (s : SoundRows c d n m) {x : Change} {o : Result ⊤ Reason} → PlaceOf c n x.number m p
+pub judged : {c d n p : ℕ} {m : List ℕ} (s : SoundRows c d n m) {x : Change} {o : Result ⊤ Reason} → PlaceOf c n (asked_number x) m p
     → JudgesBy (record { size = c; dimension = d; count = n }) x (ltb p n) o → check_number o ≡ change_refusal (board_in m) (call_of x)
 unfolding board_in
 judged {c} {d} {n} {p} {m} s {x = x} e j =
-    j.is (board_in m) (sym s.size) (sym s.dimension) (on-board c d n m s x.number p e)
+    j.is (board_in m) (sym s.size) (sym s.dimension) (on-board c d n m s (asked_number x) p e)

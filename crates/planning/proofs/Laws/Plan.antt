@@ -1,15 +1,14 @@
 -- The plan of a change, for each of its answers.
-use Rattle.std.specs.Prelude.{ℕ, zero, suc, ◌+◌, ◌-◌, ◌≤◌, ◌<◌, Bool, false, cond, List, [], ◌≡◌, Some, None, ltb}
-use Rattle.std.proofs.Math.Bool.{true, ◌&&◌}
+use Rattle.std.specs.Prelude.{ℕ, zero, suc, ◌+◌, ◌-◌, ◌≤◌, ◌<◌, Bool, false, cond, List, [], ◌≡◌, Option, Some, None, ltb, unwrap_or}
+use Rattle.std.proofs.Math.Bool.{true, not, ◌&&◌}
 use Rattle.std.proofs.Math.Path.{refl, sym, ap}
 use Rattle.std.proofs.Common.{ap₂, ◌∙◌, subst}
 use native.Mathlib.Omega.{arith}
 use borrow.Author.Tests.{ltb-true, lt-ltb, le-ltb}
 use Rattle.std.proofs.Math.ListN.{length}
-use Rattle.std.specs.Option.{ForSome}
-use Rattle.zorder.specs.Address.{row_costs}
-use Rattle.zorder.proofs.Laws.Address.{Costs}
+use Rattle.std.specs.Option.{ForSome, is_some, option_map_or, option_and_then}
 use Rattle.model.specs.Basics.{equal}
+use Rattle.model.specs.Lists.{hidden}
 use Rattle.model.specs.Calls as calls
 use Rattle.model.specs.Calls.{accepted, refused_with, rows_answer, change_refusal, change_notice, keeps_moves, on_board}
 use Rattle.model.specs.Withdrawing.{costs_on, unchanged}
@@ -17,7 +16,7 @@ use Rattle.model.specs.Tree.{Tree}
 use Rattle.model.specs.Opening.{withdraw_opens, change_opens}
 use Rattle.model.proofs.Laws.Bool.{both_ways, and_left, and_right}
 use Rattle.model.proofs.Laws.Basics.{equal-refl}
-use Rattle.promises.specs.Layout.{size_in, dimension_in, number_in, costs_in, board_in}
+use Rattle.promises.specs.Layout.{size_in, dimension_in, number_in, costs_in, line_from, board_in}
 use Rattle.promises.specs.Sound.{Stands, Sound}
 use Rattle.promises.specs.Answers.{Verdict, answer_of, number_of, counted, refused_by, accepted_verdict, reason_number}
 use Rattle.promises.specs.Run.{Bytes}
@@ -29,25 +28,27 @@ use Rattle.memory.specs.Held.{SoundRows}
 use Rattle.memory.specs.Laws.Held.{held-room, held-readable}
 use Rattle.memory.specs.declared.head.Head.{Head}
 use Rattle.tree.specs.Withdraw.{PlaceOf}
-use Rattle.upkeep.specs.Change.{UpkeptRows, PlaceRows}
+use Rattle.line.specs.Line.{moves_in}
+use Rattle.dominance.specs.Move.{as_move}
+use Rattle.upkeep.specs.Change.{UpkeptRows, PlaceRows, moves_after}
 use Rattle.upkeep.specs.declared.exchange.Upkeep.{Upkeep}
 use Rattle.rows.specs.Planned.{Foreseen, Tells}
 use Rattle.rows.proofs.Planned.{foreseen-unsound, foreseen-refused, foreseen-judged, few-refuses, counted-all, counted_none}
 use Rattle.rows.specs.Telling.{place_in}
+use Rattle.rows.specs.declared.telling.Coming.{Coming}
 use Rattle.rows.specs.declared.telling.Telling.{Telling}
-use Rattle.planning.specs.Kind.{change_of, call_of, comes, coming_of, exchange_of}
+use Rattle.planning.specs.Kind.{call_of, asked_number, coming_of, CostsOf, given_block, exchange_of}
 use Rattle.planning.specs.Change.{Other, needed_rows, Made}
-use Rattle.planning.specs.Plan.{alike, ReadyRows, PreparedFor, Giveable, Planned, KeepsMoves, coming_if}
+use Rattle.planning.specs.Plan.{alike, ReadyRows, PreparedFor, Giveable, Planned, KeepsMoves, coming_if, entering_by}
 use Rattle.planning.proofs.Laws.Judge.{board-moves}
-use Rattle.planning.proofs.Laws.Coming.{only, never, came, if-came, if-some}
+use Rattle.planning.proofs.Laws.Coming.{only, never}
 use Rattle.planning.proofs.Laws.Places.{costs-board}
 use Rattle.planning.proofs.Laws.Notice.{left_rows, entered_rows, rows_left, rows-entered, count_left, count-entered, rows-notice, rows-needed}
 use Rattle.planning.proofs.Laws.Calls.{not-refused, call-notice}
 use Rattle.planning.proofs.Laws.Accepted.{enter-last, recost-on, recost-place, kind-ready, kind-moves, kind-prepared, kind-block}
 use Rattle.planning.proofs.Laws.Unchanged.{no-notice, same-made}
 use Rattle.planning.specs.declared.change.Change.{Change}
-use Rattle.planning.specs.declared.change.Kind.{Kind}
-use Rattle.planning.specs.declared.change.Kind.TheVariants.{Enter, Withdraw, Recost}
+use Rattle.planning.specs.declared.change.Change.TheVariants.{Enter, Withdraw, Recost}
 use Rattle.planning.specs.declared.plan.ChangePlan.{ChangePlan}
 use Rattle.planning.specs.declared.plan.Places.{Places}
 
@@ -81,7 +82,7 @@ module _ {h : Head} {x : Change} {v : Verdict} {m : List ℕ} {lent : ℕ} {p : 
       → (number_of v ≡ 0 → [] ≡ change_notice (board_in m) (call_of x))
       → (number_of v ≡ 0 → h.size ≡ size_in m)
       → (number_of v ≡ 0 → Made (call_of x) m m)
-      → (number_of v ≡ 0 → comes x.kind ≡ true → Giveable h.size x m)
+      → (number_of v ≡ 0 → ForSome (given_block x) (λ block. Giveable h.size (asked_number x) block m))
       → Planned x m lent p
   keeps-planned f none size idle block =
       let number : number_of p.verdict ≡ number_of v = ap (λ (v : Verdict). number_of v) e.verdict in
@@ -98,11 +99,11 @@ module _ {h : Head} {x : Change} {v : Verdict} {m : List ℕ} {lent : ℕ} {p : 
         enough = omega (arith, zero_left, zero-entered);
         able =
             record {
-              moves = λ _ y f. never (λ (y : Places). PreparedFor p.change.kind p.head p.change y.goes p.upkeep m) y (sym e.places ∙ f);
-              block = λ z c.
-                  subst (λ (g : Head). Giveable g.size p.change m) (sym e.head)
-                  (subst (λ (y : Change). Giveable h.size y m) (sym e.change)
-                  (block (sym number ∙ z) (sym (ap (λ (y : Change). comes y.kind) e.change) ∙ c)));
+              moves = λ _ y f. never (λ (y : Places). PreparedFor p.change p.head y.goes p.upkeep m) y (sym e.places ∙ f);
+              block = λ z.
+                  subst (λ (g : Head). ForSome (given_block p.change) (λ block. Giveable g.size (asked_number p.change) block m)) (sym e.head)
+                  (subst (λ (y : Change). ForSome (given_block y) (λ block. Giveable h.size (asked_number y) block m)) (sym e.change)
+                  (block (sym number ∙ z)));
             };
         change = e.change;
         size = λ z. ap (λ (g : Head). g.size) e.head ∙ size (sym number ∙ z);
@@ -124,7 +125,52 @@ plan-refused {m = m} s {r = r} judged {lent} k =
     keeps-planned k (foreseen-refused _ _ _ m lent _ _ s.sound (refused_by r 0) (ap refused_with judged) h)
     (λ z. absurd (omega arith)) (λ z. absurd (omega arith)) (λ z. absurd (omega arith)) (λ z. absurd (omega arith))
 
-module _ {c d n g : ℕ} {m : List ℕ} (s : SoundRows c d n m) (b : Bytes m) (x : Change) (w : Costs row_costs x.costs) (e : PlaceOf c n x.number m g)
+-- The coming move is told if it is listed: whoever else stands where none comes.
+coming-as : (o : Option Move) (listed : Bool) (place : ℕ) (y : Move) → (o ≡ None → listed ≡ false)
+    → option_and_then (λ x. coming_if listed place x) o ≡ coming_if listed place (unwrap_or o y)
+coming-as None listed place y f = sym (ap (λ (t : Bool). coming_if t place y) (f refl))
+coming-as (Some x) listed place y f = refl
+
+module _ {c d n g : ℕ} {m : List ℕ} (s : SoundRows c d n m) (b : Bytes m) where
+  -- Only a re-cost has a move come for one that goes: here one with equal costs.
+  idle-by : (x : Change) → CostsOf x → PlaceOf c n (asked_number x) m g → change_refusal (board_in m) (call_of x) ≡ 0 → alike c d n (exchange_of x g) m ≡ true
+      → ([] ≡ change_notice (board_in m) (call_of x)) × Made (call_of x) m m × ((t : Tree) → 0 ≡ change_opens (dimension_in m) (call_of x) t)
+  unfolding change_opens alike
+  idle-by (Enter y block) w e ok same = absurd (omega (arith, ltb-true g n (and_left (ltb g n) _ same), enter-last s b y block (w y refl) e ok))
+  idle-by (Withdraw number) w e ok same = both_ways same refl
+  idle-by (Recost y block) w e ok same =
+      let l = ltb-true g n (and_left (ltb g n) _ same) in
+      let costs : equal y.costs (costs_in c d m y.number) ≡ true = ap (λ (i : ℕ). equal y.costs (costs_in c d m i)) (sym (e.found l)) ∙ and_right (ltb g n) _ same in
+      let fit = (kind-ready s b (Recost y block) w e ok).asked.fit y refl in
+      let on = recost-on (board_in m) y.number block y.costs ok in
+      (sym (no-notice s b y fit on costs block), same-made s b y fit on costs block, λ _. refl)
+
+  -- A change that is made changes something.
+  never-nothing : (x : Change) → CostsOf x → PlaceOf c n (asked_number x) m g → change_refusal (board_in m) (call_of x) ≡ 0 → alike c d n (exchange_of x g) m ≡ false
+      → keeps_moves (board_in m) (call_of x) ≡ false
+  unfolding keeps_moves unchanged alike
+  never-nothing (Enter y block) w e ok different = refl
+  never-nothing (Withdraw number) w e ok different = refl
+  never-nothing (Recost y block) w e ok different =
+      let l : g < n = recost-place s b y block (w y refl) e ok in
+      let own = board-moves c d n m s in
+      let on = ap (on_board y.number) (sym own) ∙ recost-on (board_in m) y.number block y.costs ok in
+      ap (equal y.costs) (ap (costs_on y.number) own ∙ costs-board c d n m y.number on ∙ ap (costs_in c d m) (sym (e.found l)))
+      ∙ sym (ap (λ (p : Bool). p && equal y.costs (costs_in c d m (number_in c m g))) (lt-ltb g n l))
+      ∙ different
+
+  -- A withdrawal reports the nodes opened, the others none.
+  kind-opens : (x : Change) → CostsOf x → PlaceOf c n (asked_number x) m g → change_refusal (board_in m) (call_of x) ≡ 0
+      → {u : Upkeep} → UpkeptRows c d n (exchange_of x g) m u → (t : Tree) → Stands m t
+      → cond (is_some (coming_of x)) 0 u.opened ≡ change_opens (dimension_in m) (call_of x) t
+  unfolding change_opens
+  kind-opens (Enter y block) w e ok up t stands = refl
+  kind-opens (Withdraw number) w e ok up t stands =
+      let l = (kind-ready s b (Withdraw number) w e ok).place refl in
+      up.opened l t stands ∙ (λ i. withdraw_opens (s.dimension i) (e.found l i) t)
+  kind-opens (Recost y block) w e ok up t stands = refl
+
+module _ {c d n g : ℕ} {m : List ℕ} (s : SoundRows c d n m) (b : Bytes m) (x : Change) (w : CostsOf x) (e : PlaceOf c n (asked_number x) m g)
     (ok : change_refusal (board_in m) (call_of x) ≡ 0) where
   abbrev head : Head
   head = record { size = c; dimension = d; count = n }
@@ -133,135 +179,88 @@ module _ {c d n g : ℕ} {m : List ℕ} (s : SoundRows c d n m) (b : Bytes m) (x
   call = call_of x
 
   pub ready : ReadyRows c d n (exchange_of x g) m
-  ready = kind-ready s b (coming_of x) x.block w e x.kind ok
+  ready = kind-ready s b x w e ok
 
   -- The move that comes is that of the change.
-  own : ForSome (exchange_of x g).coming (λ y. coming_of x ≡ y)
-  own y e = (if-came (comes x.kind) e).1
+  abbrev entrant : Move
+  entrant = unwrap_or (coming_of x) (record { number = 0; costs = [] })
 
-  alike-is : alike c d n (exchange_of x g) m ≡ (comes x.kind && (ltb g n && equal x.costs (costs_in c d m (number_in c m g))))
-  unfolding alike
-  alike-is = if-some (comes x.kind) (λ y. ltb g n && equal y.costs (costs_in c d m (number_in c m g))) (coming_of x)
+  own : ForSome (coming_of x) (λ y. entrant ≡ y)
+  own y f = ap (λ (o : Option Move). unwrap_or o (record { number = 0; costs = [] })) f
 
-  giveable : comes x.kind ≡ true → Giveable c x m
-  giveable f =
-      let k = kind-block s b (coming_of x) x.block w e x.kind f ok in
+  giveable : ForSome (given_block x) (λ block. Giveable c (asked_number x) block m)
+  giveable block f =
+      let k = kind-block s b x w e ok block f in
       record { room = held-room c d n m s; number = k.0; block = k.1 }
 
   -- A re-cost with equal costs.
   module _ (same : alike c d n (exchange_of x g) m ≡ true) where
-    alike-costs : (comes x.kind ≡ true) × (g < n) × (equal x.costs (costs_in c d m x.number) ≡ true)
-    alike-costs =
-        let f = and_left (comes x.kind) _ (sym alike-is ∙ same) in
-        let rest = and_right (comes x.kind) _ (sym alike-is ∙ same) in
-        let l = ltb-true g n (and_left (ltb g n) _ rest) in
-        (f, l, ap (λ (i : ℕ). equal x.costs (costs_in c d m i)) (sym (ready.number (coming_of x) (came f) l)) ∙ and_right (ltb g n) _ rest)
-
-    -- Only a re-cost has a move come for one that goes.
-    by_kind : (kind : Kind) → x.kind ≡ kind → ([] ≡ change_notice (board_in m) (change_of kind x.number x.block x.costs)) × Made (change_of kind x.number x.block x.costs) m m
-        × ((t : Tree) → 0 ≡ change_opens (dimension_in m) (change_of kind x.number x.block x.costs) t)
-    unfolding change_of change_opens comes
-    by_kind Enter k =
-        let none = ap (change_refusal (board_in m)) (ap (λ (kind : Kind). change_of kind x.number x.block x.costs) k) in
-        absurd (enter-new (sym none ∙ ok))
-      where
-        enter-new : change_refusal (board_in m) (calls.enter x.number x.block x.costs) ≡ 0 → ⊥
-        enter-new passes = omega (arith, alike-costs.1, enter-last s b (coming_of x) x.block w e passes)
-    by_kind Withdraw k = both_ways (sym (ap comes k) ∙ alike-costs.0) refl
-    by_kind Recost k =
-        let passes = sym (ap (λ (kind : Kind). change_refusal (board_in m) (change_of kind x.number x.block x.costs)) k) ∙ ok in
-        let fit = ready.asked.fit (coming_of x) (came alike-costs.0) in
-        let on = recost-on (board_in m) x.number x.block x.costs passes in
-        (sym (no-notice s b (coming_of x) fit on alike-costs.2 x.block), same-made s b (coming_of x) fit on alike-costs.2 x.block, λ _. refl)
-
     pub plan-idle : {lent : ℕ} {p : ChangePlan} → KeepsMoves head x accepted_verdict p → Planned x m lent p
     unfolding rows_answer
     plan-idle {lent} {p} k =
-        let own = by_kind x.kind refl in
+        let own = idle-by s b x w e ok same in
         keeps-planned k
         (foreseen-judged _ _ _ m lent p.need p.opened s.sound accepted_verdict (not-refused ok) (none_needed p.need lent k.need) (k.need ∙ ap length own.0) (λ t _. k.opened ∙ own.2 t))
         (λ _. own.0) (λ _. s.size) (λ _. own.1) (λ _. giveable)
 
   module _ (different : alike c d n (exchange_of x g) m ≡ false) where
     other : Other c d n (exchange_of x g) m
+    unfolding alike
     other =
         record {
-          costs = λ y e l q.
-              let w = if-came (comes x.kind) e in
+          costs = λ y f l q.
               both_ways
-              (ap₂ ◌&&◌ w.0 (ap₂ ◌&&◌ (lt-ltb g n l) (ap (equal x.costs) (q ∙ ap (λ (z : Move). z.costs) (sym w.1)) ∙ equal-refl x.costs)))
-              (sym alike-is ∙ different);
+              (ap₂ ◌&&◌ (lt-ltb g n l) (ap (equal y.costs) q ∙ equal-refl y.costs))
+              (ap (λ (o : Option Move). option_map_or (λ z. ltb g n && equal z.costs (costs_in c d m (number_in c m g))) o false) (sym f) ∙ different);
         }
 
-    -- A change that is made changes something.
-    never-nothing : (kind : Kind) → x.kind ≡ kind → keeps_moves (board_in m) (change_of kind x.number x.block x.costs) ≡ false
-    unfolding change_of keeps_moves unchanged alike comes
-    never-nothing Enter k = refl
-    never-nothing Withdraw k = refl
-    never-nothing Recost k =
-        let passes = sym (ap (λ (kind : Kind). change_refusal (board_in m) (change_of kind x.number x.block x.costs)) k) ∙ ok in
-        let f : comes x.kind ≡ true = ap comes k in
-        let l : g < n = recost-place s b (coming_of x) x.block w e passes in
-        let own = board-moves c d n m s in
-        let on = ap (on_board x.number) (sym own) ∙ recost-on (board_in m) x.number x.block x.costs passes in
-        ap (equal x.costs) (ap (costs_on x.number) own ∙ costs-board c d n m x.number on ∙ ap (costs_in c d m) (sym (ready.number (coming_of x) (came f) l)))
-        ∙ sym (ap₂ (λ (p q : Bool). p && (q && equal x.costs (costs_in c d m (number_in c m g)))) f (lt-ltb g n l))
-        ∙ sym alike-is
-        ∙ different
-
-    -- A withdrawal reports the nodes opened, the others none.
-    kind-opens : {u : Upkeep} → UpkeptRows c d n (exchange_of x g) m u → (kind : Kind) → x.kind ≡ kind → (t : Tree) → Stands m t
-        → cond (comes kind) 0 u.opened ≡ change_opens (dimension_in m) (change_of kind x.number x.block x.costs) t
-    unfolding change_of change_opens comes
-    kind-opens up Enter k t stands = refl
-    kind-opens up Withdraw k t stands =
-        let l = ready.place (ap (λ (t : Bool). cond t (Some (coming_of x)) None) (ap comes k)) in
-        up.opened l t stands ∙ (λ i. withdraw_opens (s.dimension i) (e.found l i) t)
-    kind-opens up Recost k t stands = refl
-
     pub plan-full : {lent : ℕ} {u : Upkeep} (up : UpkeptRows c d n (exchange_of x g) m u) {place : ℕ} (q : PlaceRows c d n (exchange_of x g) m place) {need : ℕ} → need ≡ needed_rows u
-        → (v : Verdict) → answer_of v ≡ rows_answer need lent → {opened : ℕ} → opened ≡ cond (comes x.kind) 0 u.opened
+        → (v : Verdict) → answer_of v ≡ rows_answer need lent → {opened : ℕ} → opened ≡ cond (is_some (coming_of x)) 0 u.opened
         → Planned x m lent (record { verdict = v; need = need; opened = opened; places = Some (record { goes = g; comes = place }); head = head; change = x; upkeep = u })
     unfolding needed_rows
     plan-full {lent} {u} up {place} q {need} is v answer {opened} shown =
         let a = ready.asked in
+        let none-listed : coming_of x ≡ None → u.listed ≡ false =
+        λ f. up.listed ∙ ap (λ (o : Option Move). option_map_or (λ y. not (hidden d (moves_after d (exchange_of x g) (moves_in (line_from c d n m))) (as_move y))) o false) f in
         let places : Places = record { goes = g; comes = place } in
-        let moves = kind-moves s b (coming_of x) x.block w e x.kind ok in
-        let notice = rows-notice a b other up q (coming_of x) own ∙ call-notice (exchange_of x g) s call moves in
-        let needs : need ≡ length (change_notice (board_in m) call) = is ∙ rows-needed a b other up q (coming_of x) own ∙ ap length (call-notice (exchange_of x g) s call moves) in
+        let moves = kind-moves s b x w e ok in
+        let notice = rows-notice a b other up q entrant own ∙ call-notice (exchange_of x g) s call moves in
+        let needs : need ≡ length (change_notice (board_in m) call) = is ∙ rows-needed a b other up q entrant own ∙ ap length (call-notice (exchange_of x g) s call moves) in
         let few = few-refuses need lent (number_of v) (ap (λ (a : calls.Answer). a.number) answer) in
-        let left = count_left a b other up q (coming_of x) own in
-        let rest : need - u.left ≡ length (entered_rows a b other up q (coming_of x) own) = omega (arith, is, count-entered a b other up q (coming_of x) own) in
+        let left = count_left a b other up q entrant own in
+        let rest : need - u.left ≡ length (entered_rows a b other up q entrant own) = omega (arith, is, count-entered a b other up q entrant own) in
         record {
-          foreseen = foreseen-judged _ _ _ m lent need opened s.sound v (not-refused ok) answer needs (λ t stands. shown ∙ kind-opens up x.kind refl t stands);
-          lefts = left_rows a b other up q (coming_of x) own;
-          entereds = entered_rows a b other up q (coming_of x) own;
+          foreseen = foreseen-judged _ _ _ m lent need opened s.sound v (not-refused ok) answer needs (λ t stands. shown ∙ kind-opens s b x w e ok up t stands);
+          lefts = left_rows a b other up q entrant own;
+          entereds = entered_rows a b other up q entrant own;
           notice = λ _. notice;
           leaves =
               record {
-                rows = λ _. rows_left a b other up q (coming_of x) own;
+                rows = λ _. rows_left a b other up q entrant own;
                 count = λ z. counted-all (number_of v) u.left z ∙ left;
                 none = λ h. counted_none (number_of v) u.left h;
                 asked = λ _. record { readable = held-readable s; place = omega arith };
               };
           enters =
-              record {
-                rows = λ _. rows-entered a b other up q (coming_of x) own;
+              subst
+              (λ (o : Option Coming). Tells v (entered_rows a b other up q entrant own) m (record { told = entering_by head o; numbers = u.changed; count = counted (number_of v) (need - u.left) }))
+              (sym (coming-as (coming_of x) u.listed place _ none-listed))
+              (record {
+                rows = λ _. rows-entered a b other up q entrant own;
                 count = λ z. counted-all (number_of v) (need - u.left) z ∙ rest;
                 none = λ h. counted_none (number_of v) (need - u.left) h;
-                asked = λ _. record { readable = held-readable s; place = coming-within u.listed place n (coming_of x) q.within };
-              };
+                asked = λ _. record { readable = held-readable s; place = coming-within u.listed place n entrant q.within };
+              });
           within = omega (arith, is);
           enough = counted-parts (number_of v) u.left need lent (omega (arith, is)) few;
           able =
               record {
                 moves = λ _.
-                    only (λ (y : Places). PreparedFor x.kind head x y.goes u m)
-                    (kind-prepared s b (coming_of x) x.block w e x.kind ok (λ f l. other.costs (coming_of x) (came f) l) up);
+                    only (λ (y : Places). PreparedFor x head y.goes u m) (kind-prepared s b x w e ok other.costs up);
                 block = λ _. giveable;
               };
           change = refl;
           size = λ _. s.size;
           idle = λ _ f. never (λ _. Made call m m) places (sym f);
-          nothing = λ _ same _. both_ways same (never-nothing x.kind refl);
+          nothing = λ _ same _. both_ways same (never-nothing s b x w e ok different);
         }

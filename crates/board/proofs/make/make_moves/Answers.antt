@@ -1,9 +1,7 @@
 -- `make::make_moves` meets its contract. Assumes nothing.
-use mathlib.Core.Path.{refl, sym, subst}
-use Rattle.dominance.specs.declared.Move.{Move}
-use Rattle.planning.specs.Change.{ToEnter, ToRecost}
+use mathlib.Core.Path.{refl}
 use Rattle.planning.specs.Plan.{PreparedFor}
-use Rattle.board.specs.Laws.CarryOut.{prepared-for, moves-made, enter-as, withdraw-as, recost-as}
+use Rattle.board.specs.Laws.CarryOut.{prepared-for, moves-made, withdraw-as}
 use Rattle.board.proofs.make.make_moves.Goals as goal
 
 pub returns-in_default : goal.returns-in_default
@@ -12,43 +10,33 @@ returns-in_default c = record { made = λ x e. absurd (c.in_default.not-Some x e
 pub make_enter-requires : goal.make_enter-requires
 unfolding PreparedFor
 make_enter-requires c =
-    let a = c.args in
-    subst (λ (x : Move). ToEnter a.p.head.size a.p.head.dimension a.p.head.count x a.p.upkeep a.m.now) (sym c.coming_of-x.ensures)
-    (prepared-for a.p a.m.now c.requires c.in-Some.places c.in-Some.is c.in-Enter.is)
+    prepared-for c.args.p c.args.m.now c.requires c.in-Some.places c.in-Some.is c.in-Enter.is
 
 pub make_withdraw-requires : goal.make_withdraw-requires
 unfolding PreparedFor
 make_withdraw-requires c =
-    let a = c.args in
-    (prepared-for a.p a.m.now c.requires c.in-Some.places c.in-Some.is c.in-Withdraw.is).0
+    (prepared-for c.args.p c.args.m.now c.requires c.in-Some.places c.in-Some.is c.in-Withdraw.is).0
 
 pub make_recost-requires : goal.make_recost-requires
 unfolding PreparedFor
 make_recost-requires c =
-    let a = c.args in
-    subst (λ (x : Move). ToRecost a.p.head.size a.p.head.dimension a.p.head.count c.in-Some.places.goes x a.p.upkeep a.m.now) (sym c.coming_of-x.ensures)
-    (prepared-for a.p a.m.now c.requires c.in-Some.places c.in-Some.is c.in-Recost.is)
+    prepared-for c.args.p c.args.m.now c.requires c.in-Some.places c.in-Some.is c.in-Recost.is
 
 pub returns-in-Enter : goal.returns-in-Enter
 returns-in-Enter c =
-    let a = c.args in
-    moves-made a.p a.m.now c.requires c.in-Some.places c.in-Some.is c.in-Enter.is
-    (enter-as c.coming_of-x.result a.p.change c.coming_of-x.ensures c.make_enter.ensures)
+    moves-made c.args.p c.args.m.now c.requires c.in-Some.places c.in-Some.is c.in-Enter.is (c.make_enter.ensures c.in-Enter.block)
 
 pub returns-in-Withdraw : goal.returns-in-Withdraw
 unfolding PreparedFor
 returns-in-Withdraw c =
     let a = c.args in
-    let kind = c.in-Withdraw.is in
-    let number = (prepared-for a.p a.m.now c.requires c.in-Some.places c.in-Some.is kind).1 in
-    moves-made a.p a.m.now c.requires c.in-Some.places c.in-Some.is kind
-    (withdraw-as a.p.head.size c.in-Some.places.goes a.p.change number c.make_withdraw.ensures)
+    let number = (prepared-for a.p a.m.now c.requires c.in-Some.places c.in-Some.is c.in-Withdraw.is).1 in
+    moves-made a.p a.m.now c.requires c.in-Some.places c.in-Some.is c.in-Withdraw.is
+    (withdraw-as a.p.head.size c.in-Some.places.goes number c.make_withdraw.ensures)
 
 pub returns-in-Recost : goal.returns-in-Recost
 returns-in-Recost c =
-    let a = c.args in
-    moves-made a.p a.m.now c.requires c.in-Some.places c.in-Some.is c.in-Recost.is
-    (recost-as c.coming_of-x.result a.p.change c.coming_of-x.ensures c.make_recost.ensures)
+    moves-made c.args.p c.args.m.now c.requires c.in-Some.places c.in-Some.is c.in-Recost.is (c.make_recost.ensures c.in-Recost.block)
 
 pub shape_of-m-in-Enter : goal.shape_of-m-in-Enter
 shape_of-m-in-Enter c = (returns-in-Enter c).length

@@ -1,7 +1,6 @@
 -- `serving::answer` meets its contract. Assumes nothing.
 use mathlib.Core.Path.{refl, ap}
-use Rattle.planning.specs.Kind.{change_of}
-use Rattle.framing.specs.Laws.Serving.{ready-most, answers-line, asked-now, change-frame, serve-as, served-early, served-wrong}
+use Rattle.framing.specs.Laws.Serving.{ready-most, answers-line, asked-now, serve-as, served-early, served-wrong}
 use Rattle.frame_lines.specs.Reading.{as_frame, calling}
 use Rattle.framing.proofs.serving.answer.Goals as goal
 
@@ -53,19 +52,19 @@ returns-in-Wrong c =
     (serve-as (ap as_frame c.in-Wrong.is) (served-wrong _ _ _ _ _ c.put_refusal-answered-in-Wrong.ensures))
 
 pub returns-in-Enter : goal.returns-in-Enter
-unfolding as_frame change_of
+unfolding as_frame
 returns-in-Enter c =
     answers-line c.args.d c.args.line c.frame_of.result _ _ _ _ _ c.requires.holds_state c.frame_of.ensures
-    (serve-as (change-frame c.in-Enter.is c.asked.ensures refl) c.change-answered.ensures)
+    (serve-as (ap as_frame c.in-Enter.is) c.change-answered.ensures)
 
 pub returns-in-Withdraw : goal.returns-in-Withdraw
-unfolding as_frame change_of
+unfolding as_frame
 returns-in-Withdraw c =
     answers-line c.args.d c.args.line c.frame_of.result _ _ _ _ _ c.requires.holds_state c.frame_of.ensures
-    (serve-as (change-frame c.in-Withdraw.is c.asked-in-Withdraw.ensures refl) c.change-answered-in-Withdraw.ensures)
+    (serve-as (ap as_frame c.in-Withdraw.is) c.change-answered-in-Withdraw.ensures)
 
 pub returns-in-Recost : goal.returns-in-Recost
-unfolding as_frame change_of
+unfolding as_frame
 returns-in-Recost c =
     answers-line c.args.d c.args.line c.frame_of.result _ _ _ _ _ c.requires.holds_state c.frame_of.ensures
-    (serve-as (change-frame c.in-Recost.is c.asked-in-Recost.ensures refl) c.change-answered-in-Recost.ensures)
+    (serve-as (ap as_frame c.in-Recost.is) c.change-answered-in-Recost.ensures)
