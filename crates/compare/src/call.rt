@@ -1,6 +1,7 @@
 // The calls that the runs make on both boards.
 use crate::table::Row;
-use planning::Kind;
+use rows::ROW;
+use zorder::COSTS;
 
 // A change; a list; or a load to be refused, of a board of this size.
 #[derive(Clone, Copy)]
@@ -10,13 +11,10 @@ pub enum Call {
     Load(usize),
 }
 
-// A change of a number, with the block and the row that is to stand, and the rows lent.
+// A change, and the rows lent.
 #[derive(Clone, Copy)]
 pub struct Change {
-    pub kind: Kind,
-    pub number: u16,
-    pub block: u16,
-    pub row: Row,
+    pub asked: planning::Change,
     pub lent: usize,
 }
 
@@ -40,22 +38,29 @@ pub enum Query {
 }
 
 impl Change {
-    // Says whether a row is to stand: of a withdrawal block and row are not looked at.
-    pub fn comes(self) -> bool {
-        !matches!(self.kind, Kind::Withdraw)
-    }
-
     // Gives the row that is to stand, if one is.
     pub fn coming(self) -> Option<Row> {
-        if self.comes() { Some(self.row) } else { None }
+        let coming = self.asked.coming()?;
+        let mut r = [0u16; ROW];
+        r[1] = coming.number;
+        for j in 0..COSTS {
+            r[2 + j] = coming.costs[j];
+        }
+        Some(r)
     }
 
     // Gives the letter that a change is printed by.
     pub fn letter(self) -> u8 {
-        match self.kind {
-            Kind::Enter => b'e',
-            Kind::Withdraw => b'w',
-            Kind::Recost => b'c',
+        match self.asked {
+            planning::Change::Enter {
+                coming: _,
+                block: _,
+            } => b'e',
+            planning::Change::Withdraw { number: _ } => b'w',
+            planning::Change::Recost {
+                coming: _,
+                block: _,
+            } => b'c',
         }
     }
 }

@@ -4,8 +4,9 @@ use crate::call::{Call, Change, Query, Read};
 use crate::plain::{Plain, find};
 use crate::table::{Area, Row, Table, number_of, row_at};
 use crate::week::{bad_block, block_of};
-use planning::Kind;
+use dominance::Move;
 use rows::ROW;
+use std::array;
 use zorder::COSTS;
 
 // Gives the number after s.
@@ -56,13 +57,15 @@ fn number(b: Plain, t: &Table, n: usize, growing: bool) -> u16 {
 }
 
 // A number on the board is withdrawn or re-costed, another entered; at times the other way round.
-fn kind(n: usize, present: bool, growing: bool) -> Kind {
+fn asked(n: usize, present: bool, growing: bool, coming: Move, block: u16) -> planning::Change {
     if present == (n % 12 == 0) {
-        Kind::Enter
+        planning::Change::Enter { coming, block }
     } else if n % 96 < if growing { 12 } else { 50 } {
-        Kind::Withdraw
+        planning::Change::Withdraw {
+            number: coming.number,
+        }
     } else {
-        Kind::Recost
+        planning::Change::Recost { coming, block }
     }
 }
 
@@ -80,14 +83,13 @@ fn lent(b: Plain, n: usize) -> usize {
 fn change(b: Plain, t: &Table, s: usize, growing: bool) -> Change {
     let n = s / 65536;
     let number = number(b, t, n, growing);
-    let kind = kind(s, find(t, b.n, number).is_some(), growing);
     let row = row(s, number, if n % 24 == 0 { COSTS } else { b.d }, b.style);
     let past = if n % 32 == 5 { 64 } else { 0 };
+    let costs = array::from_fn(|j| row[j + 2]);
+    let coming = Move { number, costs };
+    let present = find(t, b.n, number).is_some();
     Change {
-        kind,
-        number,
-        block: block_of(row) | past,
-        row,
+        asked: asked(s, present, growing, coming, block_of(row) | past),
         lent: lent(b, n / 32),
     }
 }

@@ -4,7 +4,6 @@ use crate::plain::{Plain, exchange, find, kept, listed, notice, rank_all};
 use crate::rules::{ALL, Test};
 use crate::table::{Area, Row, Table, put_row, row_at};
 use crate::week::is_shut;
-use planning::Kind;
 use rows::ROW;
 
 // Whether a cost past the first d is not zero.
@@ -14,12 +13,18 @@ fn costs_past(d: usize, r: Row) -> bool {
 
 // What turns a change down, but for 3 and 8.
 fn judge(b: Plain, x: Change, present: bool) -> Result<(), usize> {
-    let enters = matches!(x.kind, Kind::Enter);
-    if b.c <= usize::from(x.number) {
+    let enters = matches!(
+        x.asked,
+        planning::Change::Enter {
+            coming: _,
+            block: _
+        }
+    );
+    if b.c <= usize::from(x.asked.number()) {
         Err(4)
-    } else if x.comes() && 63 < x.block {
+    } else if x.asked.block().is_some_and(|block| 63 < block) {
         Err(11)
-    } else if x.comes() && costs_past(b.d, x.row) {
+    } else if x.coming().is_some_and(|r| costs_past(b.d, r)) {
         Err(7)
     } else if enters != present {
         Ok(())
@@ -45,7 +50,7 @@ fn make(b: Plain, t: &mut Table, x: Change, old: Option<Row>) -> Plain {
 }
 
 fn change(b: Plain, t: &mut Table, x: Change) -> Plain {
-    let old = find(t, b.n, x.number);
+    let old = find(t, b.n, x.asked.number());
     match judge(b, x, old.is_some()) {
         Ok(()) => make(b, t, x, old),
         Err(refusal) => b.refused(refusal, 0),
@@ -55,7 +60,7 @@ fn change(b: Plain, t: &mut Table, x: Change) -> Plain {
 // Gives what a preview is to answer: that of the change, made and undone. The row past the last is
 // put back too, since the dice may read it.
 pub fn foreseen(b: Plain, t: &mut Table, x: Change) -> Plain {
-    let old = find(t, b.n, x.number);
+    let old = find(t, b.n, x.asked.number());
     let past = row_at(t, Area::Board, b.n);
     let after = expect(b, t, Call::Change(x));
     if after.answer.accepts() {

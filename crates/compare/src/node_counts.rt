@@ -4,7 +4,6 @@ use crate::call::{Call, Change, Query, Read};
 use crate::plain::{Plain, find};
 use crate::rules::{ALL, Part, Test, beats, count, nowhere_greater};
 use crate::table::{Area, Row, Table, row_at, unlike};
-use planning::Kind;
 use zorder::COSTS;
 
 // What opens a node: of these rows only the going one may beat its near corner, and that one is
@@ -117,8 +116,7 @@ pub fn opened(m: &[u8], b: Plain, t: &Table, k: Call) -> usize {
         ) => opened_by(m, b, t, list),
         Call::Change(
             Change {
-                kind: Kind::Withdraw,
-                number,
+                asked: planning::Change::Withdraw { number },
                 ..
             },
         ) => withdrawn(m, b, t, number),

@@ -2,20 +2,23 @@
 use crate::said::Said;
 use crate::told::put_change;
 use crate::values::{move_at, value_before};
-use crate::word::Asks;
+use crate::word::{Asks, Kind};
 use board::carry_out;
+use dominance::Move;
 use planning::{Change, plan_change};
 use std::io;
 
 // A change and its preview ask the same.
 fn asked(values: &[u64], x: Asks) -> Change {
     let given = move_at(values, 0, x.block);
+    let number = given.number;
+    let block = given.block;
     let costs = given.costs;
-    Change {
-        kind: x.kind,
-        number: given.number,
-        block: given.block,
-        costs,
+    let coming = Move { number, costs };
+    match x.kind {
+        Kind::Enter => Change::Enter { coming, block },
+        Kind::Withdraw => Change::Withdraw { number },
+        Kind::Recost => Change::Recost { coming, block },
     }
 }
 

@@ -1,6 +1,4 @@
 // What the word of a line asks.
-use planning::Kind;
-
 #[derive(Clone, Copy)]
 pub enum Word {
     // Whether each move has a block.
@@ -14,6 +12,13 @@ pub enum Word {
     Pair(Pair),
     // A tree is no call, the others ask calls that are not there yet.
     Passed,
+}
+
+#[derive(Clone, Copy)]
+pub enum Kind {
+    Enter,
+    Withdraw,
+    Recost,
 }
 
 // Which change, whether its move has a block, and whether the nodes opened are told.

@@ -8,7 +8,9 @@ use Rattle.promises.specs.Layout.{number_in}
 use Rattle.promises.specs.Answers.{number_of}
 use Rattle.memory.specs.Stores.{set_block}
 use Rattle.planning.specs.Kind.{call_of, asked_number, given_block}
-use Rattle.planning.specs.Change.{Made, WithdrawMade}
+use Rattle.dominance.specs.Move.{as_move}
+use Rattle.dominance.specs.declared.Move.{Move}
+use Rattle.planning.specs.Change.{Made, EnterMade, WithdrawMade, RecostMade}
 use Rattle.planning.specs.Plan.{MovesReady, MovesMade, CarriedOut, PreparedFor}
 use Rattle.planning.specs.declared.change.Change.{Change}
 use Rattle.planning.specs.declared.change.Change.TheVariants.{Enter, Withdraw, Recost}
@@ -36,7 +38,13 @@ module _ (p : ChangePlan) (m : List ℕ) (ready : MovesReady p m) (q : Places) (
         length = (made.kept sound.tree sound.stands).only.length;
       }
 
--- The withdrawal of the move at a place is that of its number.
+-- The change of moves as it is asked: of the move that comes, into any block; of the number that goes.
+pub enter-as : {m m' : List ℕ} (coming : Move) (block : ℕ) → EnterMade (as_move coming) m m' → Made (call_of (Enter coming block)) m m'
+enter-as coming block made = made block
+
+pub recost-as : {m m' : List ℕ} (coming : Move) (block : ℕ) → RecostMade (as_move coming) m m' → Made (call_of (Recost coming block)) m m'
+recost-as coming block made = made block
+
 pub withdraw-as : {m m' : List ℕ} (c p : ℕ) {number : ℕ} → number_in c m p ≡ number → WithdrawMade c p m m' → Made (calls.withdraw number) m m'
 withdraw-as {m} {m'} c p e made = subst (λ (n : ℕ). Made (calls.withdraw n) m m') e made
 
