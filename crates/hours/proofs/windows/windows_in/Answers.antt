@@ -13,8 +13,10 @@ use Rattle.hours.proofs.windows.windows_in.Goals as goal
 pub returns : goal.returns
 returns c =
     let entry = c.args.entry in
-    let slots : ℕ → _ = tab (window_at entry) in
-    (elim (cases_lt (get_or entry 0 0) 4) [
-      | inl few ↦ few-windows entry few ∙ ap slots (omega (arith, few))
-      | inr all ↦ all-windows entry all ∙ ap slots (omega (arith, all))
-    ], omega arith)
+    let slots : ℕ → _ = tab (window_at entry) in (
+      elim (cases_lt (get_or entry 0 0) 4) [
+        | inl few ↦ few-windows entry few ∙ ap slots (omega (arith, few))
+        | inr all ↦ all-windows entry all ∙ ap slots (omega (arith, all))
+      ],
+      omega arith,
+    )
