@@ -1,6 +1,6 @@
 -- What a plan of a change says, and what carrying it out asks and leaves.
 use Rattle.std.specs.Prelude.{ℕ, ◌+◌, ◌-◌, ◌<◌, ◌≤◌, Bool, true, false, cond, ◌&&◌, Option, None, Some, ◌≡◌, List, ◌++◌, ltb, length}
-use Rattle.std.specs.Option.{ForSome, ForNone, option_map_or, option_and_then}
+use Rattle.std.specs.Option.{ForSome, ForNone, option_map_or}
 use Rattle.model.specs.Basics.{equal}
 use Rattle.model.specs.Moves.{Row, left, entered}
 use Rattle.model.specs.Calls.{refused_with, change_refusal, change_notice, keeps_moves}
@@ -16,7 +16,7 @@ use Rattle.memory.specs.declared.head.Head.{Head}
 use Rattle.upkeep.specs.Change.{AskedRows}
 use Rattle.upkeep.specs.declared.exchange.Upkeep.{Upkeep}
 use Rattle.upkeep.specs.declared.exchange.Exchange.{Exchange}
-use Rattle.rows.specs.Telling.{filled_rows}
+use Rattle.rows.specs.Telling.{nobody, filled_rows}
 use Rattle.rows.specs.Planned.{Foreseen, Tells}
 use Rattle.rows.specs.declared.telling.Coming.{Coming}
 use Rattle.rows.specs.declared.telling.View.{View}
@@ -80,9 +80,9 @@ pub record CarriedOut (p : ChangePlan) (m m' : List ℕ) : Type 0 where
 
 -- The listed moves whose flag changes leave; the hidden ones enter, and the coming one.
 abbrev pub leaving_by : Head → View
-leaving_by h = record { head = h; mark = left; among = Listed; coming = None }
+leaving_by h = record { head = h; mark = left; among = Listed; coming = nobody }
 
-abbrev pub entering_by : Head → Option Coming → View
+abbrev pub entering_by : Head → Coming → View
 entering_by h x = record { head = h; mark = entered; among = Hidden; coming = x }
 
 abbrev pub left_of : ChangePlan → Telling
@@ -93,11 +93,12 @@ left_of p =
       count = counted (number_of p.verdict) p.upkeep.left;
     }
 
-abbrev pub coming_if : Bool → ℕ → Move → Option Coming
-coming_if told place x = cond told (Some (record { place = place; entrant = x })) None
+-- Of a plan that changes no move the place is 0.
+abbrev pub coming_if : Bool → ℕ → Option Move → Coming
+coming_if told place x = record { place = place; entrant = cond told x None }
 
-abbrev pub coming_in : ChangePlan → Option Coming
-coming_in p = option_and_then (λ x. option_and_then (λ entrant. coming_if p.upkeep.listed x.comes entrant) (coming_of p.change)) p.places
+abbrev pub coming_in : ChangePlan → Coming
+coming_in p = coming_if p.upkeep.listed (option_map_or (λ x. x.comes) p.places 0) (coming_of p.change)
 
 abbrev pub entered_of : ChangePlan → Telling
 entered_of p =

@@ -4,7 +4,7 @@ ghost use Rattle.planning.specs.Plan.{left_of, coming_in, entered_of};
 
 use crate::plan::ChangePlan;
 use promises::counted;
-use rows::{Coming, Telling, View};
+use rows::{Coming, Telling, View, nobody};
 use search::Among;
 
 // Gives the listed moves whose flag changes.
@@ -19,26 +19,27 @@ pub fn left_of(p: ChangePlan) -> Telling
             head,
             mark: 1,
             among: Among::Listed,
-            coming: None,
+            coming: nobody(),
         },
         numbers,
         count: counted(verdict, p.upkeep.left),
     }
 }
 
-// The coming move, if it is listed.
-fn coming_in(p: ChangePlan) -> Option<Coming>
+// The coming move, if it is listed, at its place.
+fn coming_in(p: ChangePlan) -> Coming
     ensures { result ≡ coming_in p }
 {
-    let places = p.places?;
-    let entrant = p.change.coming()?;
-    if !p.upkeep.listed {
-        return None;
-    }
-    Some(Coming {
-        place: places.comes,
-        entrant,
-    })
+    let place = match p.places {
+        Some(places) => places.comes,
+        None => 0,
+    };
+    let entrant = if p.upkeep.listed {
+        p.change.coming()
+    } else {
+        None
+    };
+    Coming { place, entrant }
 }
 
 // Gives the hidden moves whose flag changes, and the coming one.

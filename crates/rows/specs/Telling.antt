@@ -15,20 +15,13 @@ use Rattle.numbers.specs.Set.{in_set}
 use Rattle.upkeep.specs.Change.{places_in}
 use Rattle.rows.specs.Rows.{move_numbers}
 use Rattle.rows.specs.declared.telling.Coming.{Coming}
+use Rattle.dominance.specs.declared.Move.{Move}
 use Rattle.rows.specs.declared.telling.View.{View}
 use Rattle.rows.specs.declared.telling.Telling.{Telling}
 
--- The place before which the coming move stands; past the last where none comes.
-abbrev pub place_in : ℕ → Option Coming → ℕ
-place_in past None = past
-place_in past (Some x) = x.place
-
-abbrev pub coming_place : View → ℕ
-coming_place t = place_in t.head.count t.coming
-
 pub record TellingAsked (t : View) (m : List ℕ) : Type 0 where
   pub readable : Readable t.head m
-  pub place : coming_place t ≤ t.head.count
+  pub place : t.coming.place ≤ t.head.count
 
 -- Whether the move at place i is told.
 unfoldable pub tells_place : View → List ℕ → List ℕ → ℕ → Bool
@@ -39,22 +32,25 @@ unfoldable pub rows_at : ℕ → ℕ → ℕ → List ℕ → List ℕ → List 
 rows_at c d mark places m = map (λ i. move_numbers mark (move_in c d m i)) places
 
 -- The coming move's row.
-unfoldable pub coming_rows : ℕ → Option Coming → List (List ℕ)
+unfoldable pub coming_rows : ℕ → Option Move → List (List ℕ)
 coming_rows mark None = []
-coming_rows mark (Some x) = move_numbers mark (as_move x.entrant) ∷ []
+coming_rows mark (Some x) = move_numbers mark (as_move x) ∷ []
 
 -- All rows, the coming move's at its place.
 unfoldable pub told_rows : View → List ℕ → List ℕ → List (List ℕ)
 told_rows t numbers m =
     let h = t.head in
-    let p = coming_place t in
+    let p = t.coming.place in
     rows_at h.size h.dimension t.mark (places_in 0 p (tells_place t numbers m)) m
-    ++ (coming_rows t.mark t.coming
+    ++ (coming_rows t.mark t.coming.entrant
     ++ rows_at h.size h.dimension t.mark (places_in p h.count (tells_place t numbers m)) m)
 
--- What a list tells: all moves of a set of numbers, as listed; no move comes.
+-- No move comes; and what a list tells: all moves of a set of numbers, as listed.
+abbrev pub nobody : Coming
+nobody = record { place = 0; entrant = None }
+
 abbrev pub listed_by : Head → View
-listed_by h = record { head = h; mark = listed; among = All; coming = None }
+listed_by h = record { head = h; mark = listed; among = All; coming = nobody }
 
 abbrev pub listing : Head → List ℕ → ℕ → Telling
 listing h numbers count = record { told = listed_by h; numbers = numbers; count = count }
@@ -70,12 +66,12 @@ unfoldable pub place_of : ℕ → ℕ → ℕ
 place_of p i = cond (ltb i p) i (i - 1)
 
 unfoldable pub told_at : View → List ℕ → List ℕ → ℕ → Bool
-told_at t numbers m i = cond (eqb i (coming_place t)) (is_some t.coming) (tells_place t numbers m (place_of (coming_place t) i))
+told_at t numbers m i = cond (eqb i t.coming.place) (is_some t.coming.entrant) (tells_place t numbers m (place_of t.coming.place i))
 
 unfoldable pub row_at : View → List ℕ → ℕ → List ℕ
 row_at t m i =
-    cond (eqb i (coming_place t)) (first_or (replicate (2 + row_costs) 0) (coming_rows t.mark t.coming))
-    (move_numbers t.mark (move_in t.head.size t.head.dimension m (place_of (coming_place t) i)))
+    cond (eqb i t.coming.place) (first_or (replicate (2 + row_costs) 0) (coming_rows t.mark t.coming.entrant))
+    (move_numbers t.mark (move_in t.head.size t.head.dimension m (place_of t.coming.place i)))
 
 abbrev pub told_row : View → List ℕ → List ℕ → ℕ → Option (List ℕ)
 told_row t numbers m i = cond (told_at t numbers m i) (Some (row_at t m i)) None

@@ -8,21 +8,21 @@ use memory::{Head, move_at, number_at};
 use numbers::{WORDS, empty, has};
 use search::{Among, looks};
 
-// The coming move of a notice stands before the move at its place.
+// The coming move of a notice stands before the move at its place. It may be that none is told: the
+// place is a position all the same.
 #[derive(Clone, Copy)]
 pub struct Coming {
     pub place: usize,
-    pub entrant: Move,
+    pub entrant: Option<Move>,
 }
 
-// Which moves of a set are told, all or the listed or the hidden ones, and under which mark; and a
-// coming move, if one is told: a list has none.
+// Which moves of a set are told, all or the listed or the hidden ones, and under which mark.
 #[derive(Clone, Copy)]
 pub struct View {
     pub head: Head,
     pub mark: u16,
     pub among: Among,
-    pub coming: Option<Coming>,
+    pub coming: Coming,
 }
 
 // `count` rows are told. The set goes by reference where rows are told one by one: it would be
@@ -41,6 +41,16 @@ pub struct Step {
     pub next: usize,
 }
 
+// No move comes: a list has none.
+pub fn nobody() -> Coming
+    ensures { result ≡ spec.nobody }
+{
+    Coming {
+        place: 0,
+        entrant: None,
+    }
+}
+
 // Gives the moves of these numbers, told as listed.
 pub(crate) fn listing_of(head: Head, numbers: [u64; WORDS], count: usize) -> Telling
     ensures { result ≡ spec.listing head numbers count }
@@ -50,7 +60,7 @@ pub(crate) fn listing_of(head: Head, numbers: [u64; WORDS], count: usize) -> Tel
             head,
             mark: 0,
             among: Among::All,
-            coming: None,
+            coming: nobody(),
         },
         numbers,
         count,
@@ -69,16 +79,6 @@ pub fn no_telling() -> Telling
     listing_of(head, empty(), 0)
 }
 
-// The place before which the coming move stands; past the last where none comes.
-fn coming_place(t: View) -> usize
-    ensures { result ≡ spec.coming_place t }
-{
-    match t.coming {
-        None => t.head.count,
-        Some(x) => x.place,
-    }
-}
-
 // Positions are the places of the board, with the coming move before its own.
 fn place_at(place: usize, i: usize) -> usize
     requires { i ≡ place → ⊥ }
@@ -93,10 +93,11 @@ fn told_at(m: &[u8], t: View, numbers: &[u64; WORDS], i: usize) -> Option<[u16; 
     ensures { result ≡ spec.told_row t numbers.now m.now i }
 {
     let h = t.head;
-    let place = coming_place(t);
+    let coming = t.coming;
+    let place = coming.place;
     if i == place {
-        let x = t.coming?;
-        return Some(row_of(x.entrant, t.mark));
+        let x = coming.entrant?;
+        return Some(row_of(x, t.mark));
     }
     let p = place_at(place, i);
     let number = number_at(m, h.size, p);

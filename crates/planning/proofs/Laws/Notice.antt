@@ -33,8 +33,7 @@ module _ {c d n : ℕ} {k : Exchange} {m : List ℕ} (a : AskedRows c d n k m) w
   pub upkeep-counted : {u : Upkeep} → UpkeptRows c d n k m u → Counted u
   upkeep-counted {u} v = record { left = few-counted _ u.left v.left; entered = few-counted _ u.entered v.entered }
 
-  module _ (b : Bytes m) (o : Other c d n k m) {u : Upkeep} (v : UpkeptRows c d n k m u) {p : ℕ} (q : PlaceRows c d n k m p)
-      (entrant : Move) (own : ForSome k.coming (λ x. entrant ≡ x)) where
+  module _ (b : Bytes m) (o : Other c d n k m) {u : Upkeep} (v : UpkeptRows c d n k m u) {p : ℕ} (q : PlaceRows c d n k m p) where
     other : ForSome k.coming (λ x. k.goes < n → move_in c d m k.goes ≡ as_move x → ⊥)
     unfolding move_in
     other x e l q = o.costs x e l (ap (λ (y : model.Move). y.costs) q)
@@ -56,16 +55,16 @@ module _ {c d n : ℕ} {k : Exchange} {m : List ℕ} (a : AskedRows c d n k m) w
     h = record { size = c; dimension = d; count = n }
 
     pub rows_left : map result_row (told_rows (leaving_by h) u.changed m) ≡ left_rows
-    rows_left = left-told c d n k m a.sound b a other p q.within q.is u v entrant own
+    rows_left = left-told c d n k m a.sound b a other p q.within q.is u v
 
-    pub rows-entered : map result_row (told_rows (entering_by h (coming_if u.listed p entrant)) u.changed m) ≡ entered_rows
-    rows-entered = entered-told c d n k m a.sound b a other p q.within q.is u v entrant own
+    pub rows-entered : map result_row (told_rows (entering_by h (coming_if u.listed p k.coming)) u.changed m) ≡ entered_rows
+    rows-entered = entered-told c d n k m a.sound b a other p q.within q.is u v
 
     pub count_left : u.left ≡ length left_rows
-    count_left = left-number c d n k m a.sound b a other p q.within q.is u v entrant own
+    count_left = left-number c d n k m a.sound b a other p q.within q.is u v
 
     pub count-entered : u.entered + cond u.listed 1 0 ≡ length entered_rows
-    count-entered = entered-number c d n k m a.sound b a other p q.within q.is u v entrant own
+    count-entered = entered-number c d n k m a.sound b a other p q.within q.is u v
 
     pub rows-notice : left_rows ++ entered_rows ≡ notice_by c d n k m
     unfolding notice_by

@@ -34,12 +34,10 @@ use Rattle.upkeep.specs.Change.{UpkeptRows, PlaceRows, moves_after}
 use Rattle.upkeep.specs.declared.exchange.Upkeep.{Upkeep}
 use Rattle.rows.specs.Planned.{Foreseen, Tells}
 use Rattle.rows.proofs.Planned.{foreseen-unsound, foreseen-refused, foreseen-judged, few-refuses, counted-all, counted_none}
-use Rattle.rows.specs.Telling.{place_in}
-use Rattle.rows.specs.declared.telling.Coming.{Coming}
 use Rattle.rows.specs.declared.telling.Telling.{Telling}
 use Rattle.planning.specs.Kind.{call_of, asked_number, coming_of, CostsOf, given_block, exchange_of}
 use Rattle.planning.specs.Change.{Other, needed_rows, Made}
-use Rattle.planning.specs.Plan.{alike, ReadyRows, PreparedFor, Giveable, Planned, KeepsMoves, coming_if, entering_by}
+use Rattle.planning.specs.Plan.{alike, ReadyRows, PreparedFor, Giveable, Planned, KeepsMoves}
 use Rattle.planning.proofs.Laws.Judge.{board-moves}
 use Rattle.planning.proofs.Laws.Coming.{only, never}
 use Rattle.planning.proofs.Laws.Places.{costs-board}
@@ -60,10 +58,6 @@ nothing-told e =
     record { rows = λ l. absurd (omega (arith, e)); count = λ _. e; none = λ _. e; asked = λ l. absurd (omega (arith, e)) }
 
 -- The coming move stands before the last place or after it, be it listed or not.
-coming-within : (told : Bool) (place n : ℕ) (x : Move) → place ≤ n → place_in n (coming_if told place x) ≤ n
-coming-within true place n x h = h
-coming-within false place n x h = omega arith
-
 -- The rows of two parts are no more than all.
 counted-parts : (k a n lent : ℕ) → a ≤ n → counted k n ≤ lent → counted k a + counted k (n - a) ≤ lent
 unfolding counted
@@ -126,11 +120,6 @@ plan-refused {m = m} s {r = r} judged {lent} k =
     (λ z. absurd (omega arith)) (λ z. absurd (omega arith)) (λ z. absurd (omega arith)) (λ z. absurd (omega arith))
 
 -- The coming move is told if it is listed: whoever else stands where none comes.
-coming-as : (o : Option Move) (listed : Bool) (place : ℕ) (y : Move) → (o ≡ None → listed ≡ false)
-    → option_and_then (λ x. coming_if listed place x) o ≡ coming_if listed place (unwrap_or o y)
-coming-as None listed place y f = sym (ap (λ (t : Bool). coming_if t place y) (f refl))
-coming-as (Some x) listed place y f = refl
-
 module _ {c d n g : ℕ} {m : List ℕ} (s : SoundRows c d n m) (b : Bytes m) where
   -- Only a re-cost has a move come for one that goes: here one with equal costs.
   idle-by : (x : Change) → CostsOf x → PlaceOf c n (asked_number x) m g → change_refusal (board_in m) (call_of x) ≡ 0 → alike c d n (exchange_of x g) m ≡ true
@@ -181,13 +170,6 @@ module _ {c d n g : ℕ} {m : List ℕ} (s : SoundRows c d n m) (b : Bytes m) (x
   pub ready : ReadyRows c d n (exchange_of x g) m
   ready = kind-ready s b x w e ok
 
-  -- The move that comes is that of the change.
-  abbrev entrant : Move
-  entrant = unwrap_or (coming_of x) (record { number = 0; costs = [] })
-
-  own : ForSome (coming_of x) (λ y. entrant ≡ y)
-  own y f = ap (λ (o : Option Move). unwrap_or o (record { number = 0; costs = [] })) f
-
   giveable : ForSome (given_block x) (λ block. Giveable c (asked_number x) block m)
   giveable block f =
       let k = kind-block s b x w e ok block f in
@@ -220,37 +202,32 @@ module _ {c d n g : ℕ} {m : List ℕ} (s : SoundRows c d n m) (b : Bytes m) (x
     unfolding needed_rows
     plan-full {lent} {u} up {place} q {need} is v answer {opened} shown =
         let a = ready.asked in
-        let none-listed : coming_of x ≡ None → u.listed ≡ false =
-        λ f. up.listed ∙ ap (λ (o : Option Move). option_map_or (λ y. not (hidden d (moves_after d (exchange_of x g) (moves_in (line_from c d n m))) (as_move y))) o false) f in
         let places : Places = record { goes = g; comes = place } in
         let moves = kind-moves s b x w e ok in
-        let notice = rows-notice a b other up q entrant own ∙ call-notice (exchange_of x g) s call moves in
-        let needs : need ≡ length (change_notice (board_in m) call) = is ∙ rows-needed a b other up q entrant own ∙ ap length (call-notice (exchange_of x g) s call moves) in
+        let notice = rows-notice a b other up q ∙ call-notice (exchange_of x g) s call moves in
+        let needs : need ≡ length (change_notice (board_in m) call) = is ∙ rows-needed a b other up q ∙ ap length (call-notice (exchange_of x g) s call moves) in
         let few = few-refuses need lent (number_of v) (ap (λ (a : calls.Answer). a.number) answer) in
-        let left = count_left a b other up q entrant own in
-        let rest : need - u.left ≡ length (entered_rows a b other up q entrant own) = omega (arith, is, count-entered a b other up q entrant own) in
+        let left = count_left a b other up q in
+        let rest : need - u.left ≡ length (entered_rows a b other up q) = omega (arith, is, count-entered a b other up q) in
         record {
           foreseen = foreseen-judged _ _ _ m lent need opened s.sound v (not-refused ok) answer needs (λ t stands. shown ∙ kind-opens s b x w e ok up t stands);
-          lefts = left_rows a b other up q entrant own;
-          entereds = entered_rows a b other up q entrant own;
+          lefts = left_rows a b other up q;
+          entereds = entered_rows a b other up q;
           notice = λ _. notice;
           leaves =
               record {
-                rows = λ _. rows_left a b other up q entrant own;
+                rows = λ _. rows_left a b other up q;
                 count = λ z. counted-all (number_of v) u.left z ∙ left;
                 none = λ h. counted_none (number_of v) u.left h;
                 asked = λ _. record { readable = held-readable s; place = omega arith };
               };
           enters =
-              subst
-              (λ (o : Option Coming). Tells v (entered_rows a b other up q entrant own) m (record { told = entering_by head o; numbers = u.changed; count = counted (number_of v) (need - u.left) }))
-              (sym (coming-as (coming_of x) u.listed place _ none-listed))
-              (record {
-                rows = λ _. rows-entered a b other up q entrant own;
+              record {
+                rows = λ _. rows-entered a b other up q;
                 count = λ z. counted-all (number_of v) (need - u.left) z ∙ rest;
                 none = λ h. counted_none (number_of v) (need - u.left) h;
-                asked = λ _. record { readable = held-readable s; place = coming-within u.listed place n entrant q.within };
-              });
+                asked = λ _. record { readable = held-readable s; place = q.within };
+              };
           within = omega (arith, is);
           enough = counted-parts (number_of v) u.left need lent (omega (arith, is)) few;
           able =

@@ -41,9 +41,7 @@ use Rattle.upkeep.specs.Change.{drop_at, moves_after, stays, places_in, AskedRow
 use Rattle.rows.specs.Rows.{move_numbers}
 use Rattle.rows.specs.Telling.{tells_place, rows_at, coming_rows, told_rows}
 use Rattle.rows.specs.declared.telling.View.{View}
-use Rattle.search.specs.declared.search.Among.TheVariants.{Listed, Hidden}
-use Rattle.rows.specs.Laws.Telling.{none-comes}
-use Rattle.upkeep.specs.Laws.Places.{places-join, place-below, below-place}
+use Rattle.upkeep.specs.Laws.Places.{place-below, below-place}
 use Rattle.upkeep.specs.Laws.Change.{line-places, rest-places}
 use Rattle.upkeep.specs.Laws.Place.{place-low, place-high}
 use Rattle.upkeep.specs.Laws.Notified.{Places, stay, left-places, entered-after, entered-rest, entered-coming}
@@ -259,8 +257,7 @@ module _ (c d n : ℕ) (k : Exchange) (m : List ℕ) (s : SoundRows c d n m) (b 
         ap (λ (ms : List Move). gone (skyline d after) (skyline d ms)) (line-places c d n m)
         ∙ either-part k.coming refl
 
-    -- What is told of the coming move: `entrant` is that one, if one comes.
-    module _ (u : Upkeep) (v : UpkeptRows c d n k m u) (entrant : dominance.Move) (own : ForSome k.coming (λ x. entrant ≡ x)) where
+    module _ (u : Upkeep) (v : UpkeptRows c d n k m u) where
       abbrev head : Head
       head = record { size = c; dimension = d; count = n }
 
@@ -286,7 +283,8 @@ module _ (c d n : ℕ) (k : Exchange) (m : List ℕ) (s : SoundRows c d n m) (b 
           ∙ ap (λ (q : ℕ). select (λ i. is_listed c m i && not (stay_at i)) (numbers_from 0 q)) (sub-zero n)
 
       left-rows : told_rows (leaving_by head) u.changed m ≡ rows_at c d left (places_in 0 n (tells_place (leaving_by head) u.changed m)) m
-      left-rows = none-comes head left Listed u.changed m
+      unfolding told_rows coming_rows rows_at places_in select numbers_from
+      left-rows = refl
 
       pub left-told : map result_row (told_rows (leaving_by head) u.changed m) ≡ map (row_of left) (gone (skyline d before) (skyline d after))
       left-told =
@@ -305,7 +303,7 @@ module _ (c d n : ℕ) (k : Exchange) (m : List ℕ) (s : SoundRows c d n m) (b 
       -- ---- who enters
 
       abbrev entering : View
-      entering = entering_by head (coming_if u.listed p entrant)
+      entering = entering_by head (coming_if u.listed p k.coming)
 
       part-entered : (i : ℕ) → i < n → tells_place entering u.changed m i ≡ enters i
       unfolding tells_place looks_at looks is_listed stays stay
@@ -319,40 +317,40 @@ module _ (c d n : ℕ) (k : Exchange) (m : List ℕ) (s : SoundRows c d n m) (b 
       last-chosen : places_in p n (tells_place entering u.changed m) ≡ select enters (numbers_from p (n - p))
       last-chosen = chosen-places (tells_place entering u.changed m) enters part-entered p n f (omega arith)
 
-      -- The rows up to the coming move's place, its own if it is listed, and those from there on.
-      parts : (t : Bool) → let test = tells_place (entering_by head (coming_if t p entrant)) u.changed m in
-          told_rows (entering_by head (coming_if t p entrant)) u.changed m
-          ≡ rows_at c d entered (places_in 0 p test) m ++ (cond t (move_numbers entered (as_move entrant) ∷ []) [] ++ rows_at c d entered (places_in p n test) m)
-      unfolding told_rows coming_rows rows_at
-      parts true = refl
-      parts false =
-          let test = tells_place (entering_by head None) u.changed m in
-          none-comes head entered Hidden u.changed m
-          ∙ ap (λ (is : List ℕ). rows_at c d entered is m) (places-join test 0 p n (omega arith) f)
-          ∙ map-append (λ i. move_numbers entered (move_in c d m i)) (places_in 0 p test) (places_in p n test)
-
+      -- The coming move's row, if it is listed.
       one_told : (t : Bool) (x : Move) → map result_row (cond t (move_numbers entered x ∷ []) []) ≡ map (row_of entered) (cond t (x ∷ []) [])
       unfolding result_row move_numbers row_of
       one_told true x = refl
       one_told false x = refl
 
-      coming-told : (o : Option dominance.Move) → u.listed ≡ option_map_or (λ x. not (hidden d after (as_move x))) o false → ForSome o (λ x. entrant ≡ x)
-          → map result_row (cond u.listed (move_numbers entered (as_move entrant) ∷ []) []) ≡ map (row_of entered) (listed_of o)
-      coming-told None e _ = ap (λ (t : Bool). map result_row (cond t (move_numbers entered (as_move entrant) ∷ []) [])) e
-      coming-told (Some y) e same =
-          one_told u.listed (as_move entrant)
-          ∙ (λ i. map (row_of entered) (cond (e i) (as_move (same y refl i) ∷ []) []))
+      one_row : (t : Bool) (y : dominance.Move) → coming_rows entered (cond t (Some y) None) ≡ cond t (move_numbers entered (as_move y) ∷ []) []
+      unfolding coming_rows
+      one_row true y = refl
+      one_row false y = refl
+
+      no_row : (t : Bool) → coming_rows entered (cond t None None) ≡ []
+      unfolding coming_rows
+      no_row true = refl
+      no_row false = refl
+
+      coming-told : (o : Option dominance.Move) → u.listed ≡ option_map_or (λ x. not (hidden d after (as_move x))) o false
+          → map result_row (coming_rows entered (cond u.listed o None)) ≡ map (row_of entered) (listed_of o)
+      coming-told None e = ap (map result_row) (no_row u.listed)
+      coming-told (Some y) e =
+          ap (map result_row) (one_row u.listed y)
+          ∙ one_told u.listed (as_move y)
+          ∙ ap (λ (t : Bool). map (row_of entered) (cond t (as_move y ∷ []) [])) e
 
       pub entered-told : map result_row (told_rows entering u.changed m) ≡ map (row_of entered) (gone (skyline d after) (skyline d before))
+      unfolding told_rows
       entered-told =
           let es = places_in 0 p (tells_place entering u.changed m) in
           let fs = places_in p n (tells_place entering u.changed m) in
-          let coming : List (List ℕ) = cond u.listed (move_numbers entered (as_move entrant) ∷ []) [] in
-          ap (map result_row) (parts u.listed)
-          ∙ map-append result_row (rows_at c d entered es m) (coming ++ rows_at c d entered fs m)
+          let coming : List (List ℕ) = coming_rows entered (cond u.listed k.coming None) in
+          map-append result_row (rows_at c d entered es m) (coming ++ rows_at c d entered fs m)
           ∙ ap₂ ◌++◌ (rows_told entered es ∙ ap (λ (js : List ℕ). map (row_of entered) (map (move_in c d m) js)) first-chosen)
           (map-append result_row coming (rows_at c d entered fs m)
-          ∙ ap₂ ◌++◌ (coming-told k.coming v.listed own)
+          ∙ ap₂ ◌++◌ (coming-told k.coming v.listed)
           (rows_told entered fs ∙ ap (λ (js : List ℕ). map (row_of entered) (map (move_in c d m) js)) last-chosen)
           ∙ sym (map-append (row_of entered) (listed_of k.coming) last))
           ∙ sym (map-append (row_of entered) first (listed_of k.coming ++ last))

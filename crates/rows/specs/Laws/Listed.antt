@@ -2,7 +2,7 @@
 use Rattle.std.specs.Prelude.{ℕ, ◌-◌, Bool, ◌≡◌, length}
 use Rattle.std.proofs.Math.Bool.{and-true}
 use mathlib.Core.List.{List, map, map-map}
-use Rattle.std.proofs.Math.Path.{sym, ap}
+use Rattle.std.proofs.Math.Path.{refl, sym, ap}
 use Rattle.std.proofs.Common.{◌∙◌}
 use native.Mathlib.Omega.{arith}
 use Rattle.std.proofs.lemmas.List.{length-map}
@@ -23,9 +23,7 @@ use Rattle.upkeep.specs.Found.{Finds, found_moves}
 use Rattle.upkeep.specs.Laws.Found.{found-places, found_number}
 use Rattle.upkeep.specs.declared.found.Found.{Found}
 use Rattle.rows.specs.Rows.{move_numbers}
-use Rattle.rows.specs.Telling.{TellingAsked, tells_place, rows_at, told_rows, listed_by}
-use Rattle.rows.specs.Laws.Telling.{none-comes}
-use Rattle.search.specs.declared.search.Among.TheVariants.{All}
+use Rattle.rows.specs.Telling.{TellingAsked, tells_place, rows_at, coming_rows, told_rows, listed_by}
 
 row-results : (c d : ℕ) (m is : List ℕ) → map result_row (rows_at c d listed is m) ≡ listed_rows (map (move_in c d m) is)
 unfolding rows_at result_row move_numbers listed_rows row_of
@@ -47,7 +45,8 @@ module _ (h : Head) (test : ℕ → Bool) (m : List ℕ) (r : Found) (f : Finds 
   found-told i e = and-true (in_set r.numbers (number_in c m i)) ∙ e
 
   told-places : told_rows (listed_by h) r.numbers m ≡ rows_at c d listed (places_in 0 n (tells_place (listed_by h) r.numbers m)) m
-  told-places = none-comes h listed All r.numbers m
+  unfolding told_rows coming_rows rows_at places_in select numbers_from
+  told-places = refl
 
   pub found_rows : map result_row (told_rows (listed_by h) r.numbers m) ≡ listed_rows (found_moves c d n test m)
   unfolding places_in

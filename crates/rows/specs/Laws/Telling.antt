@@ -19,8 +19,8 @@ use Rattle.promises.specs.Layout.{move_in}
 use Rattle.dominance.specs.Move.{as_move}
 use Rattle.upkeep.specs.Change.{places_in}
 use Rattle.rows.specs.Rows.{move_numbers}
-use Rattle.rows.specs.Telling.{TellingAsked, tells_place, rows_at, coming_rows, told_rows, coming_place, told_row, positions, place_of, told_at, row_at, told_from, next_row, next_at, position, filled_rows}
-use Rattle.rows.specs.declared.telling.Coming.{Coming}
+use Rattle.rows.specs.Telling.{TellingAsked, tells_place, rows_at, coming_rows, told_rows, told_row, positions, place_of, told_at, row_at, told_from, next_row, next_at, position, filled_rows}
+use Rattle.dominance.specs.declared.Move.{Move}
 use Rattle.rows.specs.declared.telling.View.{View}
 use Rattle.search.specs.declared.search.Among.{Among}
 use Rattle.memory.specs.declared.head.Head.{Head}
@@ -43,42 +43,42 @@ module _ (p i : ℕ) where
       (λ e. let l = ltb-false i p e in omega (arith, place_after l))
 
 -- The coming move's row, if one comes.
-abbrev pub entrant_row : ℕ → Option Coming → Option (List ℕ)
+abbrev pub entrant_row : ℕ → Option Move → Option (List ℕ)
 entrant_row mark None = None
-entrant_row mark (Some x) = Some (move_numbers mark (as_move x.entrant))
+entrant_row mark (Some x) = Some (move_numbers mark (as_move x))
 
-entrant-of : (mark : ℕ) (x : Option Coming) → cond (is_some x) (Some (first_or (replicate (2 + row_costs) 0) (coming_rows mark x))) None ≡ entrant_row mark x
+entrant-of : (mark : ℕ) (x : Option Move) → cond (is_some x) (Some (first_or (replicate (2 + row_costs) 0) (coming_rows mark x))) None ≡ entrant_row mark x
 unfolding coming_rows first_or
 entrant-of mark None = refl
 entrant-of mark (Some x) = refl
 
 module _ (t : View) (numbers m : List ℕ) (i : ℕ) where
   abbrev entrant : List ℕ
-  entrant = first_or (replicate (2 + row_costs) 0) (coming_rows t.mark t.coming)
+  entrant = first_or (replicate (2 + row_costs) 0) (coming_rows t.mark t.coming.entrant)
 
-  pub coming-told : i ≡ coming_place t → told_at t numbers m i ≡ is_some t.coming
+  pub coming-told : i ≡ t.coming.place → told_at t numbers m i ≡ is_some t.coming.entrant
   unfolding told_at
-  coming-told e = ap (λ (b : Bool). cond b (is_some t.coming) (tells_place t numbers m (place_of (coming_place t) i))) (eq-eqb i (coming_place t) e)
+  coming-told e = ap (λ (b : Bool). cond b (is_some t.coming.entrant) (tells_place t numbers m (place_of t.coming.place i))) (eq-eqb i t.coming.place e)
 
-  pub place-told : (i ≡ coming_place t → ⊥) → (k : ℕ) → place_of (coming_place t) i ≡ k → told_at t numbers m i ≡ tells_place t numbers m k
+  pub place-told : (i ≡ t.coming.place → ⊥) → (k : ℕ) → place_of t.coming.place i ≡ k → told_at t numbers m i ≡ tells_place t numbers m k
   unfolding told_at
-  place-told other k at = λ j. cond (ne_eqb i (coming_place t) other j) (is_some t.coming) (tells_place t numbers m (at j))
+  place-told other k at = λ j. cond (ne_eqb i t.coming.place other j) (is_some t.coming.entrant) (tells_place t numbers m (at j))
 
-  coming-row : i ≡ coming_place t → row_at t m i ≡ entrant
+  coming-row : i ≡ t.coming.place → row_at t m i ≡ entrant
   unfolding row_at
   coming-row e =
-      ap (λ (b : Bool). cond b entrant (move_numbers t.mark (move_in t.head.size t.head.dimension m (place_of (coming_place t) i))))
-      (eq-eqb i (coming_place t) e)
+      ap (λ (b : Bool). cond b entrant (move_numbers t.mark (move_in t.head.size t.head.dimension m (place_of t.coming.place i))))
+      (eq-eqb i t.coming.place e)
 
-  pub place-row : (i ≡ coming_place t → ⊥) → (k : ℕ) → place_of (coming_place t) i ≡ k → row_at t m i ≡ move_numbers t.mark (move_in t.head.size t.head.dimension m k)
+  pub place-row : (i ≡ t.coming.place → ⊥) → (k : ℕ) → place_of t.coming.place i ≡ k → row_at t m i ≡ move_numbers t.mark (move_in t.head.size t.head.dimension m k)
   unfolding row_at
   place-row other k at =
-      λ j. cond (ne_eqb i (coming_place t) other j) entrant (move_numbers t.mark (move_in t.head.size t.head.dimension m (at j)))
+      λ j. cond (ne_eqb i t.coming.place other j) entrant (move_numbers t.mark (move_in t.head.size t.head.dimension m (at j)))
 
   -- The coming move is told at its place.
-  pub coming-shown : i ≡ coming_place t → {o : Option (List ℕ)} → o ≡ entrant_row t.mark t.coming → o ≡ told_row t numbers m i
+  pub coming-shown : i ≡ t.coming.place → {o : Option (List ℕ)} → o ≡ entrant_row t.mark t.coming.entrant → o ≡ told_row t numbers m i
   coming-shown e f =
-      f ∙ sym (ap₂ (λ (b : Bool) (x : List ℕ). cond b (Some x) None) (coming-told e) (coming-row e) ∙ entrant-of t.mark t.coming)
+      f ∙ sym (ap₂ (λ (b : Bool) (x : List ℕ). cond b (Some x) None) (coming-told e) (coming-row e) ∙ entrant-of t.mark t.coming.entrant)
 
   -- What is told there.
   pub told_some : {x : List ℕ} → told_at t numbers m i ≡ true → row_at t m i ≡ x → told_row t numbers m i ≡ Some x
@@ -210,20 +210,20 @@ module _ (t : View) (numbers m : List ℕ) where
   part s from to h = shifted (row_at t m) (λ i. move_numbers t.mark (move_in t.head.size t.head.dimension m i)) (told_at t numbers m) (tells_place t numbers m) s from (to - from) h
 
   -- The place i at position j.
-  shown : (j i : ℕ) → (j ≡ coming_place t → ⊥) → place_of (coming_place t) j ≡ i
+  shown : (j i : ℕ) → (j ≡ t.coming.place → ⊥) → place_of t.coming.place j ≡ i
       → (told_at t numbers m j ≡ tells_place t numbers m i) × (row_at t m j ≡ move_numbers t.mark (move_in t.head.size t.head.dimension m i))
   shown j i other at = (place-told t numbers m j other i at, place-row t numbers m j other i at)
 
-  entrant-rows : (x : Option Coming) → cond (is_some x) (first_or (replicate (2 + row_costs) 0) (coming_rows t.mark x) ∷ []) [] ≡ coming_rows t.mark x
+  entrant-rows : (x : Option Move) → cond (is_some x) (first_or (replicate (2 + row_costs) 0) (coming_rows t.mark x) ∷ []) [] ≡ coming_rows t.mark x
   unfolding coming_rows first_or
   entrant-rows None = refl
   entrant-rows (Some x) = refl
 
-  told-all : coming_place t ≤ t.head.count → told ≡ told_rows t numbers m
+  told-all : t.coming.place ≤ t.head.count → told ≡ told_rows t numbers m
   unfolding told_rows told_from
   told-all f =
       let n = t.head.count in
-      let p = coming_place t in
+      let p = t.coming.place in
       let all : positions t - 0 ≡ (p - 0) + (1 + (n - p)) = omega arith in
       let rows : ℕ → ℕ → List (List ℕ) = λ a k. map (row_at t m) (select (told_at t numbers m) (numbers_from a k)) in
       let second : 0 + (p - 0) ≡ p = omega arith in
@@ -235,7 +235,7 @@ module _ (t : View) (numbers m : List ℕ) where
       (ap (λ (a : ℕ). rows a (1 + (n - p))) second
       ∙ run (row_at t m) (told_at t numbers m) p 1 (n - p)
       ∙ ap₂ ◌++◌
-      (one (row_at t m) (told_at t numbers m) p (coming-told t numbers m p refl) (coming-row t numbers m p refl) ∙ entrant-rows t.coming)
+      (one (row_at t m) (told_at t numbers m) p (coming-told t numbers m p refl) (coming-row t numbers m p refl) ∙ entrant-rows t.coming.entrant)
       (ap (λ (a : ℕ). rows a (n - p)) third
       ∙ part 1 p n (λ i l h. let past : p ≤ 1 + i = omega arith in let here : 1 + i - 1 ≡ i = omega arith in
       shown (1 + i) i (λ e. omega arith) (place_after p (1 + i) past ∙ here))))
@@ -276,15 +276,3 @@ module _ (t : View) (numbers m : List ℕ) where
   filled-length rows from zero = refl
   filled-length rows from (suc k) =
       length-set (filled_rows t numbers m from k rows) (from + k) (next_row t numbers m (position t numbers m k)) ∙ filled-length rows from k
-
--- Where none comes, the rows are those of all places.
-pub none-comes : (h : Head) (mark : ℕ) (among : Among) (numbers m : List ℕ) → let t : View = record { head = h; mark = mark; among = among; coming = None } in
-    told_rows t numbers m ≡ rows_at h.size h.dimension mark (places_in 0 h.count (tells_place t numbers m)) m
-unfolding told_rows coming_rows rows_at places_in select numbers_from
-none-comes h mark among numbers m =
-    let n = h.count in
-    let test = tells_place (record { head = h; mark = mark; among = among; coming = None }) numbers m in
-    let rows : ℕ → List (List ℕ) = λ k. map (λ i. move_numbers mark (move_in h.size h.dimension m i)) (select test (numbers_from 0 k)) in
-    let last : ℕ → List (List ℕ) = λ k. map (λ i. move_numbers mark (move_in h.size h.dimension m i)) (select test (numbers_from n k)) in
-    let none : n - n ≡ 0 = omega arith in
-    ap (λ (k : ℕ). rows (n - 0) ++ last k) none ∙ append-nil (rows (n - 0))

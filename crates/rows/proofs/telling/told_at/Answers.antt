@@ -5,21 +5,21 @@ use Rattle.search.specs.Search.{looks, looks_at}
 use Rattle.numbers.specs.Set.{in_set}
 use Rattle.promises.specs.Layout.{number_in}
 use Rattle.rows.specs.Rows.{move_numbers}
-use Rattle.rows.specs.Telling.{coming_place, place_of, tells_place, told_at}
+use Rattle.rows.specs.Telling.{place_of, tells_place, told_at}
 use Rattle.rows.specs.Laws.Telling.{place-below, place-told, place-row, entrant_row, coming-shown, told_some, told_none}
 use Rattle.rows.proofs.telling.told_at.Goals.{After-place_at-p, else-has-via-then-has+else-looks, else-has-via-else-has}
 use Rattle.rows.proofs.telling.told_at.Goals as goal
 
 -- The place read is on the board, and the number there below C.
 module _ (c : After-place_at-p) where
-  is_place : c.place_at-p.result ≡ place_of (coming_place c.args.t) c.args.i
-  is_place = c.place_at-p.ensures ∙ ap (λ (p : ℕ). place_of p c.args.i) c.coming_place-place.ensures
+  is_place : c.place_at-p.result ≡ place_of c.args.t.coming.place c.args.i
+  is_place = c.place_at-p.ensures
 
-  other : c.args.i ≡ coming_place c.args.t → ⊥
-  other e = c.if-i-place.false (e ∙ sym c.coming_place-place.ensures)
+  other : c.args.i ≡ c.args.t.coming.place → ⊥
+  other e = c.if-i-place.false e
 
   placed : c.place_at-p.result < c.args.t.head.count
-  placed = omega (arith, place-below (coming_place c.args.t) c.args.i c.args.t.head.count c.requires.0.place c.requires.1 other, is_place)
+  placed = omega (arith, place-below c.args.t.coming.place c.args.i c.args.t.head.count c.requires.0.place c.requires.1 other, is_place)
 
   module _ {number : ℕ} (is : number ≡ number_in c.args.t.head.size c.args.m.now c.place_at-p.result) where
     small : number < c.args.t.head.size
@@ -36,13 +36,13 @@ module _ (c : After-place_at-p) where
 pub returns-then-i-place : goal.returns-then-i-place
 returns-then-i-place c =
     let a = c.args in
-    coming-shown a.t a.numbers.now a.m.now a.i (c.if-i-place.true ∙ c.coming_place-place.ensures)
+    coming-shown a.t a.numbers.now a.m.now a.i c.if-i-place.true
     (ap Some c.row_of.ensures ∙ sym (ap (entrant_row a.t.mark) c.in_ok-x.was))
 
 pub returns-in_err-x : goal.returns-in_err-x
 returns-in_err-x c =
     let a = c.args in
-    coming-shown a.t a.numbers.now a.m.now a.i (c.if-i-place.true ∙ c.coming_place-place.ensures)
+    coming-shown a.t a.numbers.now a.m.now a.i c.if-i-place.true
     (c.from_residual.ensures ∙ sym (ap (entrant_row a.t.mark) c.in_err-x.was))
 
 pub number_at-number-requires : goal.number_at-number-requires
