@@ -1,0 +1,2 @@
+-- What holds of the exported answers.
+pub mod Exported
