@@ -9,7 +9,7 @@ ghost use Rattle.query.specs.Band.{band_of, few_before};
 use dominance::{bounds_of, exceeds};
 use memory::Board;
 use numbers::empty;
-use search::{Among, Index};
+use search::{Among, Index, next_within};
 use upkeep::{Found, add_found};
 
 // Whether at most `most` of the moves before place i dominate the one at i. What the search finds
@@ -23,7 +23,7 @@ fn few_before(all: &Index, most: usize, i: usize) -> bool
     let costs = b.costs_at(i);
     let q = bounds_of(b.head.dimension, costs);
     let mut found: usize = 0;
-    let mut next = all.next_within(0, i, q);
+    let mut next = next_within(b, 0, i, Among::All, &all.corners, q);
     while let Some(j) = next {
         if exceeds(b.head.dimension, costs, b.costs_at(j)) {
             if found == most {
@@ -31,7 +31,7 @@ fn few_before(all: &Index, most: usize, i: usize) -> bool
             }
             found += 1;
         }
-        next = all.next_within(j + 1, i, q);
+        next = next_within(b, j + 1, i, Among::All, &all.corners, q);
     }
     true
 }

@@ -15,7 +15,7 @@ use crate::rule::{Rule, beats};
 use dominance::bounds_in;
 use memory::Board;
 use numbers::empty;
-use search::{Among, Index};
+use search::{Among, Index, next_within};
 use upkeep::{Found, add_found};
 use zorder::COSTS;
 
@@ -52,7 +52,7 @@ fn candidate(listed: &Index, rule: Rule, j: usize, costs: [u16; COSTS]) -> Optio
         Rule::OnK(_) => next_listed(b, j),
         Rule::Chosen(set) => {
             let q = chosen_bounds(b.head.dimension, set, costs);
-            listed.next_within(j, b.head.count, q)
+            next_within(b, j, b.head.count, Among::Listed, &listed.corners, q)
         }
     }
 }
