@@ -29,7 +29,7 @@ fn lent(word: Option<Word>, bytes: usize, values: &[u64]) -> usize {
 
 // After a load the memory is at least as long as the load's.
 fn answered(rt: &impl Print, r: Reading, memory: &mut [u8], values: &[u64]) -> io::Result<Reading> {
-    let word = Word::of(r.line.word);
+    let word = Word::of(r.line.last_bytes());
     let mut next = r;
     next.line = Line::new();
     if let Some(Word::Passed) = word {

@@ -1,11 +1,11 @@
 // A file's lines, byte by byte.
 
-// The line as far as it was read: the last bytes of its word, which is whole once a blank came, how
-// many of its numbers are whole, how many of them stand before the sign `=`, and whether the last
-// byte was a digit. The numbers go into lent space.
+// The line as far as it was read: the last three bytes of its word as a number, the word being
+// whole once a blank came, how many of its numbers are whole, how many of them stand before the
+// sign `=`, and whether the last byte was a digit. The numbers go into lent space.
 #[derive(Clone, Copy)]
 pub struct Line {
-    pub word: [u8; 3],
+    pub word: u32,
     pub named: bool,
     pub count: usize,
     pub asked: usize,
@@ -28,10 +28,16 @@ pub fn store(values: &mut [u64], l: Line, b: u8) {
 }
 
 impl Line {
+    // Gives the last bytes of its word, zeros before a shorter one.
+    pub fn last_bytes(self) -> [u8; 3] {
+        let [_, a, b, c] = self.word.to_be_bytes();
+        [a, b, c]
+    }
+
     // Starts a line.
     pub fn new() -> Line {
         Line {
-            word: [0; 3],
+            word: 0,
             named: false,
             count: 0,
             asked: 0,
@@ -46,7 +52,7 @@ impl Line {
             if b == b' ' {
                 l.named = true;
             } else {
-                l.word = [self.word[1], self.word[2], b];
+                l.word = self.word % 65536 * 256 + u32::from(b);
             }
             return l;
         }

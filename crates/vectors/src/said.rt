@@ -17,9 +17,8 @@ pub struct Said {
 
 // Begins what is said to a line.
 pub fn begun(l: Line) -> Said {
-    let word = l.word;
     Said {
-        word,
+        word: l.last_bytes(),
         asked: l.asked,
         count: l.count,
         at: l.asked,
