@@ -34,7 +34,7 @@
  *   with another layout has another number, and gets 3.
  *
  * What it takes
- *   stack    at most 12 KB in every call; measured, 10,304 bytes.
+ *   stack    at most 12 KB in every call; measured, 10,256 bytes.
  *   time     every call but dolzhev_load judges the whole memory first, and no call remembers what an earlier one saw. On full
  *            boards of 4,096 moves 2.8 ms at most on the drawn boards that were measured with d up to 4, 6.3 ms, a load, on one
  *            made against the search, and 45 ms, on k with d of 8, on a board of one sum (README.md, docs/BENCHMARK.md).

@@ -130,16 +130,7 @@ pub fn run_end(i: usize, to: usize) -> usize
 pub fn corners_of(b: &Board, among: Among) -> [[u16; COSTS]; RUNS]
     ensures { spec.Corners among b.now.head.size b.now.bytes.now b.now.head.count result }
 {
-    let n = b.head.count;
-    let mut corners = [[65535u16; COSTS]; RUNS];
-    let mut i = 0;
-    while i < n {
-        let e = run_end(i, n);
-        let low = corners[i / RUN];
-        corners[i / RUN] = run_corner(b, i, e, among, low);
-        i = e;
-    }
-    corners
+    Index::new(b, among).corners
 }
 
 // Says whether the search looks at the move at place i, and that is nowhere greater than q. Most
@@ -204,15 +195,25 @@ pub struct Index<'a> {
 }
 
 impl<'a> Index<'a> {
-    // Makes the corner of each run.
+    // Makes the corner of each run, 65535 in every cost where none of its moves is looked at. The
+    // corners are made here: handed back by a function they would stand on the stack twice.
     pub fn new(b: &Board<'a>, among: Among) -> Self
         ensures board { result.board ≡ b.now }
         ensures among { result.among ≡ among }
     {
+        let n = b.head.count;
+        let mut corners = [[65535u16; COSTS]; RUNS];
+        let mut i = 0;
+        while i < n {
+            let e = run_end(i, n);
+            let low = corners[i / RUN];
+            corners[i / RUN] = run_corner(b, i, e, among, low);
+            i = e;
+        }
         Index {
             board: *b,
             among,
-            corners: corners_of(b, among),
+            corners,
         }
     }
 
