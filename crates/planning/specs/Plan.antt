@@ -1,5 +1,5 @@
 -- What a plan of a change says, and what carrying it out asks and leaves.
-use Rattle.std.specs.Prelude.{ℕ, ◌+◌, ◌-◌, ◌<◌, ◌≤◌, Bool, true, false, cond, ◌&&◌, Option, None, Some, ◌≡◌, List, ◌++◌, ltb, length}
+use Rattle.std.specs.Prelude.{ℕ, ◌+◌, ◌-◌, ◌<◌, ◌≤◌, Bool, true, false, cond, ◌&&◌, Option, None, ◌≡◌, List, ◌++◌, ltb, length}
 use Rattle.std.specs.Option.{ForSome, ForNone, option_map_or}
 use Rattle.model.specs.Basics.{equal}
 use Rattle.model.specs.Moves.{Row, left, entered}

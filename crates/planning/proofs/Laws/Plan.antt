@@ -1,14 +1,13 @@
 -- The plan of a change, for each of its answers.
-use Rattle.std.specs.Prelude.{ℕ, zero, suc, ◌+◌, ◌-◌, ◌≤◌, ◌<◌, Bool, false, cond, List, [], ◌≡◌, Option, Some, None, ltb, unwrap_or}
-use Rattle.std.proofs.Math.Bool.{true, not, ◌&&◌}
+use Rattle.std.specs.Prelude.{ℕ, zero, suc, ◌+◌, ◌-◌, ◌≤◌, ◌<◌, Bool, false, cond, List, [], ◌≡◌, Option, Some, ltb}
+use Rattle.std.proofs.Math.Bool.{true, ◌&&◌}
 use Rattle.std.proofs.Math.Path.{refl, sym, ap}
 use Rattle.std.proofs.Common.{ap₂, ◌∙◌, subst}
 use native.Mathlib.Omega.{arith}
 use borrow.Author.Tests.{ltb-true, lt-ltb, le-ltb}
 use Rattle.std.proofs.Math.ListN.{length}
-use Rattle.std.specs.Option.{ForSome, is_some, option_map_or, option_and_then}
+use Rattle.std.specs.Option.{ForSome, is_some, option_map_or}
 use Rattle.model.specs.Basics.{equal}
-use Rattle.model.specs.Lists.{hidden}
 use Rattle.model.specs.Calls as calls
 use Rattle.model.specs.Calls.{accepted, refused_with, rows_answer, change_refusal, change_notice, keeps_moves, on_board}
 use Rattle.model.specs.Withdrawing.{costs_on, unchanged}
@@ -16,7 +15,7 @@ use Rattle.model.specs.Tree.{Tree}
 use Rattle.model.specs.Opening.{withdraw_opens, change_opens}
 use Rattle.model.proofs.Laws.Bool.{both_ways, and_left, and_right}
 use Rattle.model.proofs.Laws.Basics.{equal-refl}
-use Rattle.promises.specs.Layout.{size_in, dimension_in, number_in, costs_in, line_from, board_in}
+use Rattle.promises.specs.Layout.{size_in, dimension_in, number_in, costs_in, board_in}
 use Rattle.promises.specs.Sound.{Stands, Sound}
 use Rattle.promises.specs.Answers.{Verdict, answer_of, number_of, counted, refused_by, accepted_verdict, reason_number}
 use Rattle.promises.specs.Run.{Bytes}
@@ -28,9 +27,7 @@ use Rattle.memory.specs.Held.{SoundRows}
 use Rattle.memory.specs.Laws.Held.{held-room, held-readable}
 use Rattle.memory.specs.declared.head.Head.{Head}
 use Rattle.tree.specs.Withdraw.{PlaceOf}
-use Rattle.line.specs.Line.{moves_in}
-use Rattle.dominance.specs.Move.{as_move}
-use Rattle.upkeep.specs.Change.{UpkeptRows, PlaceRows, moves_after}
+use Rattle.upkeep.specs.Change.{UpkeptRows, PlaceRows}
 use Rattle.upkeep.specs.declared.exchange.Upkeep.{Upkeep}
 use Rattle.rows.specs.Planned.{Foreseen, Tells}
 use Rattle.rows.proofs.Planned.{foreseen-unsound, foreseen-refused, foreseen-judged, few-refuses, counted-all, counted_none}
@@ -57,7 +54,6 @@ nothing-told : {v : Verdict} {m : List ℕ} {t : Telling} → t.count ≡ 0 → 
 nothing-told e =
     record { rows = λ l. absurd (omega (arith, e)); count = λ _. e; none = λ _. e; asked = λ l. absurd (omega (arith, e)) }
 
--- The coming move stands before the last place or after it, be it listed or not.
 -- The rows of two parts are no more than all.
 counted-parts : (k a n lent : ℕ) → a ≤ n → counted k n ≤ lent → counted k a + counted k (n - a) ≤ lent
 unfolding counted
@@ -119,7 +115,6 @@ plan-refused {m = m} s {r = r} judged {lent} k =
     keeps-planned k (foreseen-refused _ _ _ m lent _ _ s.sound (refused_by r 0) (ap refused_with judged) h)
     (λ z. absurd (omega arith)) (λ z. absurd (omega arith)) (λ z. absurd (omega arith)) (λ z. absurd (omega arith))
 
--- The coming move is told if it is listed: whoever else stands where none comes.
 module _ {c d n g : ℕ} {m : List ℕ} (s : SoundRows c d n m) (b : Bytes m) where
   -- Only a re-cost has a move come for one that goes: here one with equal costs.
   idle-by : (x : Change) → CostsOf x → PlaceOf c n (asked_number x) m g → change_refusal (board_in m) (call_of x) ≡ 0 → alike c d n (exchange_of x g) m ≡ true

@@ -3,7 +3,7 @@ use Rattle.zorder.specs.Address.{row_costs}
 use Prim.Native.Nat.{ℕ, zero, suc, ◌+◌, ◌-◌, ◌≤◌, ◌<◌}
 use Rattle.std.specs.Prelude.{Bool, true, false, Option, None, Some, ◌≡◌, ltb, get_or, replicate}
 use Rattle.std.proofs.Math.Bool.{cond}
-use mathlib.Core.List.{List, [], ◌∷◌, ◌++◌, map, map-append, append-nil}
+use mathlib.Core.List.{List, [], ◌∷◌, ◌++◌, map, map-append}
 use Rattle.std.proofs.Math.Path.{refl, ap, ap₂, subst}
 use Rattle.std.proofs.Common.{sym, ◌∙◌, add-suc, add-one, ltb-true, ltb-false, lt-ltb, le-ltb, eq-eqb, ne_eqb}
 use Rattle.std.proofs.Math.Nat.{zero-add}
@@ -22,8 +22,6 @@ use Rattle.rows.specs.Rows.{move_numbers}
 use Rattle.rows.specs.Telling.{TellingAsked, tells_place, rows_at, coming_rows, told_rows, told_row, positions, place_of, told_at, row_at, told_from, next_row, next_at, position, filled_rows}
 use Rattle.dominance.specs.declared.Move.{Move}
 use Rattle.rows.specs.declared.telling.View.{View}
-use Rattle.search.specs.declared.search.Among.{Among}
-use Rattle.memory.specs.declared.head.Head.{Head}
 
 -- ---- what stands at a position
 
