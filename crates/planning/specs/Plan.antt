@@ -93,10 +93,10 @@ left_of p =
       count = counted (number_of p.verdict) p.upkeep.left;
     }
 
--- Of a plan that changes no move the place is 0.
 abbrev pub coming_if : Bool → ℕ → Option Move → Coming
 coming_if told place x = record { place = place; entrant = cond told x None }
 
+-- Of a plan that changes no move the place is 0.
 abbrev pub coming_in : ChangePlan → Coming
 coming_in p = coming_if p.upkeep.listed (option_map_or (λ x. x.comes) p.places 0) (coming_of p.change)
 

@@ -19,6 +19,7 @@ use Rattle.promises.specs.Layout.{number_in, costs_in, tab}
 use Rattle.promises.proofs.Laws.Tab.{length-tab, get_or-tab, tab-of}
 use Rattle.memory.specs.Laws.Costs.{row-length}
 use Rattle.search.specs.Search.{looks_at, seen, seen_at, bounds_at, fits, None, First, Some, FirstFound, SomeFound, Below, Under, Corners, CornerWith}
+use Rattle.search.specs.declared.search.Index.{Index}
 use Rattle.search.specs.declared.search.Among.{Among}
 use Rattle.search.specs.declared.search.Among.TheVariants.{All, Listed, Hidden, InBlocks}
 
@@ -224,3 +225,8 @@ run-passed a c m q n f e corners h wide end room over k l g =
 -- What a search among moves of a kind finds, by the kind's other name.
 pub first-among : {a a' : Among} (c : ℕ) (m q : List ℕ) {i n : ℕ} {r : Option ℕ} → a ≡ a' → FirstFound (fits a c m q) i n r → FirstFound (fits a' c m q) i n r
 first-among c m q {i} {n} {r} e f = subst (λ (b : Among). FirstFound (fits b c m q) i n r) e f
+
+-- The corners of an index are those of its kind's other name, up to any place.
+pub index-corners : {a : Among} (x : Index) {i : ℕ} → x.among ≡ a → i ≤ x.board.head.count → Corners a x.board.head.size x.board.bytes.now i x.corners
+index-corners x e few =
+    corners-fewer few (subst (λ (k : Among). Corners k x.board.head.size x.board.bytes.now x.board.head.count x.corners) e x.indexed)

@@ -1,4 +1,4 @@
-use Prim.Native.Nat.{ℕ, ◌≤◌}
+use Prim.Native.Nat.{ℕ}
 use mathlib.Core.Bool.{Bool, true, false}
 use mathlib.Core.List.{List}
 use mathlib.Core.Path.{◌≡◌, sym, ap₂, ◌∙◌, subst}
@@ -8,13 +8,11 @@ use Rattle.model.specs.Dominance.{somewhere_less}
 use Rattle.dominance.specs.Lanes.{Lanes, bound, is_first}
 use Rattle.promises.specs.Layout.{move_in}
 use Rattle.promises.specs.Run.{Bytes}
-use Rattle.search.specs.Search.{fits, Corners}
-use Rattle.search.specs.declared.search.Among.{Among}
-use Rattle.search.specs.declared.search.Index.{Index}
+use Rattle.search.specs.Search.{fits}
 use Rattle.search.specs.Laws.Counts.{CountedTo}
 use Rattle.search.specs.declared.search.Among.TheVariants.{All}
 use Rattle.query.specs.Band.{dominates_place}
-use Rattle.search.specs.Laws.Search.{corners-fewer, found-at, found-below}
+use Rattle.search.specs.Laws.Search.{index-corners, found-at, found-below}
 use Rattle.query.specs.Laws.Band.{dominators-first, dominators-next, dominators-over}
 use Rattle.query.proofs.band.few_before.Goals.{else-exceeds, then-exceeds+else-found-most}
 use Rattle.query.proofs.band.few_before.Goals as goal
@@ -27,16 +25,12 @@ bounds c d i m costs q e l = subst (λ (x : List ℕ). Lanes (bound (is_first d)
 lower : (d : ℕ) {p p' q q' : List ℕ} {r : Bool} → p ≡ p' → q ≡ q' → r ≡ somewhere_less (take d p) (take d q) → somewhere_less (take d p') (take d q') ≡ r
 lower d e f g = ap₂ (λ (x y : List ℕ). somewhere_less (take d x) (take d y)) (sym e) (sym f) ∙ sym g
 
--- The corners of an index of all moves, up to a place.
-corners : (x : Index) {i : ℕ} → x.among ≡ All → i ≤ x.board.head.count → Corners All x.board.head.size x.board.bytes.now i x.corners
-corners x e few = corners-fewer few (subst (λ (k : Among). Corners k x.board.head.size x.board.bytes.now x.board.head.count x.corners) e x.indexed)
-
 pub next_within-next-requires : goal.next_within-next-requires
-next_within-next-requires c = record { places = (omega arith, omega arith); corners = corners c.args.all.now c.requires.all (omega arith) }
+next_within-next-requires c = record { places = (omega arith, omega arith); corners = index-corners c.args.all.now c.requires.all (omega arith) }
 
 pub next_within-next-requires-in-Some : goal.next_within-next-requires-in-Some
 next_within-next-requires-in-Some c =
-    record { places = (omega (arith, found-below c.args.i c.in-Some.is c.loop-next.invariant.2), omega arith); corners = corners c.args.all.now c.requires.all (omega arith) }
+    record { places = (omega (arith, found-below c.args.i c.in-Some.is c.loop-next.invariant.2), omega arith); corners = index-corners c.args.all.now c.requires.all (omega arith) }
 
 pub loop-next-init : goal.loop-next-init
 unfolding Bytes

@@ -1,22 +1,15 @@
 -- `unbeaten::candidate` meets its contract, rule by rule. Assumes nothing.
-use mathlib.Core.Path.{◌≡◌, sym, subst}
+use mathlib.Core.Path.{sym, subst}
 use native.Mathlib.Omega.{arith}
 use Rattle.promises.specs.Run.{Bytes}
 use Rattle.query.specs.Unbeaten.{NextFound}
 use Rattle.query.specs.Laws.Unbeaten.{passed-beat-not}
 use Rattle.query.specs.declared.rule.Rule.{Rule}
-use Rattle.search.specs.Search.{Corners}
-use Rattle.search.specs.declared.search.Among.{Among}
-use Rattle.search.specs.declared.search.Among.TheVariants.{Listed}
-use Rattle.search.specs.declared.search.Index.{Index}
+use Rattle.search.specs.Laws.Search.{index-corners}
 use Rattle.query.proofs.unbeaten.candidate.Goals as goal
 
--- The corners of an index of the listed moves.
-corners : (x : Index) → x.among ≡ Listed → Corners Listed x.board.head.size x.board.bytes.now x.board.head.count x.corners
-corners x e = subst (λ (k : Among). Corners k x.board.head.size x.board.bytes.now x.board.head.count x.corners) e x.indexed
-
 pub next_within-requires : goal.next_within-requires
-next_within-requires c = record { places = (c.requires.place, omega arith); corners = corners c.args.listed.now c.requires.listed }
+next_within-requires c = record { places = (c.requires.place, omega arith); corners = index-corners c.args.listed.now c.requires.listed (omega arith) }
 
 pub returns-in-Chosen : goal.returns-in-Chosen
 unfolding Bytes
